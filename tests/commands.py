@@ -177,6 +177,24 @@ READABLE = [
     "audit",
 ]
 
+# audits that are handed out while packets are in flight
+ROTATIONS = [
+    *PRELUDE,
+    "write alice 0000000200000000 0000000001000000",
+    f"submit 1 1 {KERNEL}",
+    "serve 1",
+    f"submit 1 2 {FILL}",
+    "serve 1",
+    "run 1 0",
+    "rotate",
+    "run 1 0",
+    "finish 1 0",
+    "rotate",
+    "run 1 1",
+    "list alice",
+    "audit",
+]
+
 # policies that take one another's place while packets are in flight
 RELOADS = [
     *PRELUDE,
@@ -291,6 +309,7 @@ def rows(room):
         Row("a script of kernels", ["run", SAMPLE, *few], KERNELS, "script", shares_front=True),
         Row("a script of groups", ["run", file("reverse.toml"), *few], GROUPS, "script"),
         Row("a strict run", ["run", SAMPLE, "--strict", *few], DONE, "strict"),
+        Row("a script of rotations", ["run", SAMPLE, *few], ROTATIONS, "script", is_new=True),
         Row("a script of reloads", ["run", SAMPLE, file("first.toml"), file("second.toml"), *few], RELOADS, "script", is_new=True),
         Row("picture", ["picture", SAMPLE], DONE, "picture", is_new=True),
         Row("threads", ["threads", SAMPLE, "--producers", "2"], form="threads", is_new=True),

@@ -173,14 +173,20 @@ def access_script():
 
 
 LOOP = "module &m:1:0:$base:$large:$default;\nprog kernel &line(kernarg_u64 %a, kernarg_u64 %b, kernarg_u64 %c, kernarg_u64 %d)\n{\n@a:\n  br @a;\n};"
+NARROW = "module &m:1:0:$base:$large:$default;\nprog kernel &line()\n{\n  ld_global_u16 $s0, [0x100000000];\n};"
 MEET = "module &m:1:0:$base:$large:$default;\nprog kernel &line(kernarg_u64 %a, kernarg_u64 %b, kernarg_u64 %c, kernarg_u64 %d)\n{\n  workitemid_u32 $s0, 0;\n  cmp_eq_b1_u32 $c0, $s0, 0;\n  cbr_b1 $c0, @e;\n  barrier;\n@e:\n  ret;\n};"
 FAULTS = [
-    ("A1", "ld_global_u8 $s0, [$d3];", None, ["breaks A1 in line 8 of kernel line, `&line` of its text:", "ld_global_u8 $s0, [$d3];", "a load of 1 byte, which wants READ: its address lies in no region", "in region other", "alice had no right on it at the launch", "grant alice region other READ"]),
-    ("A2", "st_global_u8 1, [$d1];", None, ["breaks A2 in line 8", "^^^^^", "a store of 1 byte, which wants WRITE", "in region input", "alice had only READ on it at the launch", "grant alice region input WRITE"]),
-    ("A3", "ld_global_u32 $s0, [$d0+61];", None, ["breaks A3", "a load of 4 bytes", "ends behind it", "region buf (0000000100000000 to 000000010000003f)"]),
-    ("A4", "atomic_add_global_rlx_wg_u64 $d4, [$d0+52], 1;", None, ["breaks A4", "an atomic operation on 8 bytes", "no multiple of its size"]),
+    ("A1", "ld_global_u8 $s0, [$d3];", None, ["breaks A1 in line 8 of kernel line, `&line` of its text:", "ld_global_u8 $s0, [$d3];", "a load of 1 byte from 0000000500000000, which wants READ: the packet holds no right on region other (0000000500000000 to 0000000500000007)\n", "in region other", "alice had no right on it at the launch", "grant alice region other READ"]),
+    ("A1 nowhere", "ld_global_u64 $d4, [0x900000008];", None, ["breaks A1", "a load of 8 bytes from 0000000900000008, which wants READ: no region of the policy lies there\n"]),
+    ("A1 behind a region", "ld_global_u8 $s0, [$d0+64];", None, ["breaks A1", "a load of 1 byte from 0000000100000040, which wants READ: no region of the policy lies there\n"]),
+    ("A2", "st_global_u8 1, [$d1];", None, ["breaks A2 in line 8", "^^^^^", "a store of 1 byte to 0000000300000000, which wants WRITE: the packet holds no WRITE on region input (0000000300000000 to 0000000300000007)\n", "in region input", "alice had only READ on it at the launch", "grant alice region input WRITE"]),
+    ("A3", "ld_global_u32 $s0, [$d0+61];", None, ["breaks A3", "a load of 4 bytes from 000000010000003d, which wants READ: it begins in region buf (0000000100000000 to 000000010000003f), and ends behind it\n"]),
+    ("A4", "atomic_add_global_rlx_wg_u64 $d4, [$d0+52], 1;", None, ["breaks A4", "an atomic operation on 8 bytes at 0000000100000034, which wants READ and WRITE: its address, in region buf (0000000100000000 to 000000010000003f), is no multiple of its size\n"]),
+    ("A2 of the argument block", "st_global_u32 1, [0x200000004];", None, ["breaks A2", "a store of 4 bytes to 0000000200000004, which wants WRITE: the packet holds no WRITE on region args (0000000200000000 to 000000020000001f)\n", "no argument of 64 bits points into region args (0000000200000000 to 000000020000001f): a packet holds rights on regions into which one does, and READ where its argument block lies\n"]),
+    ("A2 atomic", "atomicnoret_add_global_rlx_wg_u64 [$d2], 1;", None, ["breaks A2", "an atomic operation on 8 bytes at 0000000400000000, which wants READ and WRITE: the packet holds no READ on region output (0000000400000000 to 0000000400000007)\n", "grant alice region output READ"]),
+    ("A1 without wide arguments", "", NARROW, ["breaks A1 in line 4", "a load of 2 bytes from 0000000100000000, which wants READ: the packet holds no right on region buf (0000000100000000 to 000000010000003f)\n", "the kernel has no argument of 64 bits"]),
     ("A5", "", LOOP, ["breaks A5 in line 5", "65536"]),
-    ("A7", "ld_group_u32 $s0, [0];", None, ["breaks A7", "4 bytes of group memory", "which has 0 bytes"]),
+    ("A7", "ld_group_u32 $s0, [0];", None, ["breaks A7", "4 bytes of group memory at byte 0: it ends behind the group segment, which has 0 bytes"]),
 ]
 
 
@@ -276,6 +282,17 @@ def faults(trials, explained, room):
         told, wrong = explained.both("run", path, two)
         return wrong or explained.has(told, words)
 
+    path_of_group = f"{room}/group.toml"
+    with open(path_of_group, "w") as policy:
+        policy.write(access_policy("atomicnoret_add_group_rlx_wg_u32 [2], 1;"))
+    sizes = "010000000100000001000000"
+    of_eight_bytes = [line.replace(sizes + ZEROS, sizes + "0000000008000000") for line in access_script()]
+
+    def in_group(words):
+        told, wrong = explained.both("run", path_of_group, of_eight_bytes)
+        return wrong or explained.has(told, words)
+
+    trials.every("an address of group memory is told", in_group, [["breaks A4 in line 8", "an access to 4 bytes of group memory at byte 2: its address is no multiple of its size\n"]])
     trials.every("items that don't meet are told", meet, [["breaks A6", "barrier;", "never meet"]])
 
     def mends(name):

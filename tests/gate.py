@@ -12,7 +12,7 @@ import sys
 from trial import HERE, TOP
 
 CASES = f"{TOP}/crates/cases/data"
-TRIALS = ("words.py", "memory.py", "streams.py", "texts.py", "explain.py", "picture.py", "docs.py")
+TRIALS = ("words.py", "memory.py", "streams.py", "texts.py", "explain.py", "picture.py", "rotation.py", "docs.py")
 
 
 def told(words):

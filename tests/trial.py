@@ -21,6 +21,9 @@ PRELUDE = [
     "queue alice gpu 2 2",
 ]
 
+# the lines whose reply counts the lines that follow it, and the word that it begins with
+COUNTED = {"list": "list", "errors": "errors", "audit": "audit", "rotate": "rotated"}
+
 
 class Ended:
     """How a run ended."""
@@ -83,7 +86,7 @@ class Trials:
 
 
 def blocks(script, out):
-    """The replies to a script's lines, one a line: what follows `list N`, `errors N` and `audit N` belongs to it."""
+    """The replies to a script's lines, one a line: what follows `list N`, `errors N`, `audit N` and `rotated N` belongs to it."""
     lines = out.decode(errors="replace").split("\n")
     if lines.pop() != "":
         return None
@@ -91,7 +94,7 @@ def blocks(script, out):
     while at < len(lines):
         words = lines[at].split(" ")
         asked = script[len(found)].split(" ")[0] if len(found) < len(script) else ""
-        count = int(words[1]) if asked in ("list", "errors", "audit") and words[0] == asked else 0
+        count = int(words[1]) if COUNTED.get(asked) == words[0] else 0
         found.append("\n".join(lines[at : at + 1 + count]))
         at += 1 + count
     return found

@@ -39,11 +39,11 @@ pub record QueuesAfter (a : Inside) (new : List Queue) (count : ℕ) (event : Ev
   pub sound : All IsSound new
   pub few_queues : length new ≤ QUEUES
   pub flying : count ≡ length (flight (start_of a) (with_entry a.audit.items event outcome effects))
-  pub within : (f : InFlight) → launched_by event outcome ≡ Some f → lies_in_regions (region_lengths a.policy) f.packet ≡ true
+  pub within : (f : InFlight) → launched_by event outcome ≡ Some f → lies_in_regions (region_lengths a.start.policy) f.packet ≡ true
 
 -- The audit has one entry more, and the other fields follow.
 pub record FieldsAfter (a b : Inside) (event : Event) (outcome : Outcome) (effects : List Effect) : Type 0 where
-  pub same : ((b.policy ≡ a.policy) × (b.kernels ≡ a.kernels) × (b.segments ≡ a.segments)) × (b.capacity ≡ a.capacity)
+  pub same : ((b.start ≡ a.start) × (b.kernels ≡ a.kernels) × (b.segments ≡ a.segments)) × (b.capacity ≡ a.capacity)
   pub audit : IsEntered a.audit b.audit (entry_of event outcome effects)
   pub grants : GrantsAfter a b.grants b.blocks.items event outcome effects
   pub memory : MemoryAfter a.memory b.memory effects
@@ -77,9 +77,9 @@ module _ (a b : Inside) (event : Event) (outcome : Outcome) (effects : List Effe
   rules-after : ledger.rules_in b.grants ≡ rules_of (policy_at (start_of b) b.audit.items)
   rules-after = rw (after.same.0.0, after.same.0.1, after.audit.items)
       (after.grants.rules ∙ ap (λ (r : Rules). record r { rows = rows_after r.rows event }) was.rules
-      ∙ ap (λ (rows : PolicyRows). record (rules_of a.policy) { rows = rows }) (sym (rows_at-more (start_of a) a.audit.items (entry_of event outcome effects))))
+      ∙ ap (λ (rows : PolicyRows). record (rules_of a.start.policy) { rows = rows }) (sym (rows_at-more (start_of a) a.audit.items (entry_of event outcome effects))))
 
-  memory-after : (x : ℕ) → lies_in_region (region_lengths b.policy) x ≡ true → byte_at b.memory x ≡ Some (memory_at (start_of b) b.audit.items x)
+  memory-after : (x : ℕ) → lies_in_region (region_lengths b.start.policy) x ≡ true → byte_at b.memory x ≡ Some (memory_at (start_of b) b.audit.items x)
   memory-after x lies = grind (arith, memory_at-more)
 
   pub IsCached-more : (old : History) → history_of a ≡ old → due old event ≡ enters outcome effects → IsCached b
@@ -102,11 +102,12 @@ module _ (a b : Inside) (event : Event) (outcome : Outcome) (effects : List Effe
         few_queues = after.queues.few_queues;
         flying = rw (after.same.0.0, after.same.0.1, after.audit.items) after.queues.flying;
         within = rw (after.same.0.0, after.same.0.1, after.audit.items, flight-more)
-            (all-after (λ f. lies_in_regions (region_lengths a.policy) f.packet ≡ true) (entry_of event outcome effects)
+            (all-after (λ f. lies_in_regions (region_lengths a.start.policy) f.packet ≡ true) (entry_of event outcome effects)
             (flight (start_of a) a.audit.items) after.queues.within was.within);
         room = omega (arith, longer, room, after.queues.flying, after.same.1);
         places = omega (arith, longer, after.audit.room, after.same.1, was.places);
         few = omega (arith, after.same.1, was.few);
+        before = rw after.same.0.0 was.before;
         legal = rw (after.same.0.0, after.same.0.1, after.audit.items)
             (IsLegal-more (start_of a) a.audit.items (entry_of event outcome effects) was.legal (owed-inside a was old seen_as event outcome effects is_due));
       }

@@ -29,5 +29,6 @@ pub mod ReloadLemmas
 pub mod Least
 pub mod Opened
 pub mod Rotated
+mod Rotating
 pub mod Serving
 pub mod PolicyRows

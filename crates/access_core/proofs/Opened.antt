@@ -1,6 +1,6 @@
 -- What is kept of a core in which nothing has happened.
 use Rattle.access_core.proofs.Terms.{All-nil, AreBlocksOf, Declared, Entry, Inside, IsCached, IsLegal, IsNew, IsSound, Kernel, MOST_ENTRIES, Queue, Start, block_of, byte_at, byte_at-zeros, cached_opening}
-use Rattle.access_core.proofs.Terms.{cached_view, first_missing, has_entry, initial_values, lies_in_regions, queue_at, start_of}
+use Rattle.access_core.proofs.Terms.{cached_view, first_missing, has_entry, initial_values, lies_in_region, lies_in_regions, queue_at, start_of}
 use Rattle.access_core.proofs.Terms.{is_capacity}
 use Rattle.access_core.proofs.Terms.{lengths_of-zeros, numbered, open_fault, program_of, region_lengths, rules_in, rules_of, segments_of, zeros}
 use Rattle.std.proofs.Common.{List, Some, ◌∷◌, ap, length, subst, sym}
@@ -12,7 +12,8 @@ use Rattle.core_model.specs.Memory.{memory_at, signals}
 use Rattle.core_model.specs.Queues.{openings, next_id, errors, is_stopped}
 use Rattle.core_model.specs.Flight.{flight}
 use Rattle.core_model.specs.Holds.{arguments, held}
-use Rattle.core_model.specs.History.{opening_origin, opening_state}
+use Rattle.core_model.specs.History.{IsOpeningOrigin, opening_state}
+use Rattle.core_model.specs.declared.origin.Origin.{Origin}
 use Rattle.core_model.specs.Legal.{IsOpening}
 use Rattle.core_model.proofs.States.{begin-opening, whole-legal}
 use Rattle.grants.specs.Ledger as ledger
@@ -27,13 +28,14 @@ legal-opened : (policy : Declared) (kernels : List Program) → IsLegal (opening
 legal-opened policy kernels = whole-legal (opening_state policy kernels) [] (record { opens = refl; legal = tt })
 
 -- what is kept where nothing has happened is what the empty audit says
-pub IsCached-opened : (a : Inside) → IsNew a.grants → rules_in a.grants ≡ rules_of a.policy → a.memory ≡ zeros (region_lengths a.policy) → a.signals ≡ initial_values a.policy
-    → a.blocks.items ≡ [] → a.queues.items ≡ [] → a.flying ≡ 0 → a.audit.items ≡ [] → a.audit.room ≡ a.capacity → a.capacity ≤ MOST_ENTRIES
+pub IsCached-opened : (a : Inside) (policy : Declared) → IsOpeningOrigin policy a.start → IsNew a.grants → rules_in a.grants ≡ rules_of policy → a.memory ≡ zeros (region_lengths policy)
+    → a.signals ≡ initial_values policy → a.blocks.items ≡ [] → a.queues.items ≡ [] → a.flying ≡ 0 → a.audit.items ≡ [] → a.audit.room ≡ a.capacity → a.capacity ≤ MOST_ENTRIES
     → All (λ kernel. has_entry kernel ≡ true) a.kernels.items → a.segments.items ≡ map segments_of (map program_of a.kernels.items) → IsCached a
 unfolding rows_at in_force memory_at effects_of signals openings next_id errors is_stopped flight held arguments
-IsCached-opened a fresh ruled memory values blocks queues flying entries places few kernels segments =
-    let opens : start_of a ≡ opening_state a.policy (map program_of a.kernels.items) = begin-opening a.policy (map program_of a.kernels.items) in
-    let empty : (x : Start → List Entry → Type 0) → x (opening_state a.policy (map program_of a.kernels.items)) [] → x (start_of a) a.audit.items =
+IsCached-opened a policy opened fresh ruled memory values blocks queues flying entries places few kernels segments =
+    let opens : start_of a ≡ opening_state policy (map program_of a.kernels.items) = begin-opening policy (map program_of a.kernels.items) a.start opened in
+    let lengths : region_lengths a.start.policy ≡ region_lengths policy = ap region_lengths opened.policy_is in
+    let empty : (x : Start → List Entry → Type 0) → x (opening_state policy (map program_of a.kernels.items)) [] → x (start_of a) a.audit.items =
     λ x has. subst (x (start_of a)) (sym entries) (subst (λ (now : Start). x now []) (sym opens) has) in
     record {
       granted = λ client on right. empty (λ now es. ledger.in_force a.grants client on right ≡ in_force now es client on right) (fresh.none_in_force client on right);
@@ -43,25 +45,26 @@ IsCached-opened a fresh ruled memory values blocks queues flying entries places 
       arguments = λ queue id. empty (λ now es. block_of a.blocks.items queue id ≡ arguments now es queue id) (rw blocks refl);
       entries = kernels;
       segments = segments;
-      lengths = rw memory (lengths_of-zeros (region_lengths a.policy));
-      memory = λ x lies. empty (λ now es. byte_at a.memory x ≡ Some (memory_at now es x)) (rw memory (byte_at-zeros (region_lengths a.policy) x lies));
+      lengths = rw (memory, lengths) (lengths_of-zeros (region_lengths policy));
+      memory = λ x lies. empty (λ now es. byte_at a.memory x ≡ Some (memory_at now es x)) (rw memory (byte_at-zeros (region_lengths policy) x (ap (λ ls. lies_in_region ls x) (sym lengths) ∙ lies)));
       values = empty (λ now es. a.signals ≡ signals now es) values;
       openings = empty (λ now es. map cached_opening a.queues.items ≡ openings now es) (rw queues refl);
       queues = λ queue. empty (λ now es. cached_view (numbered a.queues.items queue.0) ≡ queue_at now es queue) (rw (queues, numbered-none queue.0) refl);
       sound = rw queues (All-nil IsSound);
       few_queues = rw queues (omega arith);
       flying = empty (λ now es. a.flying ≡ length (flight now es)) flying;
-      within = empty (λ now es. All (λ f. lies_in_regions (region_lengths a.policy) f.packet ≡ true) (flight now es)) (All-nil _);
+      within = empty (λ now es. All (λ f. lies_in_regions (region_lengths a.start.policy) f.packet ≡ true) (flight now es)) (All-nil _);
       room = rw entries (omega (arith, flying));
       places = let none : length a.audit.items ≡ 0 = ap length entries in omega (arith, none, places);
       few = few;
-      legal = empty IsLegal (legal-opened a.policy (map program_of a.kernels.items));
+      before = let none = opened.before in omega (arith, none);
+      legal = empty IsLegal (legal-opened policy (map program_of a.kernels.items));
     }
 
 -- the history of a core that was just opened
-pub IsOpening-empty : (policy : Declared) (kernels : List Program) (capacity : ℕ) (entries : List Entry) → entries ≡ []
-    → IsOpening (record { origin = opening_origin policy; kernels = kernels; capacity = capacity; entries = entries }) policy kernels capacity
-IsOpening-empty policy kernels capacity entries none = record { start_is = begin-opening policy kernels; kernels_are = refl; capacity_is = refl; entries_are = none }
+pub IsOpening-empty : (policy : Declared) (origin : Origin) → IsOpeningOrigin policy origin → (kernels : List Program) (capacity : ℕ) (entries : List Entry) → entries ≡ []
+    → IsOpening (record { origin = origin; kernels = kernels; capacity = capacity; entries = entries }) policy kernels capacity
+IsOpening-empty policy origin opened kernels capacity entries none = record { policy_is = opened.policy_is; start_is = begin-opening policy kernels origin opened; kernels_are = refl; capacity_is = refl; entries_are = none }
 
 -- a capacity is at most 2^20
 pub few_places : (capacity : ℕ) → is_capacity capacity ≡ true → capacity ≤ MOST_ENTRIES

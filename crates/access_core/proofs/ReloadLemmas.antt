@@ -1,12 +1,16 @@
 -- What a reload is owed, by the grants that are cached.
 use Rattle.std.proofs.Common.{◌≡◌, ◌+◌, ◌-◌, ◌*◌, List, [], refl, sym, ◌∙◌, ap, subst, Bool, true, false, Option, Some, None, arith, ◌&&◌, ◌==◌, not, filter, if◌then◌else◌}
 use Rattle.std.proofs.lemmas.Bool.{and_from, eqb-true}
+use Rattle.policy.specs.Declaring.{DeclaresAs}
 use Rattle.policy.specs.Listing.{all_objects}
+use Rattle.policy.specs.Policy.{Declared}
 use Rattle.policy.specs.Rules.{count, rows_allow}
 use Rattle.policy.specs.declared.rows.PolicyRows.{PolicyRows}
 use Rattle.grants.specs.Cells.{Table, has_right, in_table, item_at, object_count, object_place}
 use Rattle.grants.specs.Ledger.{HoldsDenied, IsBlockedBy}
 use Rattle.grants.specs.Ledger as ledger
+use Rattle.core_model.specs.History.{policy_in}
+use Rattle.core_model.specs.declared.origin.Origin.{Origin}
 use Rattle.core_model.specs.Holds.{holds_denied}
 use Rattle.core_model.specs.Owed.{owed}
 use Rattle.core_model.specs.declared.event.Event.TheVariants.{Reload}
@@ -21,6 +25,13 @@ use Rattle.access_core.proofs.Terms.{ClientId, History, InFlight, Inside, IsCach
 use Rattle.access_core.proofs.Terms.{found-passes, held, held-flies, history_of, in_flight, in_force, is_full, is_packet, knows_client, knows_object, launch-whole, list_any, numbered, owner, refuses, rules_of, same-state, start_of}
 use Rattle.core_model.specs.declared.outcome.Outcome.TheVariants as outcome
 use Rattle.core_model.specs.declared.refusal.Refusal.TheVariants as refusal
+
+-- the policy in force declares what the one does with which the core was opened
+pub declared-in : (o : Origin) (other : Declared) → (DeclaresAs o.policy other → DeclaresAs (policy_in o) other) × (DeclaresAs (policy_in o) other → DeclaresAs o.policy other)
+declared-in o other = (
+  λ d. record { clients = d.clients; agents = d.agents; regions = d.regions; signals = d.signals; kernels = d.kernels },
+  λ d. record { clients = d.clients; agents = d.agents; regions = d.regions; signals = d.signals; kernels = d.kernels },
+)
 
 -- a right in force is on an object that is declared
 known-cell : (table : Table) (client : ClientId) (on : Object) (right : Right) → in_table table client on right ≡ true → knows_object table.rules on ≡ true

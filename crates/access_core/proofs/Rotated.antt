@@ -6,7 +6,10 @@ use Rattle.std.specs.Option.{unwrap_or}
 use Rattle.std.proofs.lemmas.Bool.{and_from, and_parts, eq-eqb, eqb-true}
 use Rattle.std.proofs.lemmas.List.Elements.{All-cons, All-head, All-nil, All-tail, All-weaker}
 use Rattle.aql_packet.specs.Ids.{same_packet}
-use Rattle.core_model.specs.History.{Origin, PacketOrigin, QueueOrigin, begin, no_queue, packet_in, queue_in}
+use Rattle.core_model.specs.History.{begin, no_queue, packet_in, queue_in}
+use Rattle.core_model.specs.declared.origin.Origin.{Origin}
+use Rattle.core_model.specs.declared.origin.PacketOrigin.{PacketOrigin}
+use Rattle.core_model.specs.declared.origin.QueueOrigin.{QueueOrigin}
 use Rattle.core_model.specs.States.{state_after}
 use Rattle.core_model.proofs.Absent.{launch-absent, zero-outside}
 use Rattle.core_model.proofs.Apart.{AreApart, apart-legal, found-legal}
@@ -60,10 +63,10 @@ module _ (a : Inside) (kept : IsCached a) where
 
   -- ---- memory
 
-  memory-is : are_region_lengths (region_lengths a.policy) ≡ true → (x : ℕ) → unwrap_or (byte_at a.memory x) 0 ≡ memory_at (start_of a) a.audit.items x
-  memory-is fit x = by_place (lies_in_region (region_lengths a.policy) x) refl
+  memory-is : are_region_lengths (region_lengths a.start.policy) ≡ true → (x : ℕ) → unwrap_or (byte_at a.memory x) 0 ≡ memory_at (start_of a) a.audit.items x
+  memory-is fit x = by_place (lies_in_region (region_lengths a.start.policy) x) refl
     where
-      by_place : (b : Bool) → lies_in_region (region_lengths a.policy) x ≡ b → unwrap_or (byte_at a.memory x) 0 ≡ memory_at (start_of a) a.audit.items x
+      by_place : (b : Bool) → lies_in_region (region_lengths a.start.policy) x ≡ b → unwrap_or (byte_at a.memory x) 0 ≡ memory_at (start_of a) a.audit.items x
       by_place true lies = ap (λ (o : Option ℕ). unwrap_or o 0) (kept.memory x lies)
       by_place false outside =
           ap (λ (o : Option ℕ). unwrap_or o 0) (byte_at-outside a.memory x (ap (λ (ls : List ℕ). lies_in_region ls x) kept.lengths ∙ outside))
@@ -219,9 +222,9 @@ module _ (a : Inside) (kept : IsCached a) where
 
   -- ---- all of it
 
-  pub rotated : are_region_lengths (region_lengths a.policy) ≡ true → begin (map program_of a.kernels.items) (origin_behind a) ≡ state_after (start_of a) a.audit.items
+  pub rotated : are_region_lengths (region_lengths a.start.policy) ≡ true → begin (map program_of a.kernels.items) (origin_behind a) ≡ state_after (start_of a) a.audit.items
   rotated fit = λ i. record {
-    policy = record a.policy { rows = (kept.rules i).rows };
+    policy = record a.start.policy { rows = (kept.rules i).rows };
     kernels = map program_of a.kernels.items;
     in_force = λ client on right. kept.granted client on right i;
     memory = λ x. memory-is fit x i;
@@ -234,5 +237,5 @@ module _ (a : Inside) (kept : IsCached a) where
     progress = λ queue id. progress-is queue id i;
     held = λ queue id client on right. kept.held queue id client on right i;
     arguments = λ queue id. arguments-are queue id i;
-    before = (start_of a).before + length a.audit.items;
+    before = a.start.before + length a.audit.items;
   }

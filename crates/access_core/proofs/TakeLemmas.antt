@@ -20,6 +20,7 @@ use Rattle.core_model.specs.Owed.{owed}
 use Rattle.std.proofs.Common.{◌⊎◌}
 use Rattle.aql_packet.specs.declared.packet.Packet.TheVariants as packet
 use Rattle.core_model.proofs.Launching.{launch-granted}
+use Rattle.core_model.proofs.States.{next_id-le, next-before}
 use Rattle.access_core.specs.inner.QueueChanges.{with_launched}
 use Rattle.access_core.proofs.CachedMore.{QueuesAfter, none-launched}
 use Rattle.access_core.proofs.QueueAt.{flight-launched, flight-unlaunched, map-map, denied, launched, queue_at-denied, queue_at-launched}
@@ -152,21 +153,6 @@ takes-next a kept queue q barrier some down starts = grind (
   owner-kept a queue kept,
 )
 
--- no more packets of a queue were handed over than there are entries
-next_id-along : (queue : QueueId) (from : ℕ) (entries : List Entry) → fold (λ next entry. if hands_over_packet_of queue entry.event then next + 1 else next) from entries ≤ from + length entries
-next_id-along queue from [] = omega arith
-next_id-along queue from (e ∷ es) = by_test (hands_over_packet_of queue e.event) (next_id-along queue (from + 1) es) (next_id-along queue from es)
-  where
-    by_test : (b : Bool) → fold (λ next entry. if hands_over_packet_of queue entry.event then next + 1 else next) (from + 1) es ≤ (from + 1) + length es
-        → fold (λ next entry. if hands_over_packet_of queue entry.event then next + 1 else next) from es ≤ from + length es
-        → fold (λ next entry. if hands_over_packet_of queue entry.event then next + 1 else next) (if b then from + 1 else from) es ≤ from + length (e ∷ es)
-    by_test true one none = omega (arith, one)
-    by_test false one none = omega (arith, none)
-
-next_id-le : (start : Start) (entries : List Entry) (queue : QueueId) → next_id start entries queue ≤ start.next_id queue + length entries
-unfolding next_id
-next_id-le start entries queue = next_id-along queue (start.next_id queue) entries
-
 no_errors : (xs : List QueueError) (s : Bool) → (nat_lt 0 (length xs) || s) ≡ false → xs ≡ []
 no_errors [] s e = refl
 no_errors (x ∷ xs) s e = let some = lt-ltb 0 (length (x ∷ xs)) (omega arith) in let lost : true ≡ false = rw some at e in absurd cc
@@ -180,7 +166,21 @@ pub record IsOpen (a : Inside) (queue : QueueId) : Type 0 where
   pub small : q.next < 2 ^ 63
 
 pub is-open : (a : Inside) (kept : IsCached a) (queue : QueueId) (opening : Opening) → owner (start_of a) a.audit.items queue ≡ Some opening → IsOpen a queue
-is-open a kept queue opening owned = grind (arith, owner-kept a queue kept, next_id-le (start_of a) a.audit.items queue, sound-at a.queues.items queue.0)
+is-open a kept queue opening owned = by_queue (numbered a.queues.items queue.0) refl
+  where
+    by_queue : (o : Option Queue) → numbered a.queues.items queue.0 ≡ o → IsOpen a queue
+    by_queue None none =
+        let lost : Some opening ≡ None = sym owned ∙ owner-kept a queue kept ∙ ap (option_map cached_opening) none in
+        absurd cc
+    by_queue (Some q) found =
+        let view : cached_view (Some q) ≡ queue_at (start_of a) a.audit.items queue = ap cached_view (sym found) ∙ kept.queues queue in
+        let next : q.next ≡ next_id (start_of a) a.audit.items queue = ap (λ (v : QueueView). v.next) view in
+        let handed = next_id-le (start_of a) a.audit.items queue in
+        let begun = next-before (start_of a) a.audit.items kept.legal queue in
+        let before = kept.before in
+        let room = kept.room in
+        let few = kept.few in
+        record { q = q; found = found; view = view; sound = sound-at a.queues.items queue.0 q kept.sound found; small = omega (arith, next, handed, begun, before, room, few) }
 
 -- the queue of a packet in its place is open
 pub open-of : (a : Inside) (kept : IsCached a) (old : History) → history_of a ≡ old → (queue : QueueId) (id : PacketId) (place : Place)
@@ -208,7 +208,7 @@ pub queues-after : (a : Inside) (kept : IsCached a) (queue : QueueId) (at : IsOp
     → ((m : QueueId) → queue_at (start_of a) (with_entry a.audit.items event told effects) m
     ≡ (if queue.0 == m.0 then view (queue_at (start_of a) a.audit.items m) else queue_at (start_of a) a.audit.items m))
     → count ≡ length (flight (start_of a) (with_entry a.audit.items event told effects))
-    → ((f : InFlight) → launched_by event told ≡ Some f → lies_in_regions (region_lengths a.policy) f.packet ≡ true)
+    → ((f : InFlight) → launched_by event told ≡ Some f → lies_in_regions (region_lengths a.start.policy) f.packet ≡ true)
     → QueuesAfter a (with_queue a.queues.items queue change) count event told effects
 queues-after a kept queue at change view count event told effects none same sound alike now flying within = record {
   openings = openings-changed a.queues.items queue change at.q at.found same ∙ sym (ap (with_some (map cached_opening a.queues.items)) none);
@@ -273,11 +273,11 @@ module _ (a : Inside) (kept : IsCached a) (queue : QueueId) (id : PacketId) (byt
       flight-launched (start_of a) a.audit.items queue id bytes p reads,
     )
 
-    pub queues-launched : lies_in_regions (region_lengths a.policy) p ≡ true
+    pub queues-launched : lies_in_regions (region_lengths a.start.policy) p ≡ true
         → QueuesAfter a (with_queue a.queues.items queue (with_launched id p)) (a.flying + 1) (Take queue id bytes) (outcome.Taken Launched) []
     queues-launched within =
         queues-after a kept queue can.opened (with_launched id p) (launched id p) (a.flying + 1) _ _ _ refl refl sound-launched refl
         (λ m. queue_at-launched (start_of a) a.audit.items queue id bytes p reads below-id m) flying-launched packet-within
       where
-        packet-within : (f : InFlight) → launched_by (Take queue id bytes) (outcome.Taken Launched) ≡ Some f → lies_in_regions (region_lengths a.policy) f.packet ≡ true
+        packet-within : (f : InFlight) → launched_by (Take queue id bytes) (outcome.Taken Launched) ≡ Some f → lies_in_regions (region_lengths a.start.policy) f.packet ≡ true
         packet-within f is = grind arith

@@ -50,7 +50,8 @@ pub use Rattle.core_model.specs.Owed.{Owed, answers, completion_of, enters, erro
 pub use Rattle.core_model.specs.Owed.{owed_group}
 pub use Rattle.core_model.specs.Owed.{owed_poll, owed_verdict, refuses, release_of, signal_decrement}
 pub use Rattle.core_model.specs.Queries.{AnswerOrRefusal, listing}
-pub use Rattle.core_model.specs.Queues.{Opening, error_of, hands_over_packet_of, next_id, openings, owner, stops_queue}
+pub use Rattle.core_model.specs.Queues.{error_of, hands_over_packet_of, next_id, openings, owner, stops_queue}
+pub use Rattle.core_model.specs.declared.origin.Opening.{Opening}
 pub use Rattle.core_model.specs.Refusals.{refuse_unless}
 pub use Rattle.core_model.specs.View.{GivenAtLaunch, RegionRights, as_lent, first_address, given_at_launch, group_input, held_region, held_regions, rights_held}
 pub use Rattle.core_model.specs.Work.{agent_writes, function_writes, group_count, result_writes, write_of, write_of_run}

@@ -135,10 +135,10 @@ module _ (a : Inside) (kept : IsCached a) (queue : QueueId) (id : PacketId) (q :
 
 -- a packet in its place reaches only what lies whole in a region
 pub reaches-in_place : (a : Inside) (kept : IsCached a) (queue : QueueId) (id : PacketId) (place : Place) → IsInPlace (history_of a) queue id place
-    → lies_in_regions (region_lengths a.policy) place.packet ≡ true
+    → lies_in_regions (region_lengths a.start.policy) place.packet ≡ true
 reaches-in_place a kept queue id place found = grind (
   arith,
-  found-all (λ (f : InFlight). lies_in_regions (region_lengths a.policy) f.packet ≡ true) (is_packet queue id)
+  found-all (λ (f : InFlight). lies_in_regions (region_lengths a.start.policy) f.packet ≡ true) (is_packet queue id)
       (flight (start_of a) a.audit.items) found.flying kept.within found.found,
 )
 

@@ -11,7 +11,7 @@ lies-within : (regions : List (List ℕ)) (address size k : ℕ) → IsMemory re
 lies-within regions address size k memory within below = grind (arith, length-region_bytes, region_length-is)
 
 -- what is read is what the history has there
-read-kept : (a : Inside) (kept : IsCached a) → IsMemory a.memory → (address size : ℕ) → is_within (region_lengths a.policy) address size ≡ true
+read-kept : (a : Inside) (kept : IsCached a) → IsMemory a.memory → (address size : ℕ) → is_within (region_lengths a.start.policy) address size ≡ true
     → bytes_from a.memory address size ≡ memory_from (start_of a) a.audit.items address size
 read-kept a kept memory address size test =
     let within : IsWithin a.memory address size = IsWithin-from_test a.memory address size (rw kept.lengths test) in
@@ -20,7 +20,7 @@ read-kept a kept memory address size test =
     (long ∙ sym (length-map-range_with_len (memory_at (start_of a) a.audit.items) address size))
     (λ k d h.
     let below : k < size = omega (arith, h, long) in
-    let lies : lies_in_region (region_lengths a.policy) (address + k) ≡ true = rw kept.lengths at (lies-within a.memory address size k memory within below) in
+    let lies : lies_in_region (region_lengths a.start.policy) (address + k) ≡ true = rw kept.lengths at (lies-within a.memory address size k memory within below) in
     get_or_from_slice_get (bytes_from a.memory address size) k (memory_at (start_of a) a.audit.items (address + k)) d
     (slice_get-bytes_from a.memory address size k memory within below ∙ kept.memory (address + k) lies)
     ∙ sym (get_or-map-range_with_len (memory_at (start_of a) a.audit.items) address size k (address + k) d below refl))

@@ -16,6 +16,7 @@ mod polling;
 mod queries;
 mod queueing;
 mod reloading;
+mod rotating;
 mod running;
 mod serving;
 mod stopping;
@@ -27,9 +28,8 @@ use crate::argument_blocks::ArgumentBlocks;
 use crate::kernel::Kernel;
 use crate::queue::Queue;
 use aql_packet::KernelObject;
-use core_model::{Effects, Entry, Event, KernelSegments, Outcome};
+use core_model::{Effects, Entry, Event, KernelSegments, Origin, Outcome};
 use grants::Grants;
-use policy::Policy;
 use regions::Regions;
 use sequences::Reserved;
 use signals::Signals;
@@ -63,7 +63,8 @@ impl From<AllocError> for OpenFault {
 /// The broker's core. A contract sees its history, which is what it began from and its audit's entries,
 /// and how many places its tables have.
 pub struct AccessCore {
-    policy: Policy,
+    /// What its history begins from, and with it the policy that it was opened with.
+    start: Origin,
     /// The kernels, in order.
     kernels: Vec<Kernel>,
     /// How large their segments are.
@@ -84,7 +85,7 @@ pub struct AccessCore {
 impl Drop for AccessCore {
     fn drop(self) {
         let AccessCore {
-            policy: _,
+            start: _,
             kernels: _,
             segments: _,
             grants: _,

@@ -54,6 +54,13 @@ impl ArgumentBlocks {
         self.blocks.len()
     }
 
+    /// The blocks, in the order of launches.
+    pub fn as_slice(&self) -> &[ArgumentBlock]
+        ensures { result.now ≡ self.now.items }
+    {
+        self.blocks.as_slice()
+    }
+
     /// The block of a packet in flight; of another packet, no bytes.
     pub fn get(&self, queue: QueueId, packet: PacketId) -> &[u8]
         ensures { result.now ≡ block_of self.now.items queue packet }

@@ -1,7 +1,12 @@
 -- The reading of bytes as functions agrees with the layout.
-use Rattle.std.proofs.Common.{◌≡◌, ℕ, zero, suc, ◌/◌, ◌^◌, ◌<◌, ◌≤◌, List, Bool, true, false, cond, not, ◌&&◌, ◌||◌, ◌==◌, ◌⊎◌, inl, inr, Option, Some, None, is_none, IsTrue, refl, arith}
+use Rattle.std.proofs.Common.{◌≡◌, ℕ, zero, suc, ◌/◌, ◌^◌, if◌then◌else◌, ◌<◌, ◌≤◌, List, Bool, true, false, cond, not, ◌&&◌, ◌||◌, ◌==◌, ◌⊎◌, inl, inr, Option, Some, None, is_none, IsTrue, refl, arith, subst, sym}
 use Rattle.std.proofs.Math.Nat.{mod-lt}
-use Rattle.std.proofs.lemmas.Bool.{eqb-true, le-leb}
+use Rattle.std.proofs.lemmas.Bool.{cases_lt, eqb-true, le-leb, lt-ltb, ltb-true}
+use Rattle.std.proofs.lemmas.Grind.{get_or_default_zero}
+use Rattle.std.proofs.lemmas.List.Sums.{AllPass-from_list_all, list_all-from_AllPass}
+use Rattle.std.proofs.Math.ListN.{get_or, get_or-eq_default}
+use Rattle.std.specs.List.{list_all}
+use Rattle.std.specs.Prelude.{length, nat_lt, slice_index}
 use Rattle.aql_packet.specs.declared.packet.Scope.{Scope}
 use Rattle.aql_packet.specs.declared.packet.Scope.TheVariants as scopes
 use Rattle.aql_packet.specs.declared.packet.Header.{Header}
@@ -13,7 +18,7 @@ use Rattle.aql_packet.specs.declared.packet.Packet.TheVariants.{Kernel, Agent, B
 use Rattle.aql_packet.specs.declared.packet.CodecRule.{CodecRule}
 use Rattle.aql_packet.specs.declared.packet.CodecRule.TheVariants.{L1, L2, L3}
 use Rattle.aql_packet.specs.Numbers.{number_at, bits, bit_of}
-use Rattle.aql_packet.specs.Layout.{Are64Bytes, IsHeader, LaysKernel, LaysAgent, LaysBarrier, Lays, PacketOf, is_well_formed, scope_number}
+use Rattle.aql_packet.specs.Layout.{Are64Bytes, are_64_bytes, IsHeader, LaysKernel, LaysAgent, LaysBarrier, Lays, PacketOf, is_well_formed, scope_number}
 use Rattle.aql_packet.specs.Reading.{packet_type, acquire_bits, release_bits, is_known, is_plain_header, kernel_reserved_is_zero, agent_reserved_is_zero, barrier_reserved_is_zero, reserved_is_zero, passes, refusal, scope_of, header_at, kernel_at, agent_at, barrier_at, packet_at, decoded}
 
 -- ---- scopes and flags
@@ -79,24 +84,53 @@ agent_passes bytes packet lays = rw (lays.reserved_4, lays.reserved_48) refl
 barrier_passes : (bytes : List ℕ) (type : ℕ) (packet : Barrier) → LaysBarrier bytes type packet → barrier_reserved_is_zero bytes ≡ true
 barrier_passes bytes type packet lays = rw (lays.reserved_2, lays.reserved_48) refl
 
--- What is laid out breaks no rule, and is the packet that is read.
-pub laid_is_read : (bytes : List ℕ) (packet : Packet) → Lays bytes packet → (refusal bytes ≡ None) × (packet_at (packet_type bytes) bytes ≡ packet)
-unfolding refusal passes packet_at
-laid_is_read bytes (Kernel packet) lays =
-    (rw (lays.header.packet_type, header_is_plain bytes 2 packet.header lays.header, kernel_passes bytes packet lays) refl, rw (lays.header.packet_type, kernel_read bytes packet lays) refl)
-laid_is_read bytes (Agent packet) lays =
-    (rw (lays.header.packet_type, header_is_plain bytes 4 packet.header lays.header, agent_passes bytes packet lays) refl, rw (lays.header.packet_type, agent_read bytes packet lays) refl)
-laid_is_read bytes (BarrierAnd packet) lays =
-    (rw (lays.header.packet_type, header_is_plain bytes 3 packet.header lays.header, barrier_passes bytes 3 packet lays) refl, rw (lays.header.packet_type, barrier_read bytes 3 packet lays) refl)
-laid_is_read bytes (BarrierOr packet) lays =
-    (rw (lays.header.packet_type, header_is_plain bytes 5 packet.header lays.header, barrier_passes bytes 5 packet lays) refl, rw (lays.header.packet_type, barrier_read bytes 5 packet lays) refl)
-
--- ---- what is read is laid out
+-- ---- 64 bytes
 
 -- Both sides of a test that holds.
 and_holds : (first second : Bool) → (first && second) ≡ true → (first ≡ true) × (second ≡ true)
 and_holds true second holds = (refl, holds)
 and_holds false second holds = absurd cc
+
+pub are_64 : (bytes : List ℕ) → Are64Bytes bytes → are_64_bytes bytes ≡ true
+are_64 bytes are =
+    let all : list_all (λ byte. nat_lt byte 256) bytes ≡ true = list_all-from_AllPass (λ byte. nat_lt byte 256) bytes
+    (λ k d lt. lt-ltb (get_or bytes k d) 256 (subst (λ n. n < 256) (sym (get_or_default_zero bytes k d lt)) (are.below k))) in
+    rw (are.count, all) refl
+
+pub are_64_back : (bytes : List ℕ) → are_64_bytes bytes ≡ true → Are64Bytes bytes
+are_64_back bytes is =
+    let both = and_holds (length bytes == 64) (list_all (λ byte. nat_lt byte 256) bytes) is in
+    record {
+      count = eqb-true (length bytes) 64 both.0;
+      below = λ place. by_place place (cases_lt place (length bytes));
+    }
+  where
+    by_place : (place : ℕ) → place < length bytes ⊎ length bytes ≤ place → slice_index bytes place < 256
+    by_place place (inl lt) = ltb-true _ 256 (AllPass-from_list_all (λ byte. nat_lt byte 256) bytes (and_holds (length bytes == 64) (list_all (λ byte. nat_lt byte 256) bytes) is).1 place 0 lt)
+    by_place place (inr past) = subst (λ n. n < 256) (sym (get_or-eq_default bytes 0 past)) (omega arith)
+
+-- Which rule 64 bytes break first.
+pub refused_by : (bytes : List ℕ) → length bytes ≡ 64 → ((place : ℕ) → slice_index bytes place < 256)
+    → refusal bytes ≡ (if not (is_known (packet_type bytes)) then Some L1 else if not (is_plain_header bytes) then Some L2 else if not (reserved_is_zero (packet_type bytes) bytes) then Some L3 else None)
+unfolding refusal passes
+refused_by bytes count below = rw (are_64 bytes (record { count = count; below = below })) refl
+
+-- What is laid out breaks no rule, and is the packet that is read.
+pub laid_is_read : (bytes : List ℕ) (packet : Packet) → PacketOf bytes packet → (refusal bytes ≡ None) × (packet_at (packet_type bytes) bytes ≡ packet)
+unfolding refusal passes packet_at
+laid_is_read bytes packet laid = by_kind packet laid.layout
+  where
+    by_kind : (packet : Packet) → Lays bytes packet → (refusal bytes ≡ None) × (packet_at (packet_type bytes) bytes ≡ packet)
+    by_kind (Kernel packet) lays =
+        (rw (are_64 bytes laid.are_bytes, lays.header.packet_type, header_is_plain bytes 2 packet.header lays.header, kernel_passes bytes packet lays) refl, rw (lays.header.packet_type, kernel_read bytes packet lays) refl)
+    by_kind (Agent packet) lays =
+        (rw (are_64 bytes laid.are_bytes, lays.header.packet_type, header_is_plain bytes 4 packet.header lays.header, agent_passes bytes packet lays) refl, rw (lays.header.packet_type, agent_read bytes packet lays) refl)
+    by_kind (BarrierAnd packet) lays =
+        (rw (are_64 bytes laid.are_bytes, lays.header.packet_type, header_is_plain bytes 3 packet.header lays.header, barrier_passes bytes 3 packet lays) refl, rw (lays.header.packet_type, barrier_read bytes 3 packet lays) refl)
+    by_kind (BarrierOr packet) lays =
+        (rw (are_64 bytes laid.are_bytes, lays.header.packet_type, header_is_plain bytes 5 packet.header lays.header, barrier_passes bytes 5 packet lays) refl, rw (lays.header.packet_type, barrier_read bytes 5 packet lays) refl)
+
+-- ---- what is read is laid out
 
 zero_holds : (number : ℕ) → (number == 0) ≡ true → number ≡ 0
 zero_holds number holds = eqb-true number 0 holds
@@ -190,16 +224,20 @@ known_is type known = elim (or_holds (type == 2 || type == 3 || type == 4) (type
 ]
 
 -- What breaks no rule is laid out.
-pub read_is_laid : (bytes : List ℕ) → refusal bytes ≡ None → Lays bytes (packet_at (packet_type bytes) bytes)
+pub read_is_laid : (bytes : List ℕ) → refusal bytes ≡ None → PacketOf bytes (packet_at (packet_type bytes) bytes)
 unfolding refusal passes packet_at
 read_is_laid bytes none =
-    let all = none_fails (is_known (packet_type bytes)) (is_plain_header bytes) (reserved_is_zero (packet_type bytes) bytes) none in
-    elim (known_is (packet_type bytes) all.0) [
-      | inl two ↦ rw two (kernel_laid bytes two all.1 (rw two at all.2))
-      | inr (inl four) ↦ rw four (agent_laid bytes four all.1 (rw four at all.2))
-      | inr (inr (inl three)) ↦ rw three (barrier_laid bytes 3 three all.1 (rw three at all.2))
-      | inr (inr (inr five)) ↦ rw five (barrier_laid bytes 5 five all.1 (rw five at all.2))
-    ]
+    let all = none_fails (are_64_bytes bytes && is_known (packet_type bytes)) (is_plain_header bytes) (reserved_is_zero (packet_type bytes) bytes) none in
+    let first = and_holds (are_64_bytes bytes) (is_known (packet_type bytes)) all.0 in
+    record {
+      are_bytes = are_64_back bytes first.0;
+      layout = elim (known_is (packet_type bytes) first.1) [
+        | inl two ↦ rw two (kernel_laid bytes two all.1 (rw two at all.2))
+        | inr (inl four) ↦ rw four (agent_laid bytes four all.1 (rw four at all.2))
+        | inr (inr (inl three)) ↦ rw three (barrier_laid bytes 3 three all.1 (rw three at all.2))
+        | inr (inr (inr five)) ↦ rw five (barrier_laid bytes 5 five all.1 (rw five at all.2))
+      ];
+    }
 
 -- The packet that the bytes lay out is the one that the reading has.
 pub decoded_is : (bytes : List ℕ) → refusal bytes ≡ None → decoded bytes ≡ Some (packet_at (packet_type bytes) bytes)
@@ -207,19 +245,18 @@ unfolding decoded
 decoded_is bytes none = rw none refl
 
 -- What is refused is not laid out.
-pub refused_not_laid : (bytes : List ℕ) (rule : CodecRule) (packet : Packet) → refusal bytes ≡ Some rule → Lays bytes packet → ⊥
-refused_not_laid bytes rule packet refused lays =
-    let none = (laid_is_read bytes packet lays).0 in
+pub refused_not_laid : (bytes : List ℕ) (rule : CodecRule) (packet : Packet) → refusal bytes ≡ Some rule → PacketOf bytes packet → ⊥
+refused_not_laid bytes rule packet refused laid =
+    let none = (laid_is_read bytes packet laid).0 in
     absurd cc
 
 -- What the bytes are decoded to is laid out.
-pub decoded_is_laid : (bytes : List ℕ) (packet : Packet) → Are64Bytes bytes → decoded bytes ≡ Some packet → PacketOf bytes packet
+pub decoded_is_laid : (bytes : List ℕ) (packet : Packet) → decoded bytes ≡ Some packet → PacketOf bytes packet
 unfolding decoded
-decoded_is_laid bytes packet are found =
+decoded_is_laid bytes packet found =
     let chosen = some_where (is_none (refusal bytes)) (packet_at (packet_type bytes) bytes) packet found in
     let none : refusal bytes ≡ None = none_is (refusal bytes) chosen.0 in
-    let lays = read_is_laid bytes none in
-    record { are_bytes = are; layout = rw chosen.1 at lays }
+    subst (PacketOf bytes) chosen.1 (read_is_laid bytes none)
   where
     some_where : (test : Bool) (one two : Packet) → cond test (Some one) None ≡ Some two → (test ≡ true) × (one ≡ two)
     some_where true one two same = (refl, cc)

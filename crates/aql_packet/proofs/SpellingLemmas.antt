@@ -114,7 +114,7 @@ one_spelling one two (BarrierAnd packet) a b = barrier_same one two 3 packet a.a
 one_spelling one two (BarrierOr packet) a b = barrier_same one two 5 packet a.are_bytes b.are_bytes a.layout b.layout
 
 -- What is laid out is decoded.
-pub laid_is_decoded : (bytes : List ℕ) (packet : Packet) → Lays bytes packet → decoded bytes ≡ Some packet
-laid_is_decoded bytes packet lays =
-    let read = laid_is_read bytes packet lays in
+pub laid_is_decoded : (bytes : List ℕ) (packet : Packet) → PacketOf bytes packet → decoded bytes ≡ Some packet
+laid_is_decoded bytes packet laid =
+    let read = laid_is_read bytes packet laid in
     decoded_is bytes read.0 ∙ ap (λ found. Some found) read.1

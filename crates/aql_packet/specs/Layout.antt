@@ -1,6 +1,7 @@
 -- Which 64 bytes lay out which packet (PSA, Architected Queuing Language): one clause a field, and one a
 -- reserved part. Nothing is encoded or decoded here.
-use Rattle.std.specs.Prelude.{◌≡◌, ◌<◌, ℕ, List, [], ◌∷◌, length, slice_index, Bool, true, nat_le}
+use Rattle.std.specs.Prelude.{◌≡◌, ◌<◌, ◌==◌, ◌&&◌, ℕ, List, [], ◌∷◌, length, slice_index, Bool, true, nat_le, nat_lt}
+use Rattle.std.specs.List.{list_all}
 use Rattle.aql_packet.specs.declared.ids.SignalHandle.{SignalHandle}
 use Rattle.aql_packet.specs.declared.packet.Scope.{Scope}
 use Rattle.aql_packet.specs.declared.packet.Scope.TheVariants as scopes
@@ -16,6 +17,10 @@ use Rattle.aql_packet.specs.Numbers.{number_at, bits, bit_of}
 pub record Are64Bytes (bytes : List ℕ) : Type 0 where
   pub count : length bytes ≡ 64
   pub below : (place : ℕ) → slice_index bytes place < 256
+
+-- The same, as a test.
+abbrev pub are_64_bytes : List ℕ → Bool
+are_64_bytes bytes = length bytes == 64 && list_all (λ byte. nat_lt byte 256) bytes
 
 -- A fence scope's number.
 abbrev pub scope_number : Scope → ℕ

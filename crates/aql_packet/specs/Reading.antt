@@ -11,7 +11,7 @@ use Rattle.aql_packet.specs.declared.packet.Packet.TheVariants.{Kernel, Agent, B
 use Rattle.aql_packet.specs.declared.packet.CodecRule.{CodecRule}
 use Rattle.aql_packet.specs.declared.packet.CodecRule.TheVariants.{L1, L2, L3}
 use Rattle.aql_packet.specs.Numbers.{number_at, bits}
-use Rattle.aql_packet.specs.Layout.{arguments_at, signal_at, signals_at}
+use Rattle.aql_packet.specs.Layout.{are_64_bytes, arguments_at, signal_at, signals_at}
 
 -- The packet's type: header bits 7:0.
 abbrev pub packet_type : List ℕ → ℕ
@@ -58,9 +58,9 @@ reserved_is_zero type bytes =
     else if type == 4 then agent_reserved_is_zero bytes
     else barrier_reserved_is_zero bytes
 
--- What each rule asks of the bytes.
+-- What each rule asks of the bytes; what isn't 64 bytes has no known type (own).
 unfoldable pub passes : CodecRule → List ℕ → Bool
-passes L1 bytes = is_known (packet_type bytes)
+passes L1 bytes = are_64_bytes bytes && is_known (packet_type bytes)
 passes L2 bytes = is_plain_header bytes
 passes L3 bytes = reserved_is_zero (packet_type bytes) bytes
 

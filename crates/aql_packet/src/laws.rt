@@ -20,7 +20,7 @@ pub fn reading_is_layout()
     ensures laid { (bytes : List ℕ) (packet : Packet)
         → PacketOf bytes packet → decoded bytes ≡ Some packet }
     ensures read { (bytes : List ℕ) (packet : Packet)
-        → Are64Bytes bytes → decoded bytes ≡ Some packet → PacketOf bytes packet }
+        → decoded bytes ≡ Some packet → PacketOf bytes packet }
 {}
 
 /// The type and the barrier bit of a packet are those of its first word, its first eight bytes.

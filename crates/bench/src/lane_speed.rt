@@ -54,7 +54,7 @@ fn is_settled(alloc: Global, stage: Stage, gate: &LoadGate) -> bool
         ends,
         lanes,
     } = stage;
-    match settle_all(alloc, broker, ends, lanes) {
+    match settle_all(alloc, broker, &[], ends, lanes) {
         Ok(Settlement::Settled { .. }) => !gate.is_unsettled(),
         _ => false,
     }

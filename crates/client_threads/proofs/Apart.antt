@@ -1,6 +1,6 @@
 -- Rings of which no two are of one queue.
 use Rattle.std.proofs.Common.{◌≡◌, ℕ, true, false, Bool, List, [], ◌∷◌, ◌++◌, refl, ap, ◌∙◌, sym, subst, eqb-true, eq-eqb}
-use Rattle.std.specs.Prelude.{◌==◌, Option, Some, None, option_map, cond}
+use Rattle.std.specs.Prelude.{◌==◌, Some, None, option_map, cond}
 use Rattle.std.specs.List.{find}
 use Rattle.client_threads.specs.Rings.{AreApart, QueueRing, ring_of}
 

@@ -1,10 +1,9 @@
 -- What calls of the core leave, by what they answer.
-use Rattle.std.proofs.Common.{◌≡◌, ℕ, List, refl, ap, sym, ◌∙◌, ◌⊎◌, inl, inr}
+use Rattle.std.proofs.Common.{◌≡◌, ℕ, List, refl, ap, ◌⊎◌, inl, inr}
 use Rattle.std.specs.Prelude.{Result, Ok, Err}
 use Rattle.aql_packet.specs.declared.ids.QueueId.{QueueId}
 use Rattle.aql_packet.specs.declared.ids.PacketId.{PacketId}
 use Rattle.queue_error.specs.declared.error.QueueError.{QueueError}
-use Rattle.core_model.specs.declared.entry.Effect.{Effect}
 use Rattle.core_model.specs.declared.event.Event.{Event}
 use Rattle.core_model.specs.declared.event.Event.TheVariants.{Take}
 use Rattle.core_model.specs.declared.outcome.Outcome.{Outcome}
@@ -15,7 +14,7 @@ use Rattle.core_model.specs.declared.outcome.WaitCause.{WaitCause}
 use Rattle.core_model.specs.declared.refusal.Refusal.{Refusal}
 use Rattle.core_model.specs.declared.refusal.Refusal.TheVariants as refusal
 use Rattle.core_model.specs.History.{History, beginning}
-use Rattle.core_model.specs.Owed.{Owed, refuses, answers, enters, owed}
+use Rattle.core_model.specs.Owed.{Owed, refuses, answers, enters}
 use Rattle.core_model.specs.Legal.{Meets, MeetsOrLacks, LacksMemory, due, reply_of, history_after}
 use Rattle.core_model.proofs.Meeting.{entered-owed}
 use Rattle.core_model.proofs.Turns.{taken-or-denied}

@@ -1,9 +1,9 @@
 -- The passes of a queue among ends, and its lane among lanes.
-use Rattle.std.proofs.Common.{◌≡◌, ℕ, suc, zero, ◌+◌, ◌<◌, true, false, Bool, List, [], ◌∷◌, ◌++◌, length, map, take, drop, get_or, refl, ap, ◌∙◌, sym, subst, arith, eqb-true, append_assoc}
+use Rattle.std.proofs.Common.{◌≡◌, ℕ, suc, zero, ◌+◌, ◌<◌, true, false, Bool, List, [], ◌∷◌, ◌++◌, length, map, drop, get_or, refl, ap, ◌∙◌, sym, arith, eqb-true, append_assoc}
 use Rattle.std.proofs.lemmas.List.{append-nil, length-append}
 use Rattle.std.proofs.Math.Numerals.{add-one}
 use Rattle.std.specs.Prelude.{◌≢◌, ◌==◌, ◌&&◌, ◌||◌, Option, Some, None, is_some, cond, if◌then◌else◌}
-use Rattle.std.specs.List.{cons_option, filter_map, find, list_any, list_all, remove}
+use Rattle.std.specs.List.{cons_option, filter_map, list_any, list_all, remove}
 use Rattle.ring.specs.Passes.{ProducerSeen}
 use Rattle.ring.specs.Settling.{has_pass}
 use Rattle.client_threads.specs.declared.broker.Desk.{Desk}
@@ -11,7 +11,7 @@ use Rattle.client_threads.specs.declared.client_end.ClientEnd.{ClientEnd}
 use Rattle.client_threads.specs.Desks.{seen}
 use Rattle.client_threads.specs.Lanes.{LaneSeen}
 use Rattle.client_threads.specs.Rings.{QueueRing}
-use Rattle.client_threads.specs.Settling.{has_its_passes, has_all_passes, pass_of, passes_of}
+use Rattle.client_threads.specs.Settling.{pass_of, passes_of}
 use Rattle.client_threads.specs.Takes.{lane_at}
 
 -- an end of a queue with a number is a pass of the queue with that number

@@ -7,7 +7,7 @@ use Rattle.core_model.specs.History.{History}
 use Rattle.ring.specs.declared.processor.Shown.{Shown}
 use Rattle.core_model.specs.declared.outcome.Taken.{Taken}
 use Rattle.aql_packet.specs.declared.ids.PacketId.{PacketId}
-use Rattle.client_threads.specs.declared.served.Served.{Served}
+use Rattle.core_model.specs.declared.served.Served.{Served}
 use Rattle.client_threads.specs.declared.serving.ServeAnswer.{ServeAnswer}
 use Rattle.client_threads.specs.declared.serving.ServeAnswer.TheVariants.{Empty, Launched, Denied, Waiting, Refused}
 use Rattle.client_threads.specs.declared.advancing.Advanced.{Advanced}

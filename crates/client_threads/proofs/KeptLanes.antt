@@ -1,6 +1,6 @@
 -- What serving does to what a lane keeps.
-use Rattle.std.proofs.Common.{◌≡◌, ℕ, suc, zero, ◌+◌, ◌<◌, true, false, Bool, List, [], ◌∷◌, ◌++◌, length, map, refl, ap, ◌∙◌, sym, subst, arith}
-use Rattle.std.specs.Prelude.{Option, Some, None, is_some, Ok, ⊤, All, if◌then◌else◌, slice_index_or}
+use Rattle.std.proofs.Common.{◌≡◌, ℕ, suc, zero, ◌+◌, ◌<◌, List, [], ◌∷◌, ◌++◌, length, map, refl, ap, ◌∙◌, sym, arith}
+use Rattle.std.specs.Prelude.{Ok, All}
 use Rattle.std.proofs.lemmas.List.{length_push}
 use Rattle.aql_packet.specs.declared.ids.PacketId.{PacketId}
 use Rattle.ring.specs.declared.processor.Shown.{Shown}
@@ -10,12 +10,11 @@ use Rattle.ring.specs.Bytes.{words_of}
 use Rattle.ring.specs.Passes.{RingSeen, ProcessorSeen, as_processor}
 use Rattle.ring.specs.Made.{retiring}
 use Rattle.ring.specs.Showing.{HasPeeked, ProcessorGains}
-use Rattle.aql_packet.specs.declared.ids.QueueId.{QueueId}
 use Rattle.core_model.specs.History.{History}
 use Rattle.core_model.specs.Legal.{MeetsOrLacks}
 use Rattle.core_model.specs.declared.outcome.Outcome.TheVariants as outcome
 use Rattle.core_model.specs.declared.outcome.Taken.{Taken}
-use Rattle.client_threads.specs.declared.served.Served.{Served}
+use Rattle.core_model.specs.declared.served.Served.{Served}
 use Rattle.client_threads.specs.Serving.{IsServed, take_of, served_of}
 use Rattle.client_threads.proofs.Calls.{answered_meets}
 use Rattle.client_threads.specs.Lanes.{LaneSeen, IsLane, AreNumbered, words_served}

@@ -1,7 +1,7 @@
 -- Rings are settled one after another.
 use Rattle.std.proofs.Common.{◌≡◌, ℕ, suc, zero, ◌+◌, ◌<◌, ◌≤◌, true, false, Bool, List, [], ◌∷◌, ◌++◌, length, map, refl, ap, ◌∙◌, sym, subst, arith, eqb-true, eq-eqb, append_assoc, drop, get_or}
 use Rattle.std.proofs.lemmas.List.{append-nil}
-use Rattle.std.specs.Prelude.{◌≢◌, ◌==◌, ◌&&◌, All, Option, Some, None, is_some, option_map, cond, slice_index_or, if◌then◌else◌, ⊤, vec_capacity}
+use Rattle.std.specs.Prelude.{◌≢◌, ◌==◌, ◌&&◌, All, Some, None, is_some, option_map, cond, slice_index_or, if◌then◌else◌, ⊤, vec_capacity}
 use Rattle.std.specs.List.{cons_option, find, list_all, remove}
 use Rattle.std.proofs.Math.Numerals.{add-one}
 use Rattle.atomic_table.specs.Seated.{TableId}

@@ -1,17 +1,16 @@
 -- What a lane served, once its ring is settled.
-use Rattle.std.proofs.Common.{◌≡◌, ℕ, suc, zero, ◌<◌, ◌≤◌, true, false, List, [], ◌∷◌, length, map, get_or, refl, ap, ◌∙◌, sym, subst, arith}
+use Rattle.std.proofs.Common.{◌≡◌, ℕ, suc, zero, ◌<◌, true, false, List, [], ◌∷◌, length, map, get_or, refl, ap, ◌∙◌, sym, arith}
 use Rattle.std.specs.Prelude.{Some, slice_index, slice_index_or}
 use Rattle.ring_core.specs.declared.part.Part.{Part}
 use Rattle.ring_core.specs.declared.part.Part.TheVariants.{Producer, Processor}
 use Rattle.ring_core.specs.declared.part.ProcessorPart.{ProcessorPart}
 use Rattle.ring_core.specs.Parts.{nobody}
-use Rattle.ring_core.specs.Words.{word}
-use Rattle.ring_core.specs.Machine.{Machine, machine_of, read_index}
-use Rattle.ring_core.specs.Rule.{IsRule, processor_of, ticket_of}
+use Rattle.ring_core.specs.Machine.{machine_of}
+use Rattle.ring_core.specs.Rule.{processor_of}
 use Rattle.ring.specs.Passes.{RingSeen, ProducerSeen}
 use Rattle.ring.specs.Bytes.{words_of}
 use Rattle.ring.specs.Settling.{IsSettled}
-use Rattle.client_threads.specs.declared.served.Served.{Served}
+use Rattle.core_model.specs.declared.served.Served.{Served}
 use Rattle.client_threads.specs.Lanes.{LaneSeen, IsLane, words_served}
 use Rattle.client_threads.specs.Settling.{AreServed}
 use Rattle.client_threads.proofs.KeptLanes.{map_length}

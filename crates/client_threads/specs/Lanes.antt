@@ -5,7 +5,7 @@ use Rattle.aql_packet.specs.declared.ids.PacketId.{PacketId}
 use Rattle.core_model.specs.declared.limits.TheConstants.{QUEUES}
 use Rattle.ring.specs.Bytes.{words_of}
 use Rattle.ring.specs.Passes.{ProcessorSeen}
-use Rattle.client_threads.specs.declared.served.Served.{Served}
+use Rattle.core_model.specs.declared.served.Served.{Served}
 
 -- a lane: its queue, its pass, what it served, and which of it is pending
 pub record LaneSeen : Type 0 where

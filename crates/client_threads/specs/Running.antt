@@ -1,7 +1,7 @@
 -- Which ends and lanes are of a broker, and what running does to lanes (own).
 use Rattle.std.specs.Prelude.{◌≡◌, ◌++◌, ◌<◌, ℕ, List, length, slice_index_or}
 use Rattle.client_threads.specs.declared.client_end.ClientEnd.{ClientEnd}
-use Rattle.client_threads.specs.declared.served.Served.{Served}
+use Rattle.core_model.specs.declared.served.Served.{Served}
 use Rattle.client_threads.specs.Lanes.{LaneSeen}
 use Rattle.client_threads.specs.Rings.{QueueRing, IsOf}
 

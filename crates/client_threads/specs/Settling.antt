@@ -1,7 +1,8 @@
 -- What a broker comes to once all its ends and lanes have come back (own).
-use Rattle.std.specs.Prelude.{◌≡◌, ℕ, ◌==◌, ◌<◌, ◌≤◌, ◌&&◌, Bool, List, [], ◌∷◌, length, slice_index, slice_index_or, Option, Some, None, is_some, if◌then◌else◌, ⊤}
+use Rattle.std.specs.Prelude.{◌≡◌, ℕ, ◌==◌, ◌<◌, ◌≤◌, ◌&&◌, Bool, true, false, List, [], ◌∷◌, ◌++◌, length, slice_index, slice_index_or, Option, Some, None, is_some, if◌then◌else◌, ⊤}
 use Rattle.std.specs.List.{filter_map, list_all}
-use Rattle.core_model.specs.History.{beginning}
+use Rattle.core_model.specs.History.{Part, beginning}
+use Rattle.core_model.specs.Rotation.{LeadTo, entries_in}
 use Rattle.core_model.specs.Legal.{IsLegal}
 use Rattle.ring_core.specs.Machine.{Machine, machine_of, slot_word}
 use Rattle.ring_core.specs.Rule.{ticket_of}
@@ -10,8 +11,12 @@ use Rattle.ring.specs.Bytes.{words_of}
 use Rattle.ring.specs.Passes.{RingSeen, ProducerSeen}
 use Rattle.ring.specs.declared.closing.Settled.{Settled}
 use Rattle.ring.specs.Settling.{IsSettled, has_passes}
-use Rattle.client_threads.specs.declared.served.Served.{Served}
+use Rattle.core_model.specs.declared.entry.Entry.{Entry}
+use Rattle.core_model.specs.declared.served.Served.{Served}
 use Rattle.client_threads.specs.declared.client_end.ClientEnd.{ClientEnd}
+use Rattle.access_core.specs.Cores.{Core}
+use Rattle.client_threads.specs.declared.settling.SettleAllFault.{SettleAllFault}
+use Rattle.client_threads.specs.declared.settling.SettleAllFault.TheVariants as fault
 use Rattle.client_threads.specs.declared.settling.SettledQueue.{SettledQueue}
 use Rattle.client_threads.specs.declared.settling.Settlement.{Settlement}
 use Rattle.client_threads.specs.declared.settling.Settlement.TheVariants as settlement
@@ -61,10 +66,33 @@ AreSettled (r ∷ rs) ends lanes (one ∷ more) = IsQueueSettled r ends lanes on
 AreSettled [] ends lanes (one ∷ more) = ⊥
 AreSettled (r ∷ rs) ends lanes [] = ⊥
 
--- what a broker came to: its core has a legal audit; and either of each queue was taken what its lane served, and all rings
--- are settled; or this is the least place where these differ
-abbrev pub IsSettlement : List QueueRing → List ClientEnd → List LaneSeen → Settlement → Type 0
-IsSettlement rings ends lanes (settlement.Settled core settled) =
-    IsLegal (beginning core.history) core.history.entries × AllAgree core.history.entries lanes × AreSettled rings ends lanes settled.items
-IsSettlement rings ends lanes (settlement.Mismatch core queue id) =
-    IsLegal (beginning core.history) core.history.entries × IsLeastMismatch core.history.entries lanes queue.0 id.0
+-- a core has a legal audit, to which the parts lead that were handed out of it
+pub record IsLedTo (parts : List Part) (core : Core) : Type 0 where
+  pub legal : IsLegal (beginning core.history) core.history.entries
+  pub lead : LeadTo parts core.history.origin
+
+-- all that was handed out of a core's audit and is in it, in order
+abbrev pub all_entries : List Part → Core → List Entry
+all_entries parts core = entries_in parts ++ core.history.entries
+
+-- what a broker came to: its core has a legal audit, to which the parts lead; and either of each queue was taken what its lane
+-- served, by all entries, and all rings are settled; or this is the least place where these differ
+abbrev pub IsSettlement : List QueueRing → List Part → List ClientEnd → List LaneSeen → Settlement → Type 0
+IsSettlement rings parts ends lanes (settlement.Settled core settled) =
+    IsLedTo parts core × AllAgree (all_entries parts core) lanes × AreSettled rings ends lanes settled.items
+IsSettlement rings parts ends lanes (settlement.Mismatch core queue id) =
+    IsLedTo parts core × IsLeastMismatch (all_entries parts core) lanes queue.0 id.0
+
+-- the number of each cause
+abbrev pub number_of_fault : SettleAllFault → ℕ
+number_of_fault fault.OutOfMemory = 0
+number_of_fault fault.MissingPass = 3
+number_of_fault fault.NotNext = 4
+
+-- why a broker isn't settled, in this order: a pass is missing; all are there, and the parts don't lead to its core's audit; they do,
+-- and memory was wanted and not to be had
+abbrev pub IsUnsettledFor : List QueueRing → List Part → List ClientEnd → List LaneSeen → SettleAllFault → Type 0
+IsUnsettledFor rings parts ends lanes fault.MissingPass = has_all_passes rings ends lanes ≡ false
+IsUnsettledFor rings parts ends lanes fault.NotNext =
+    (has_all_passes rings ends lanes ≡ true) × ((core : Core) × IsLegal (beginning core.history) core.history.entries × (LeadTo parts core.history.origin → ⊥))
+IsUnsettledFor rings parts ends lanes fault.OutOfMemory = (has_all_passes rings ends lanes ≡ true) × ((core : Core) × IsLedTo parts core)

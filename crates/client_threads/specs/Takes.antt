@@ -1,20 +1,19 @@
 -- What was taken of a queue by a history's entries, and where it differs from what its lane served (own).
-use Rattle.std.specs.Prelude.{◌≡◌, ◌≢◌, ℕ, ◌==◌, ◌<◌, List, [], take, slice_get, Option, Some, None, if◌then◌else◌}
-use Rattle.std.specs.List.{filter_map, find}
+use Rattle.std.specs.Prelude.{◌≡◌, ◌≢◌, ℕ, ◌==◌, ◌<◌, List, [], take, slice_get, Option, Some, None}
+use Rattle.std.specs.List.{find}
 use Rattle.core_model.specs.declared.event.Event.{Event}
-use Rattle.core_model.specs.declared.event.Event.TheVariants.{Take}
 use Rattle.core_model.specs.declared.entry.Entry.{Entry}
-use Rattle.client_threads.specs.declared.served.Served.{Served}
+use Rattle.core_model.specs.declared.served.Served.{Served}
+use Rattle.core_model.specs.Takes as of_queue
 use Rattle.client_threads.specs.Lanes.{LaneSeen}
 
--- the packet of a queue that an event hands over, if it does
+-- the packet of the queue with a number that an event hands over, if it does
 abbrev pub taken_by : ℕ → Event → Option Served
-taken_by queue (Take q id bytes) = if q.0 == queue then Some (record { id = id; bytes = bytes }) else None
-taken_by queue _ = None
+taken_by queue event = of_queue.taken_by (record { 0 = queue }) event
 
--- the packets of a queue that entries launched or denied, in order: ids and bytes
+-- the packets of that queue that entries launched or denied, in order: ids and bytes
 abbrev pub takes : List Entry → ℕ → List Served
-takes entries queue = filter_map (λ entry. taken_by queue entry.event) entries
+takes entries queue = of_queue.takes entries (record { 0 = queue })
 
 -- the lane of a queue, if it is among these
 abbrev pub lane_at : ℕ → List LaneSeen → Option LaneSeen

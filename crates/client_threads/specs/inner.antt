@@ -1,3 +1,4 @@
 pub mod Kept
 pub mod Openings
+pub mod Partings
 pub mod Rooms

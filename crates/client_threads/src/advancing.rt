@@ -7,10 +7,9 @@ ghost use Rattle.core_model.specs.declared.event.Event.{Event};
 ghost use Rattle.client_threads.specs.Advancing.{AdvancesTo, IsLastCall, is_some_barrier, leaves, next_call, served_barrier, told};
 
 use crate::lane::Lane;
-use crate::served::Served;
 use access_core::AccessCore;
 use aql_packet::{Packet, PacketId, QueueId, decode};
-use core_model::{Outcome, Polled, Refusal, Worked};
+use core_model::{Outcome, Polled, Refusal, Served, Worked};
 use queue_error::QueueError;
 use std::alloc::Global;
 

@@ -3,8 +3,8 @@
 ghost use Rattle.std.specs.Prelude.{◌≡◌};
 ghost use Rattle.client_threads.specs.Lanes.{IsLane};
 
-use crate::served::Served;
 use aql_packet::{PacketId, QueueId};
+use core_model::Served;
 use ring::ProcessorPass;
 use std::marker::Model;
 

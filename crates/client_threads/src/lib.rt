@@ -13,17 +13,16 @@ mod lanes;
 mod laws;
 mod mismatch;
 mod opening;
-mod served;
 mod serving;
 mod settling;
 
 pub use advancing::{Advanced, advance_one};
 pub use broker::Broker;
 pub use client_end::ClientEnd;
+pub use core_model::Served;
 pub use lane::Lane;
 pub use lanes::{Gate, LaneAnswer, run_lanes};
 pub use laws::opened_queues_belong;
 pub use opening::Opened;
-pub use served::Served;
 pub use serving::{ServeAnswer, serve_one};
 pub use settling::{SettleAllFault, SettledQueue, Settlement, UnsettledBroker, settle_all};

@@ -1,13 +1,14 @@
 //! Where what the core took of a queue and what its lane served differ.
 
-ghost use Rattle.std.specs.Prelude.{◌≡◌, ◌≢◌, ℕ, ◌<◌, ◌∷◌, Some, None, slice_get, true, false, []};
+ghost use Rattle.std.specs.Prelude.{◌≡◌, ◌≢◌, ℕ, ◌<◌, ◌≤◌, ◌∷◌, ◌++◌, Some, None, IfOk, IfErr, slice_get, true, false, []};
 ghost use Rattle.std.specs.Option.{IfSome, IfNone, option_copied};
+ghost use Rattle.core_model.specs.Rotation.{entries_in};
+ghost use Rattle.client_threads.specs.inner.Partings.{PartsBefore};
 ghost use Rattle.client_threads.specs.Takes.{AllAgree, DiffersAt, IsLeastMismatch, lane_at, served_by, taken_by, takes};
 
 use crate::lane::Lane;
-use crate::served::Served;
 use aql_packet::{PacketId, QueueId};
-use core_model::{Entry, Event};
+use core_model::{Entry, Event, Part, Served};
 
 // The packet of a queue that an entry says was handed over, if it does.
 fn taken(entry: &Entry, queue: QueueId) -> Option<Served>
@@ -56,26 +57,87 @@ fn behind<'a>(left: &'a [Served], one: &Served) -> Option<&'a [Served]>
     }
 }
 
-// The first place at which what entries say was taken of a queue and what was served differ.
-fn first_difference(entries: &[Entry], queue: QueueId, served: &[Served]) -> Option<u64>
-    ensures same { IfNone result (takes entries.now queue.0 ≡ served.now) }
-    ensures differs { IfSome result (λ place. DiffersAt (takes entries.now queue.0) served.now place) }
+// Goes through entries, and what they say was taken of a queue: what is left of what was served, behind all of it
+// or from where they part on.
+#[tactic(auto, using(crate::proofs::Differences::skip, crate::proofs::Differences::more, crate::proofs::Differences::parts_here, crate::proofs::Differences::all_alike))]
+fn go_through<'a>(
+    entries: &[Entry],
+    queue: QueueId,
+    served: &'a [Served],
+) -> Result<&'a [Served], &'a [Served]>
+    ensures same { IfOk result (λ left. served.now ≡ takes entries.now queue.0 ++ left.now) }
+    ensures parts { IfErr result (λ left. PartsBefore (takes entries.now queue.0) served.now left.now) }
 {
     let mut left = served;
-    let mut place = 0;
     for entry in entries {
-        match taken(entry, queue) {
-            None => {}
-            Some(one) => match behind(left, &one) {
-                None => return Some(place),
-                Some(more) => {
-                    left = more;
-                    place += 1;
-                }
-            },
+        if let Some(one) = taken(entry, queue) {
+            match behind(left, &one) {
+                None => return Err(left),
+                Some(more) => left = more,
+            }
         }
     }
-    if left.is_empty() { None } else { Some(place) }
+    Ok(left)
+}
+
+// Goes through the entries of parts in order, just so.
+#[tactic(auto, using(crate::proofs::Differences::part_behind, crate::proofs::Differences::part_parts, crate::proofs::Differences::parts_behind))]
+fn go_through_parts<'a>(
+    parts: &[Part],
+    queue: QueueId,
+    served: &'a [Served],
+) -> Result<&'a [Served], &'a [Served]>
+    ensures same { IfOk result (λ left. served.now ≡ takes (entries_in parts.now) queue.0 ++ left.now) }
+    ensures parts { IfErr result (λ left. PartsBefore (takes (entries_in parts.now) queue.0) served.now left.now) }
+{
+    let mut left = served;
+    for part in parts {
+        match go_through(part.entries(), queue, left) {
+            Err(rest) => return Err(rest),
+            Ok(rest) => left = rest,
+        }
+    }
+    Ok(left)
+}
+
+// Goes through the entries of parts and then through others, just so.
+#[tactic(auto, using(crate::proofs::Differences::same_behind, crate::proofs::Differences::parts_early, crate::proofs::Differences::parts_late))]
+fn go_through_all<'a>(
+    parts: &[Part],
+    entries: &[Entry],
+    queue: QueueId,
+    served: &'a [Served],
+) -> Result<&'a [Served], &'a [Served]>
+    ensures same { IfOk result (λ left. served.now ≡ takes (entries_in parts.now ++ entries.now) queue.0 ++ left.now) }
+    ensures parts { IfErr result (λ left. PartsBefore (takes (entries_in parts.now ++ entries.now) queue.0) served.now left.now) }
+{
+    match go_through_parts(parts, queue, served) {
+        Err(left) => Err(left),
+        Ok(left) => go_through(entries, queue, left),
+    }
+}
+
+// The first place at which what all entries say was taken of a queue and what was served differ.
+#[tactic(auto, using(crate::proofs::Differences::differs_there, crate::proofs::Differences::differs_at_end, crate::proofs::Differences::same_at_end))]
+fn first_difference(
+    parts: &[Part],
+    entries: &[Entry],
+    queue: QueueId,
+    served: &[Served],
+) -> Option<u64>
+    ensures same { IfNone result (takes (entries_in parts.now ++ entries.now) queue.0 ≡ served.now) }
+    ensures differs { IfSome result (λ place. DiffersAt (takes (entries_in parts.now ++ entries.now) queue.0) served.now place) }
+{
+    match go_through_all(parts, entries, queue, served) {
+        Err(left) => Some((served.len() - left.len()) as u64),
+        Ok(left) => {
+            if left.is_empty() {
+                None
+            } else {
+                Some((served.len() - left.len()) as u64)
+            }
+        }
+    }
 }
 
 // The lane of a queue, if there is one.
@@ -97,18 +159,31 @@ fn served_by(lanes: &[Lane], queue: QueueId) -> &[Served]
 
 // The least queue, and there the least id, at which what was taken and what was served differ. No packet was
 // taken or served of a queue behind the last.
-fn least_mismatch(entries: &[Entry], lanes: &[Lane], last: u64) -> Option<(QueueId, PacketId)>
-    requires { (queue : ℕ) → last < queue → takes entries.now queue ≡ served_by lanes.now queue }
-    ensures same { IfNone result (AllAgree entries.now lanes.now) }
-    ensures least { IfSome result (λ found. IsLeastMismatch entries.now lanes.now found.0.0 found.1.0) }
+fn least_mismatch(
+    parts: &[Part],
+    entries: &[Entry],
+    lanes: &[Lane],
+    last: u64,
+) -> Option<(QueueId, PacketId)>
+    requires { (queue : ℕ) → last < queue → takes (entries_in parts.now ++ entries.now) queue ≡ served_by lanes.now queue }
+    ensures same { IfNone result (AllAgree (entries_in parts.now ++ entries.now) lanes.now) }
+    ensures least { IfSome result (λ found. IsLeastMismatch (entries_in parts.now ++ entries.now) lanes.now found.0.0 found.1.0) }
 {
     for queue in 0..=last {
         let served = served_by(lanes, QueueId(queue));
-        if let Some(place) = first_difference(entries, QueueId(queue), served) {
+        if let Some(place) = first_difference(parts, entries, QueueId(queue), served) {
             return Some((QueueId(queue), PacketId(place)));
         }
     }
     None
+}
+
+// The greater number.
+fn greater(one: u64, other: u64) -> u64
+    ensures first { one ≤ result }
+    ensures second { other ≤ result }
+{
+    if one < other { other } else { one }
 }
 
 // The number of the queue of which an entry says that a packet was taken, or 0.
@@ -136,6 +211,18 @@ fn last_taken(entries: &[Entry]) -> u64
     last
 }
 
+// The same, of the entries of parts.
+#[tactic(auto, using(crate::proofs::Lasts::none_taken_in))]
+fn last_taken_in(parts: &[Part]) -> u64
+    ensures { (queue : ℕ) → result < queue → takes (entries_in parts.now) queue ≡ [] }
+{
+    let mut last = 0;
+    for part in parts {
+        last = greater(last, last_taken(part.entries()));
+    }
+    last
+}
+
 // A number above which no queue has a lane.
 fn last_served(lanes: &[Lane]) -> u64
     ensures { (queue : ℕ) → result < queue → served_by lanes.now queue ≡ [] }
@@ -150,13 +237,24 @@ fn last_served(lanes: &[Lane]) -> u64
     last
 }
 
-// The least queue, and there the least id, at which what was taken and what was served differ.
-pub(crate) fn find_mismatch(entries: &[Entry], lanes: &[Lane]) -> Option<(QueueId, PacketId)>
-    ensures same { IfNone result (AllAgree entries.now lanes.now) }
-    ensures least { IfSome result (λ found. IsLeastMismatch entries.now lanes.now found.0.0 found.1.0) }
+// A number above which no packet of a queue was taken or served.
+#[tactic(auto, using(crate::proofs::Lasts::none_at_all))]
+fn last_queue(parts: &[Part], entries: &[Entry], lanes: &[Lane]) -> u64
+    ensures { (queue : ℕ) → result < queue → takes (entries_in parts.now ++ entries.now) queue ≡ served_by lanes.now queue }
 {
-    let taken = last_taken(entries);
-    let served = last_served(lanes);
-    let last = if taken < served { served } else { taken };
-    least_mismatch(entries, lanes, last)
+    let taken = greater(last_taken_in(parts), last_taken(entries));
+    greater(taken, last_served(lanes))
+}
+
+// The least queue, and there the least id, at which what was taken, by the entries of parts and then by others,
+// and what was served differ.
+pub(crate) fn find_mismatch(
+    parts: &[Part],
+    entries: &[Entry],
+    lanes: &[Lane],
+) -> Option<(QueueId, PacketId)>
+    ensures same { IfNone result (AllAgree (entries_in parts.now ++ entries.now) lanes.now) }
+    ensures least { IfSome result (λ found. IsLeastMismatch (entries_in parts.now ++ entries.now) lanes.now found.0.0 found.1.0) }
+{
+    least_mismatch(parts, entries, lanes, last_queue(parts, entries, lanes))
 }

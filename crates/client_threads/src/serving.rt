@@ -4,10 +4,9 @@ ghost use Rattle.std.specs.Prelude.{◌≡◌};
 ghost use Rattle.client_threads.specs.Serving.{ServesTo, served_of};
 
 use crate::lane::Lane;
-use crate::served::Served;
 use access_core::AccessCore;
 use aql_packet::PacketId;
-use core_model::{Refusal, Taken, WaitCause};
+use core_model::{Refusal, Served, Taken, WaitCause};
 use queue_error::QueueError;
 use ring::{Peeked, Ring, Shown};
 use std::alloc::Global;

@@ -8,9 +8,11 @@ ghost use Rattle.client_threads.specs.Rings.{AreApart};
 ghost use Rattle.client_threads.specs.Running.{IsEndOf, IsLaneOf};
 ghost use Rattle.client_threads.specs.Lanes.{LaneSeen};
 ghost use Rattle.client_threads.specs.Takes.{lane_at};
-ghost use Rattle.client_threads.specs.Settling.{AreSettled, IsQueueSettled, IsRingSettled, IsSettlement, has_all_passes, has_its_passes, passes_of};
+ghost use Rattle.client_threads.specs.Settling.{AreSettled, IsLedTo, IsQueueSettled, IsRingSettled, IsSettlement, IsUnsettledFor, has_all_passes, has_its_passes, passes_of};
 ghost use Rattle.client_threads.specs.inner.Rooms.{AreReady, AreRoomy, IsRoomFor, IsSomeOf};
-ghost use Rattle.client_threads.specs.declared.settling.SettleAllFault.{SettleAllFault};
+ghost use Rattle.core_model.specs.History.{beginning};
+ghost use Rattle.core_model.specs.Legal.{IsLegal};
+ghost use Rattle.core_model.specs.Rotation.{LeadTo};
 
 use crate::broker::{Broker, Desk};
 use crate::client_end::ClientEnd;
@@ -18,8 +20,10 @@ use crate::lane::Lane;
 use crate::mismatch::{find_lane, find_mismatch};
 use access_core::AccessCore;
 use aql_packet::{PacketId, QueueId};
+use core_model::{Part, lead_to};
 use ring::{ProducerPass, Ring, SettleRoom, settle_in};
 use std::alloc::{AllocError, Global};
+use std::sync::Mutex;
 
 /// A queue with its settled ring.
 #[derive(Drop, Debug)]
@@ -52,6 +56,23 @@ pub enum SettleAllFault {
     OutOfMemory,
     /// The end of a producer or the lane of a queue is not there.
     MissingPass,
+    /// The parts that were handed out don't follow each other from nothing on to the audit.
+    NotNext,
+}
+
+impl SettleAllFault {
+    ghost use Rattle.client_threads.specs.Settling.{number_of_fault};
+
+    /// The refusal's number (own).
+    pub fn number(&self) -> u8
+        ensures { result ≡ number_of_fault self.now }
+    {
+        match self {
+            SettleAllFault::OutOfMemory => 0,
+            SettleAllFault::MissingPass => 3,
+            SettleAllFault::NotNext => 4,
+        }
+    }
 }
 
 /// A broker that was not settled, with all that was handed in.
@@ -113,6 +134,15 @@ fn has_all_passes(desks: &[Desk], ends: &[ClientEnd], lanes: &[Lane]) -> bool
         }
     }
     true
+}
+
+// Whether parts lead to a core's audit, which is legal.
+fn leads(parts: &[Part], core: &AccessCore) -> bool
+    ensures legal { IsLegal (beginning core.now.history) core.now.history.entries }
+    ensures lead { result ≡ true ↔ LeadTo parts.now core.now.history.origin }
+{
+    core.audit();
+    lead_to(parts, core.start())
 }
 
 // Room to settle the ring of a queue: for the words of its slots, and for its producers' passes.
@@ -293,46 +323,92 @@ fn get_rooms(
     Ok((rooms, settled))
 }
 
-/// Settles a broker once its threads have ended and all its ends and lanes have come back. Where the
-/// audit has of each queue just the packets that its lane served, ids and bytes, in order, each ring is
-/// settled: they are the packets that were published under the ids below its read index, and every other
-/// published packet stands whole in its slot. Else it names the least queue and the least id at which they
-/// differ. Where a pass is missing, or there is no memory, all comes back as it was.
+// A broker that isn't settled, with its core under its lock again.
+fn unsettled(
+    fault: SettleAllFault,
+    core: AccessCore,
+    desks: Vec<Desk>,
+    ends: Vec<ClientEnd>,
+    lanes: Vec<Lane>,
+) -> UnsettledBroker
+    requires { AreApart (map seen desks.items) }
+    ensures fault { result.fault ≡ fault }
+    ensures back { (result.broker ≡ map seen desks.items) × (result.ends.items ≡ ends.items) × (result.lanes.items ≡ lanes.items) }
+{
+    let broker = Broker {
+        core: Mutex::new(core),
+        desks,
+    };
+    UnsettledBroker {
+        fault,
+        broker,
+        ends,
+        lanes,
+    }
+}
+
+// Settles a broker whose passes are all there, and to whose core the parts lead, in rooms that were got for it.
+fn settle_in_rooms(
+    core: AccessCore,
+    parts: &[Part],
+    desks: Vec<Desk>,
+    rooms: (Vec<QueueRoom>, Vec<SettledQueue>),
+    ends: Vec<ClientEnd>,
+    lanes: Vec<Lane>,
+) -> Settlement
+    requires led { IsLedTo parts.now core }
+    requires apart { AreApart (map seen desks.items) }
+    requires ready { AreReady ends.items lanes.items (map seen desks.items) rooms.0.items ends.items lanes.items }
+    requires none { rooms.1.items ≡ [] }
+    requires room { length desks.items ≤ vec_capacity rooms.1 }
+    ensures { IsSettlement (map seen desks.items) parts.now ends.items lanes.items result }
+{
+    if let Some((queue, id)) = find_mismatch(parts, core.audit(), lanes.as_slice()) {
+        return Settlement::Mismatch { core, queue, id };
+    }
+    let (rooms, room) = rooms;
+    let rings = settle_rings(desks, rooms, ends, lanes, room);
+    Settlement::Settled { core, rings }
+}
+
+/// Settles a broker once its threads have ended, all its ends and lanes have come back, and with all parts that
+/// were handed out of its core, in order. Where these parts and the audit have of each queue just the packets
+/// that its lane served, ids and bytes, in order, each ring is settled: they are the packets that were published
+/// under the ids below its read index, and every other published packet stands whole in its slot. Else it names
+/// the least queue and the least id at which they differ. Refused in this order: a pass is missing; the first
+/// part doesn't begin with nothing before it, a later one doesn't begin where the one before it ends, or the
+/// audit doesn't begin where the last ends (without parts: the audit has entries before it); memory isn't to be
+/// had. All then comes back as it was.
 #[tactic(auto, using(crate::proofs::Readiness::all_ready))]
 pub fn settle_all(
     alloc: Global,
     broker: Broker,
+    parts: &[Part],
     ends: Vec<ClientEnd>,
     lanes: Vec<Lane>,
 ) -> Result<Settlement, UnsettledBroker>
     requires ends { All (λ end. IsEndOf broker end) ends.items }
     requires lanes { All (λ lane. IsLaneOf broker lane) lanes.items }
-    ensures settled { IfOk result (IsSettlement broker ends.items lanes.items) }
+    ensures settled { IfOk result (IsSettlement broker parts.now ends.items lanes.items) }
     ensures all { IfOk result (λ _. has_all_passes broker ends.items lanes.items ≡ true) }
-    ensures fault { IfErr result (λ u. u.fault ≡ SettleAllFault.MissingPass ↔ has_all_passes broker ends.items lanes.items ≡ false) }
+    ensures fault { IfErr result (λ u. IsUnsettledFor broker parts.now ends.items lanes.items u.fault) }
     ensures back { IfErr result (λ u. (u.broker ≡ broker) × (u.ends.items ≡ ends.items) × (u.lanes.items ≡ lanes.items)) }
 {
-    if !has_all_passes(broker.desks.as_slice(), ends.as_slice(), lanes.as_slice()) {
-        return Err(UnsettledBroker {
-            fault: SettleAllFault::MissingPass,
-            broker,
-            ends,
-            lanes,
-        });
-    }
-    let Ok((rooms, room)) = get_rooms(alloc, broker.desks.as_slice(), ends.as_slice()) else {
-        return Err(UnsettledBroker {
-            fault: SettleAllFault::OutOfMemory,
-            broker,
-            ends,
-            lanes,
-        });
-    };
     let Broker { core, desks } = broker;
     let core = core.into_inner();
-    if let Some((queue, id)) = find_mismatch(core.audit(), lanes.as_slice()) {
-        return Ok(Settlement::Mismatch { core, queue, id });
+    if !has_all_passes(desks.as_slice(), ends.as_slice(), lanes.as_slice()) {
+        let why = SettleAllFault::MissingPass;
+        return Err(unsettled(why, core, desks, ends, lanes));
     }
-    let rings = settle_rings(desks, rooms, ends, lanes, room);
-    Ok(Settlement::Settled { core, rings })
+    if !leads(parts, &core) {
+        let why = SettleAllFault::NotNext;
+        return Err(unsettled(why, core, desks, ends, lanes));
+    }
+    match get_rooms(alloc, desks.as_slice(), ends.as_slice()) {
+        Err(_) => {
+            let why = SettleAllFault::OutOfMemory;
+            Err(unsettled(why, core, desks, ends, lanes))
+        }
+        Ok(rooms) => Ok(settle_in_rooms(core, parts, desks, rooms, ends, lanes)),
+    }
 }

@@ -3,7 +3,7 @@
 use crate::further::Manner;
 use access_core::{Kernel, OpenFault};
 use commands::{Failure, KernelError, PolicyText, Status, check_kernels, check_policy};
-use core_model::{Answer, Outcome, Polled, Taken, Worked};
+use core_model::{Answer, Outcome, Part, Polled, Taken, Worked};
 use explain::{asked_by, bad_line, kernel_fault, no_entry, policy_fault, retold};
 use policy::{Policy, ReadPolicyError, read_policy};
 use script::{Command, LONGEST_LINE, Line, LineAnswer, LineReply, perform, read_line, write_line};
@@ -188,6 +188,25 @@ fn is_not_done(reply: &LineReply) -> bool {
     }
 }
 
+// The part that an answer hands out, if it does.
+fn part_in(answer: LineAnswer) -> Option<Part> {
+    match answer {
+        LineAnswer::Answered { answer, .. } => match answer {
+            world::Answer::Rotated(part) => Some(part),
+            _other => None,
+        },
+        _other => None,
+    }
+}
+
+// The part that a reply hands out, if it does.
+fn part_of(reply: LineReply) -> Option<Part> {
+    match reply {
+        Ok(answer) => part_in(answer),
+        Err(_why) => None,
+    }
+}
+
 /// A run that tells: what it keeps between bytes.
 #[derive(Drop)]
 struct Telling {
@@ -198,6 +217,8 @@ struct Telling {
     // The bytes of the line that is begun, and its number, from 1.
     line: Vec<u8>,
     number: u64,
+    // The parts of the history that were handed out, in order.
+    handed_out: Vec<Part>,
 }
 
 impl Telling {
@@ -242,11 +263,27 @@ impl Telling {
         let mut text = String::new(self.alloc);
         write_line(&mut text, world.policy(), &reply)?;
         self.replies.push_str(text.as_str())?;
-        if let Ok(told) = retold(self.alloc, world, self.number, asked, &reply) {
+        let told = retold(
+            self.alloc,
+            world,
+            self.handed_out.as_slice(),
+            self.number,
+            asked,
+            &reply,
+        );
+        if let Ok(told) = told {
             self.explain(told.as_str(), out, err)?;
         }
         if self.is_strict && is_not_done(&reply) {
             return Err(End::NotDone);
+        }
+        self.keep(reply)
+    }
+
+    // Keeps the part that a reply hands out, if it does.
+    fn keep(&mut self, reply: LineReply) -> Result<(), End> {
+        if let Some(part) = part_of(reply) {
+            self.handed_out.push(part)?;
         }
         Ok(())
     }
@@ -410,6 +447,7 @@ fn run_in<R: io::Read, O: io::Write, E: io::Write>(
         replies: String::new(alloc),
         line: Vec::new(alloc),
         number: 1,
+        handed_out: Vec::new(alloc),
     };
     match telling.run(&mut world, later, script, out, err) {
         Ok(()) => Status::Done,

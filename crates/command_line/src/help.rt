@@ -15,7 +15,7 @@ Lines of a script (docs/scripts.md):
   poll Q ID                    finish Q ID                 write C ADDRESS BYTES
   read C ADDRESS N             signal C NAME OP V          load C NAME
   test C NAME COND V           list C                      errors Q
-  audit                        reload N
+  audit                        rotate                      reload N
 KIND is agent, region, signal or kernel; R is USE, READ, WRITE, WAIT, CHANGE or LAUNCH, and - for none;
 OP is store, add, subtract, and, or, xor, exchange or cas (which has two V); COND is EQ, NE, LT or GTE.
 

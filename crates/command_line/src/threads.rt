@@ -46,6 +46,11 @@ fn unreported<E: io::Write>(alloc: Global, err: &mut E, why: LoadFault) -> Statu
         LoadFault::Opening(why) => refused(alloc, err, unopened(why)),
         LoadFault::Refused(_) => told(err, "threads: a call was refused\n", Status::Refused),
         LoadFault::MissingPass => told(err, "threads: a pass is missing\n", Status::Refused),
+        LoadFault::NotNext => told(
+            err,
+            "threads: the audit doesn't go on from what was handed out\n",
+            Status::Refused,
+        ),
     }
 }
 

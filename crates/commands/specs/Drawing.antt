@@ -3,7 +3,6 @@ use Rattle.std.specs.Prelude.{ℕ, ◌≡◌, List, [], Option, None, Result, Ok
 use Rattle.policy.specs.Policy.{Declared}
 use Rattle.access_core.specs.declared.access.OpenFault.{OpenFault}
 use Rattle.access_core.specs.declared.kernel.Kernel.{Kernel}
-use Rattle.core_model.specs.History.{beginning}
 use Rattle.picture.specs.Pages.{text_of_page}
 use Rattle.script.specs.declared.answers.Answers.{Answers}
 use Rattle.script.specs.declared.fault.ScriptFault.{ScriptFault}
@@ -19,7 +18,7 @@ use Rattle.commands.specs.Failures.{failure_of_opening}
 
 -- the page of what a world's audit tells
 abbrev pub page_of : Joined → List ℕ
-page_of world = text_of_page (beginning world.core).policy world.core.entries
+page_of world = text_of_page world.core.origin.policy world.core.entries
 
 -- what comes of a script that was run, and left a world: where all its lines were done, the page is written; else nothing is, and what
 -- ended the run ends the command. `page` and `drawn` are the bytes of the page's writer before and after

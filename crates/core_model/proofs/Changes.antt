@@ -226,8 +226,8 @@ module _ (start : Start) (es : List Entry) (legal : IsWhole start es) where
       kernel-changes told effects queue id flying found s granted d is left result is_result (inr fault) =
           subst (All (P (RunNext queue id) told)) (sym fault.effects_are) (all-one (P (RunNext queue id) told) (effect.Release queue id)
           (subst (λ o. P (RunNext queue id) o (effect.Release queue id)) (sym fault.outcome_is)
-          (released (RunNext queue id) (outcome.Worked (worked.Faulted (group_error queue id (progress start es queue id).groups_run fault.item fault.line fault.rule))) queue id
-          (named-release (RunNext queue id) (outcome.Worked (worked.Faulted (group_error queue id (progress start es queue id).groups_run fault.item fault.line fault.rule))) queue id (λ f q i. (q, i)) flying found))))
+          (released (RunNext queue id) (outcome.Worked (worked.Faulted (group_error queue id (progress start es queue id).groups_run fault.why))) queue id
+          (named-release (RunNext queue id) (outcome.Worked (worked.Faulted (group_error queue id (progress start es queue id).groups_run fault.why))) queue id (λ f q i. (q, i)) flying found))))
 
       group-changes : (told : Outcome) (effects : List Effect) (queue : QueueId) (id : PacketId) (flying : InFlight) → in_flight start es queue id ≡ Some flying →
           (since : (s : InFlightSince start es queue id) × (s.flying ≡ flying) × AllInForce start s.launch.before s.launch.opening.client (own_rights start es queue id)) →
@@ -347,8 +347,8 @@ module _ (start : Start) (es : List Entry) (legal : IsWhole start es) where
       by_end : (d : KernelDispatch) (group : ℕ) (result : GroupResult) → GroupWrote start es told effects queue id d group result ⊎ GroupFaulted start es told effects queue id d group result → named queue id ≡ named error.queue error.packet
       by_end d group result (inl ran) = none-told told error is (ap error_of ran.outcome_is)
       by_end d group result (inr fault) =
-          let same : Some (group_error queue id group fault.item fault.line fault.rule) ≡ Some error = sym (ap error_of fault.outcome_is) ∙ is in
-          let e : group_error queue id group fault.item fault.line fault.rule ≡ error = cc in
+          let same : Some (group_error queue id group fault.why) ≡ Some error = sym (ap error_of fault.outcome_is) ∙ is in
+          let e : group_error queue id group fault.why ≡ error = cc in
           ap (λ x. named x.queue x.packet) e
 
       by_kind : (p : Packet) (so_far : Progress) → GroupRan start es told effects p so_far ⊎ KernelRan start es told effects queue id (given_at_launch start es queue id) p so_far → named queue id ≡ named error.queue error.packet
@@ -384,8 +384,8 @@ module _ (start : Start) (es : List Entry) (legal : IsWhole start es) where
       by_end : (d : KernelDispatch) (group : ℕ) (result : GroupResult) → GroupWrote start es told effects queue id d group result ⊎ GroupFaulted start es told effects queue id d group result → effects ≡ effect.Release error.queue error.packet ∷ []
       by_end d group result (inl ran) = none-told told error (error-told told error faults) (ap error_of ran.outcome_is)
       by_end d group result (inr fault) =
-          let same : Some (group_error queue id group fault.item fault.line fault.rule) ≡ Some error = sym (ap error_of fault.outcome_is) ∙ error-told told error faults in
-          let e : group_error queue id group fault.item fault.line fault.rule ≡ error = cc in
+          let same : Some (group_error queue id group fault.why) ≡ Some error = sym (ap error_of fault.outcome_is) ∙ error-told told error faults in
+          let e : group_error queue id group fault.why ≡ error = cc in
           fault.effects_are ∙ ap (λ x. effect.Release x.queue x.packet ∷ []) e
 
       by_kind : (p : Packet) (so_far : Progress) → GroupRan start es told effects p so_far ⊎ KernelRan start es told effects queue id (given_at_launch start es queue id) p so_far → effects ≡ effect.Release error.queue error.packet ∷ []

@@ -15,6 +15,7 @@ use Rattle.aql_packet.specs.declared.packet.KernelDispatch.{KernelDispatch}
 use Rattle.aql_packet.specs.declared.packet.Packet.{Packet}
 use Rattle.aql_packet.specs.declared.packet.Packet.TheVariants as packet
 use Rattle.aql_packet.specs.Reading.{barrier_bit}
+use Rattle.executor.specs.declared.fault.ItemFault.{ItemFault}
 use Rattle.executor.specs.Results.{GroupResult, broke_rule, group_result, wrote}
 use Rattle.executor.specs.declared.written_range.WrittenRange.{WrittenRange}
 use Rattle.policy.specs.Rules.{knows_client, knows_object, are_allowed}
@@ -251,16 +252,14 @@ module _ (start : Start) (es : List Entry) (told : Outcome) (effects : List Effe
     pub outcome_is : told ≡ outcome.Worked (worked.Ran group (group_count (packet.Kernel d) - (group + 1)))
 
   pub record GroupFaulted (queue : QueueId) (id : PacketId) (d : KernelDispatch) (group : ℕ) (result : GroupResult) : Type 0 where
-    pub item : ℕ
-    pub line : ℕ
-    pub rule : Rule
+    pub why : ItemFault
     pub effects_are : effects ≡ effect.Release queue id ∷ []
-    pub outcome_is : told ≡ outcome.Worked (worked.Faulted (group_error queue id group item line rule))
+    pub outcome_is : told ≡ outcome.Worked (worked.Faulted (group_error queue id group why))
 
   pub kernel-ended : (queue : QueueId) (id : PacketId) (d : KernelDispatch) (group : ℕ) (result : GroupResult) → group_owed queue id d group result ≡ enters told effects →
       GroupWrote queue id d group result ⊎ GroupFaulted queue id d group result
   kernel-ended queue id d group (wrote runs) same = inl (record { runs = runs; result_is = refl; effects_are = cc; outcome_is = cc })
-  kernel-ended queue id d group (broke_rule item line rule) same = inr (record { item = item; line = line; rule = rule; effects_are = cc; outcome_is = cc })
+  kernel-ended queue id d group (broke_rule f) same = inr (record { why = f; effects_are = cc; outcome_is = cc })
 
   pub record HasRun (queue : QueueId) (id : PacketId) : Type 0 where
     pub flying : InFlight

@@ -1,11 +1,14 @@
 pub mod More
 pub mod States
+mod Sameness
+mod Alike
 pub mod Meeting
 pub mod Legality
 pub mod Lists
 pub mod Launches
 pub mod Entered
 pub mod Flying
+pub mod Handed
 pub mod Launching
 pub mod Holding
 pub mod Behind
@@ -14,8 +17,9 @@ pub mod Changes
 pub mod Absent
 pub mod Apart
 pub mod Turns
+pub mod TakenIds
 pub mod Seeing
-pub mod Served
+pub mod ServedLaw
 pub mod FlightLaw
 pub mod Room
 mod Allowed

@@ -1,5 +1,5 @@
 -- One entry more: how each question's answer changes with it.
-use Rattle.std.proofs.Common.{◌≡◌, ℕ, ◌+◌, List, [], ◌∷◌, ◌++◌, refl, sym, ◌∙◌, ap, Bool, true, Option, append_assoc}
+use Rattle.std.proofs.Common.{◌≡◌, ℕ, ◌+◌, List, [], ◌∷◌, ◌++◌, sym, ◌∙◌, ap, true, append_assoc}
 use Rattle.std.specs.Prelude.{fold, if◌then◌else◌}
 use Rattle.std.proofs.lemmas.List.{append-nil}
 use Rattle.std.specs.List.{flat_map}
@@ -10,7 +10,6 @@ use Rattle.aql_packet.specs.declared.ids.QueueId.{QueueId}
 use Rattle.aql_packet.specs.declared.ids.PacketId.{PacketId}
 use Rattle.policy.specs.declared.object.Object.{Object}
 use Rattle.policy.specs.declared.rights.Right.{Right}
-use Rattle.queue_error.specs.declared.error.QueueError.{QueueError}
 use Rattle.core_model.specs.declared.entry.Entry.{Entry}
 use Rattle.core_model.specs.History.{Start, effects_of}
 use Rattle.core_model.specs.Grants.{in_force, in_force_after}

@@ -198,7 +198,7 @@ poll-never values queue id p so_far is =
 
 ended-never : (queue : QueueId) (id : PacketId) (d : KernelDispatch) (group : ℕ) (result : GroupResult) → group_owed queue id d group result ≡ refuses refusal.AuditFull → ⊥
 ended-never queue id d group (wrote runs) is = absurd cc
-ended-never queue id d group (broke_rule item line rule) is = absurd cc
+ended-never queue id d group (broke_rule f) is = absurd cc
 
 group-never : (start : Start) (entries : List Entry) (queue : QueueId) (id : PacketId) (own : GivenAtLaunch) (p : Packet) (so_far : Progress) → owed_group start entries queue id own p so_far ≡ refuses refusal.AuditFull → ⊥
 group-never start entries queue id own (packet.Agent dispatch) so_far is = by_run (nat_le 1 so_far.groups_run) is

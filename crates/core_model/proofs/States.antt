@@ -1,7 +1,7 @@
 -- A history that goes on from the state behind another is owed what the two in one are owed.
-use Rattle.std.proofs.Common.{◌≡◌, ℕ, ◌+◌, List, [], ◌∷◌, ◌++◌, length, refl, sym, ◌∙◌, ap, subst, Bool, Option, append_assoc, arith}
-use Rattle.std.specs.Prelude.{Some, None, map, ◌&&◌, ◌||◌, ◌⊎◌, fold, not, if◌then◌else◌}
-use Rattle.std.proofs.Common.{true, false, inl, inr}
+use Rattle.std.proofs.Common.{◌≡◌, ℕ, ◌+◌, ◌≤◌, List, [], ◌∷◌, ◌++◌, length, refl, sym, ◌∙◌, ap, subst, Bool, Option, append_assoc, arith}
+use Rattle.std.specs.Prelude.{Some, None, map, ◌&&◌, ◌||◌, fold, not, if◌then◌else◌}
+use Rattle.std.proofs.Common.{true, false}
 use Rattle.std.specs.List.{list_any}
 use Rattle.std.proofs.lemmas.List.{append-nil, length-append}
 use Rattle.std.proofs.lemmas.List.Sums.{fold-append}
@@ -14,19 +14,18 @@ use Rattle.core_model.specs.declared.entry.Entry.{Entry}
 use Rattle.core_model.specs.declared.event.Event.{Event}
 use Rattle.core_model.specs.declared.event.Query.{Query}
 use Rattle.core_model.specs.declared.flight.InFlight.{InFlight}
-use Rattle.core_model.specs.History.{Opening, Origin, Part, QueueOrigin, Start, begin, effects_of, no_queue, opening_origin, opening_state, packet_in, queue_in}
+use Rattle.core_model.specs.History.{IsOpeningOrigin, Opening, Origin, PacketOrigin, Part, QueueOrigin, Start, begin, effects_of, no_queue, opening_state, packet_in, queue_in}
 use Rattle.regions.specs.Memory.{byte_at, lies_in_region, zeros}
 use Rattle.regions.proofs.Laws.{byte_at-outside, byte_at-zeros, lengths_of-zeros}
-use Rattle.grants.specs.Cells.{has_right, item_at, place_of}
-use Rattle.policy.specs.Policy.{Declared, initial_values, numbered, region_lengths, rules_of}
+use Rattle.policy.specs.Policy.{Declared, numbered, region_lengths}
 use Rattle.core_model.specs.declared.event.Query.TheVariants as query
 use Rattle.std.specs.Option.{unwrap_or}
 use Rattle.core_model.specs.declared.flight.TheConstants.{LAUNCH_PROGRESS}
 use Rattle.kernel_check.specs.Programs.{Program}
-use Rattle.core_model.specs.Grants.{in_force, in_force_after}
+use Rattle.core_model.specs.Grants.{in_force}
 use Rattle.core_model.specs.Policies.{rows_at}
 use Rattle.core_model.specs.Memory.{byte_after, memory_at, signals, signals_after}
-use Rattle.core_model.specs.Queues.{openings, owner, next_id, errors, is_stopped}
+use Rattle.core_model.specs.Queues.{hands_over_packet_of, openings, owner, next_id, errors, is_stopped}
 use Rattle.core_model.specs.Flight.{flight, launched_by, progress, releases}
 use Rattle.core_model.specs.Holds.{along, arguments, arguments_after, arguments_if, gives, held, held_after, is_launch}
 use Rattle.core_model.specs.States.{state_after}
@@ -322,10 +321,6 @@ module _ (s : Start) (es : List Entry) (legal : IsLegal s es) (none : s.before �
 
 -- ---- what an opened core begins from
 
-none-granted : (right : Right) (place : Option ℕ) → has_right right (item_at [] place) ≡ false
-none-granted right None = refl
-none-granted right (Some place) = refl
-
 none-written : (lengths : List ℕ) (x : ℕ) → unwrap_or (byte_at (zeros lengths) x) 0 ≡ 0
 none-written lengths x = by_place (lies_in_region lengths x) refl
   where
@@ -336,24 +331,48 @@ none-written lengths x = by_place (lies_in_region lengths x) refl
 none-numbered : (n : ℕ) → numbered {X = QueueOrigin} [] n ≡ None
 none-numbered n = grind arith
 
+-- of no queues nothing is told
+none-told : (queues : List QueueOrigin) → queues ≡ [] → (queue : QueueId) → queue_in queues queue ≡ no_queue
+none-told queues none queue = ap (λ (qs : List QueueOrigin). queue_in qs queue) none ∙ ap (λ (o : Option QueueOrigin). unwrap_or o no_queue) (none-numbered queue.0)
+
 -- it is the opening state
-pub begin-opening : (policy : Declared) (kernels : List Program) → begin kernels (opening_origin policy) ≡ opening_state policy kernels
-begin-opening policy kernels = λ i. record {
-  policy = policy;
+pub begin-opening : (policy : Declared) (kernels : List Program) (o : Origin) → IsOpeningOrigin policy o → begin kernels o ≡ opening_state policy kernels
+begin-opening policy kernels o opened = λ i. record {
+  policy = record (opened.policy_is i) { rows = (opened.rules i).rows };
   kernels = kernels;
-  in_force = λ client on right. none-granted right (place_of (rules_of policy) client on) i;
-  memory = λ x. none-written (region_lengths policy) x i;
-  signals = initial_values policy;
-  openings = [];
-  next_id = λ queue. (unwrap_or (none-numbered queue.0 i) no_queue).next;
-  errors = λ queue. (unwrap_or (none-numbered queue.0 i) no_queue).errors;
-  is_stopped = λ queue. (unwrap_or (none-numbered queue.0 i) no_queue).stopped;
-  flight = [];
-  progress = λ queue id. LAUNCH_PROGRESS;
-  held = λ queue id client on right. false;
-  arguments = λ queue id. [];
-  before = 0;
+  in_force = λ client on right. opened.grants.none_in_force client on right i;
+  memory = λ x. (ap (λ (bytes : List (List ℕ)). unwrap_or (byte_at bytes x) 0) opened.memory ∙ none-written (region_lengths policy) x) i;
+  signals = opened.signals i;
+  openings = map (λ (q : QueueOrigin). q.opening) (opened.queues i);
+  next_id = λ queue. (none-told o.queues opened.queues queue i).next;
+  errors = λ queue. (none-told o.queues opened.queues queue i).errors;
+  is_stopped = λ queue. (none-told o.queues opened.queues queue i).stopped;
+  flight = map (λ (p : PacketOrigin). p.flying) (opened.packets i);
+  progress = λ queue id. elim (packet_in (opened.packets i) queue id) [ None ↦ LAUNCH_PROGRESS | Some p ↦ p.progress ];
+  held = λ queue id client on right. opened.grants.none_held queue id client on right i;
+  arguments = λ queue id. elim (packet_in (opened.packets i) queue id) [ None ↦ [] | Some p ↦ p.arguments ];
+  before = opened.before i;
 }
+
+-- no queue's next id is above how many entries came before
+next-along : (queue : QueueId) (from : ℕ) (es : List Entry) → fold (λ next entry. if hands_over_packet_of queue entry.event then next + 1 else next) from es ≤ from + length es
+next-along queue from [] = omega arith
+next-along queue from (e ∷ es) = by_test (hands_over_packet_of queue e.event) (next-along queue (from + 1) es) (next-along queue from es)
+  where
+    by_test : (b : Bool) → fold (λ next entry. if hands_over_packet_of queue entry.event then next + 1 else next) (from + 1) es ≤ (from + 1) + length es
+        → fold (λ next entry. if hands_over_packet_of queue entry.event then next + 1 else next) from es ≤ from + length es
+        → fold (λ next entry. if hands_over_packet_of queue entry.event then next + 1 else next) (if b then from + 1 else from) es ≤ from + length (e ∷ es)
+    by_test true one none = omega (arith, one)
+    by_test false one none = omega (arith, none)
+
+pub next_id-le : (s : Start) (es : List Entry) (queue : QueueId) → next_id s es queue ≤ s.next_id queue + length es
+unfolding next_id
+next_id-le s es queue = next-along queue (s.next_id queue) es
+
+pub next-before : (s : Start) (es : List Entry) → IsLegal s es → (queue : QueueId) → s.next_id queue ≤ s.before
+next-before s es legal queue =
+    let first = opening_state legal.first s.kernels in
+    subst (λ (now : Start). now.next_id queue ≤ now.before) (sym legal.start_is) (next_id-le first legal.prior queue)
 
 -- ---- parts
 

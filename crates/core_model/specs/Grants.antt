@@ -1,5 +1,5 @@
 -- Which rights are in force: what was granted, and neither revoked since nor taken by other rows.
-use Rattle.std.specs.Prelude.{ℕ, List, fold, Bool, false, ◌&&◌, ◌||◌, not}
+use Rattle.std.specs.Prelude.{ℕ, List, fold, Bool, ◌&&◌, ◌||◌, not}
 use Rattle.aql_packet.specs.declared.ids.ClientId.{ClientId}
 use Rattle.policy.specs.declared.object.Object.{Object}
 use Rattle.policy.specs.declared.object.Object.TheVariants as object

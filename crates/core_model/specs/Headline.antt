@@ -9,7 +9,7 @@ use Rattle.aql_packet.specs.declared.ids.KernelObject.{KernelObject}
 use Rattle.aql_packet.specs.declared.ids.SignalHandle.{SignalHandle}
 use Rattle.aql_packet.specs.declared.packet.Packet.{Packet}
 use Rattle.aql_packet.specs.declared.packet.Packet.TheVariants.{Agent, Kernel}
-use Rattle.aql_packet.specs.Layout.{Are64Bytes, PacketOf}
+use Rattle.aql_packet.specs.Layout.{PacketOf}
 use Rattle.aql_packet.specs.Reading.{barrier_bit, decoded, packet_at, packet_type}
 use Rattle.regions.specs.Memory.{is_within, region_of}
 use Rattle.signals.specs.declared.operation.SignalOp.{SignalOp}
@@ -143,7 +143,7 @@ pub record MayBeLaunched (start : Start) (before : List Entry) (queue : QueueId)
   pub id_is_next : id.0 ≡ next_id start before queue
   pub need_not_wait : cause_to_wait (map (λ f. f.packet) (flight_of start before queue)) (barrier_bit bytes) ≡ None
   pub is_read : decoded bytes ≡ Some packet
-  pub laid_out : Are64Bytes bytes → PacketOf bytes packet
+  pub laid_out : PacketOf bytes packet
   pub every_rule : All (λ rule. holds_rule (facts_of start before opening) bytes packet rule ≡ true) launch_rules
   pub rights : HasItsRights start before opening packet
   pub arguments : All (MayReachRange start before opening.client right.Read) (argument_ranges start packet)

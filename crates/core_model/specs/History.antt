@@ -1,11 +1,10 @@
 -- What a history is: what it begins from, and the entries since.
-use Rattle.std.specs.Prelude.{ℕ, ℤ, Bool, false, List, [], map, find, Option, Some, None}
+use Rattle.std.specs.Prelude.{◌≡◌, ℕ, ℤ, Bool, false, List, [], map, find, Option, Some, None}
 use Rattle.std.specs.List.{flat_map}
 use Rattle.std.specs.Option.{unwrap_or}
 use Rattle.aql_packet.specs.Ids.{same_packet}
-use Rattle.grants.specs.Ledger.{Ledger, holds, in_force}
+use Rattle.grants.specs.Ledger.{IsNew, holds, in_force, rules_in}
 use Rattle.regions.specs.Memory.{byte_at, zeros}
-use Rattle.aql_packet.specs.declared.ids.AgentHandle.{AgentHandle}
 use Rattle.aql_packet.specs.declared.ids.ClientId.{ClientId}
 use Rattle.aql_packet.specs.declared.ids.QueueId.{QueueId}
 use Rattle.aql_packet.specs.declared.ids.PacketId.{PacketId}
@@ -19,11 +18,10 @@ use Rattle.core_model.specs.declared.entry.Effect.{Effect}
 use Rattle.core_model.specs.declared.flight.InFlight.{InFlight}
 use Rattle.core_model.specs.declared.flight.Progress.{Progress}
 use Rattle.core_model.specs.declared.flight.TheConstants.{LAUNCH_PROGRESS}
-
--- a queue's opening: whose it is, and which agent runs its packets (own)
-pub record Opening : Type 0 where
-  pub client : ClientId
-  pub agent : AgentHandle
+pub use Rattle.core_model.specs.declared.origin.Opening.{Opening}
+pub use Rattle.core_model.specs.declared.origin.QueueOrigin.{QueueOrigin}
+pub use Rattle.core_model.specs.declared.origin.PacketOrigin.{PacketOrigin}
+pub use Rattle.core_model.specs.declared.origin.Origin.{Origin}
 
 -- some rights on objects: whether each is one of them (own)
 abbrev pub HeldRights : Type 0
@@ -74,32 +72,6 @@ opening_state policy kernels = record {
 
 -- ---- what a history begins from, as data: what a rotation copies
 
--- a queue: its opening, the id of its next packet, whether it was stopped, and its errors (own)
-pub record QueueOrigin : Type 0 where
-  pub opening : Opening
-  pub next : ℕ
-  pub stopped : Bool
-  pub errors : List QueueError
-
--- a packet in flight: how far it has come, and its argument block as it was at its launch (own)
-pub record PacketOrigin : Type 0 where
-  pub flying : InFlight
-  pub progress : Progress
-  pub arguments : List ℕ
-
--- what a history begins from; its packets in the order in which they were launched (own)
-pub record Origin : Type 0 where
-  pub policy : Declared
-  -- what is in force, and what packets in flight hold
-  pub grants : Ledger
-  -- the bytes of each region
-  pub memory : List (List ℕ)
-  pub signals : List ℤ
-  pub queues : List QueueOrigin
-  pub packets : List PacketOrigin
-  -- how many entries came before
-  pub before : ℕ
-
 -- what is told of a queue that isn't there (own)
 abbrev pub no_queue : QueueOrigin
 no_queue = record { opening = record { client = record { 0 = 0 }; agent = record { 0 = 0 } }; next = 0; stopped = false; errors = [] }
@@ -112,10 +84,14 @@ queue_in queues queue = unwrap_or (numbered queues queue.0) no_queue
 abbrev pub packet_in : List PacketOrigin → QueueId → PacketId → Option PacketOrigin
 packet_in packets queue id = find (λ p. same_packet p.flying.queue p.flying.id queue id) packets
 
+-- the policy in force: what was declared, with the rows on rights by which grants are allowed (own)
+abbrev pub policy_in : Origin → Declared
+policy_in o = record o.policy { rows = (rules_in o.grants).rows }
+
 -- the answers that it gives to each question, with these kernels (own)
 abbrev pub begin : List Program → Origin → Start
 begin kernels o = record {
-  policy = o.policy;
+  policy = policy_in o;
   kernels = kernels;
   in_force = in_force o.grants;
   memory = λ x. unwrap_or (byte_at o.memory x) 0;
@@ -133,16 +109,15 @@ begin kernels o = record {
 
 -- what a core begins from that is opened over a policy: no right in force or held, memory of zeros, the policy's signal values, no queue
 -- and no packet, and nothing before (own)
-abbrev pub opening_origin : Declared → Origin
-opening_origin policy = record {
-  policy = policy;
-  grants = record { table = record { rules = rules_of policy; cells = [] }; list = []; room = 0 };
-  memory = zeros (region_lengths policy);
-  signals = initial_values policy;
-  queues = [];
-  packets = [];
-  before = 0;
-}
+pub record IsOpeningOrigin (policy : Declared) (o : Origin) : Type 0 where
+  pub policy_is : o.policy ≡ policy
+  pub rules : rules_in o.grants ≡ rules_of policy
+  pub grants : IsNew o.grants
+  pub memory : o.memory ≡ zeros (region_lengths policy)
+  pub signals : o.signals ≡ initial_values policy
+  pub queues : o.queues ≡ []
+  pub packets : o.packets ≡ []
+  pub before : o.before ≡ 0
 
 -- an audit: what it begins from, how many entries it has place for, and its entries in order (own)
 pub record History : Type 0 where

@@ -17,7 +17,7 @@ use Rattle.kernel_check.specs.Programs.{Program}
 use Rattle.policy.specs.Policy.{Declared}
 use Rattle.policy.specs.Declaring.{DeclaresAs}
 use Rattle.policy.specs.Results.{map_ok}
-use Rattle.core_model.specs.History.{History, Origin, Part, Start, begin, beginning, opening_state}
+use Rattle.core_model.specs.History.{History, Origin, Part, Start, begin, beginning, opening_state, policy_in}
 use Rattle.grants.specs.Ledger as ledger
 use Rattle.aql_packet.specs.declared.ids.ClientId.{ClientId}
 use Rattle.aql_packet.specs.declared.ids.QueueId.{QueueId}
@@ -29,8 +29,9 @@ use Rattle.core_model.specs.Flight.{flight, flight_after}
 use Rattle.core_model.specs.Owed.{Owed, refuses, answers, enters, owed}
 use Rattle.core_model.specs.Queries.{AnswerOrRefusal, query_answer}
 
--- the history of a core that was just opened: it begins from the opening state, and has no entry yet (own)
+-- the history of a core that was just opened: it begins from the opening state, over this policy, and has no entry yet (own)
 pub record IsOpening (history : History) (policy : Declared) (kernels : List Program) (capacity : ℕ) : Type 0 where
+  pub policy_is : history.origin.policy ≡ policy
   pub start_is : beginning history ≡ opening_state policy kernels
   pub kernels_are : history.kernels ≡ kernels
   pub capacity_is : history.capacity ≡ capacity
@@ -60,9 +61,9 @@ pub record IsLegalPart (kernels : List Program) (part : Part) : Type 0 where
   pub legal : IsLegal (begin kernels part.start) part.entries
   pub end_is : begin kernels part.end ≡ state_after (begin kernels part.start) part.entries
 
--- two are the same to begin from: the same data, with grants told by their look-ups (own)
+-- two are the same to begin from: the same policy in force, grants told by their look-ups, and all else equal (own)
 pub record SameOrigin (one other : Origin) : Type 0 where
-  pub policy : one.policy ≡ other.policy
+  pub policy : policy_in one ≡ policy_in other
   pub granted : (client : ClientId) (on : Object) (right : Right) → ledger.in_force one.grants client on right ≡ ledger.in_force other.grants client on right
   pub held : (queue : QueueId) (id : PacketId) (client : ClientId) (on : Object) (right : Right) → ledger.holds one.grants queue id client on right ≡ ledger.holds other.grants queue id client on right
   pub memory : one.memory ≡ other.memory

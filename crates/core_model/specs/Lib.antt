@@ -15,6 +15,8 @@ pub mod States
 pub mod Owed
 pub mod Queries
 pub mod Legal
+pub mod Rotation
+pub mod Takes
 pub mod Room
 pub mod Headline
 pub mod inner

@@ -10,6 +10,7 @@ use Rattle.aql_packet.specs.declared.packet.Packet.{Packet}
 use Rattle.aql_packet.specs.declared.packet.Packet.TheVariants as packet
 use Rattle.aql_packet.specs.Reading.{barrier_bit}
 use Rattle.aql_packet.specs.Ring.{is_ring_size}
+use Rattle.executor.specs.declared.fault.ItemFault.{ItemFault}
 use Rattle.executor.specs.Results.{GroupResult, broke_rule, group_result, wrote}
 use Rattle.signals.specs.Values.{applied, value_of}
 use Rattle.signals.specs.declared.operation.SignalOp.{SignalOp}
@@ -101,10 +102,10 @@ for_packet start entries queue id rest =
     for_some (owner start entries queue) (refuses refusal.UnknownQueue) (λ opening.
     for_some (in_flight start entries queue id) (refuses refusal.NotInFlight) (λ f. rest f.packet (progress start entries queue id)))
 
--- the error of a packet whose group broke a rule: it names the group, the item and the line
-abbrev pub group_error : QueueId → PacketId → ℕ → ℕ → ℕ → Rule → QueueError
-group_error queue id group item line rule =
-    record { queue = queue; packet = id; rule = rule; place = Some (record { group = group; item = item; line = line }) }
+-- the error of a packet whose group broke a rule: it names the group, the item, the line and the address (own)
+abbrev pub group_error : QueueId → PacketId → ℕ → ItemFault → QueueError
+group_error queue id group f =
+    record { queue = queue; packet = id; rule = f.rule; place = Some (record { group = group; item = f.item; line = f.line; address = f.address }) }
 
 -- a group that breaks a rule leaves nothing, and its packet is released (own)
 abbrev pub fault_owed : QueueError → Owed
@@ -114,7 +115,7 @@ fault_owed error = enters (outcome.Worked (Faulted error)) (effect.Release error
 abbrev pub group_owed : QueueId → PacketId → KernelDispatch → ℕ → GroupResult → Owed
 group_owed queue id d group (wrote runs) =
     enters (outcome.Worked (Ran group (group_count (packet.Kernel d) - (group + 1)))) (map write_of_run runs)
-group_owed queue id d group (broke_rule item line rule) = fault_owed (group_error queue id group item line rule)
+group_owed queue id d group (broke_rule f) = fault_owed (group_error queue id group f)
 
 -- the next group of a packet in flight, in order, by what the packet was given at its launch: a kernel's work-groups are run one at a
 -- time; an agent dispatch has one group, number 0, and never faults

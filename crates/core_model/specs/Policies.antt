@@ -1,5 +1,5 @@
 -- The policy in force: all that the start's declares, with the rows of the last reload.
-use Rattle.std.specs.Prelude.{◌≡◌, List, fold}
+use Rattle.std.specs.Prelude.{List, fold}
 use Rattle.policy.specs.declared.rows.PolicyRows.{PolicyRows}
 use Rattle.policy.specs.Policy.{Declared}
 use Rattle.core_model.specs.declared.event.Event.{Event}

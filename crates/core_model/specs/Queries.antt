@@ -57,4 +57,4 @@ query_answer start entries (query.List client) =
     (Ok (answer.Listing (listing start entries client)))
 query_answer start entries (query.Errors queue) =
     for_some (owner start entries queue) (Err refusal.UnknownQueue) (λ opening. Ok (answer.Errors (errors start entries queue)))
-query_answer start entries query.Audit = Ok (answer.Audit entries)
+query_answer start entries query.Audit = Ok (answer.Audit start.before entries)

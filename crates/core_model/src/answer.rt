@@ -22,8 +22,11 @@ pub enum Answer {
     Listing(Sequence<(Object, Rights)>),
     /// A queue's errors, in order.
     Errors(Sequence<QueueError>),
-    /// The audit's entries, in order.
-    Audit(Sequence<Entry>),
+    /// The audit's entries, in order, and how many came before: the first of them is the one behind these.
+    Audit {
+        before: u64,
+        entries: Sequence<Entry>,
+    },
 }
 
 /// The answer to a request, or why it was refused.

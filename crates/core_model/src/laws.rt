@@ -1,7 +1,7 @@
 //! What a legal history shows: for each thing that it tells, who asked for it, and which grant in
 //! force allowed it; and what clients are told.
 
-ghost use Rattle.std.specs.Prelude.{ℕ, ℤ, List, [], ◌∷◌, ◌++◌, ◌≡◌, ◌⊎◌, All, None, Some, Result, Ok, Err, true, false, length};
+ghost use Rattle.std.specs.Prelude.{ℕ, ℤ, List, [], ◌∷◌, ◌++◌, ◌+◌, ◌≡◌, ◌⊎◌, All, None, Some, Result, Ok, Err, true, false, length, slice_get};
 ghost use Rattle.aql_packet.specs.declared.ids.Address.{Address};
 ghost use Rattle.aql_packet.specs.declared.ids.AgentHandle.{AgentHandle};
 ghost use Rattle.aql_packet.specs.declared.ids.ClientId.{ClientId};
@@ -42,9 +42,12 @@ ghost use Rattle.core_model.specs.declared.outcome.Taken.TheVariants as taken;
 ghost use Rattle.core_model.specs.declared.outcome.Worked.TheVariants as worked;
 ghost use Rattle.core_model.specs.declared.refusal.Refusal.{Refusal};
 ghost use Rattle.core_model.specs.declared.refusal.Refusal.TheVariants as refusal;
-ghost use Rattle.core_model.specs.History.{History, Part, Start, begin, beginning, opening_origin, opening_state};
+ghost use Rattle.core_model.specs.declared.served.Served.{Served};
+ghost use Rattle.core_model.specs.History.{History, IsOpeningOrigin, Origin, Part, Start, begin, beginning, opening_state};
 ghost use Rattle.core_model.specs.Policies.{policy_at};
+ghost use Rattle.core_model.specs.Rotation.{LeadTo, entries_in, first_start};
 ghost use Rattle.core_model.specs.States.{state_after};
+ghost use Rattle.core_model.specs.Takes.{takes};
 ghost use Rattle.kernel_check.specs.Programs.{Program};
 ghost use Rattle.core_model.specs.Grants.{in_force};
 ghost use Rattle.core_model.specs.Memory.{memory_at, memory_from, signals};
@@ -80,6 +83,14 @@ pub fn each_packet_is_taken_in_turn()
         (told ≡ outcome.Taken taken.Launched) ⊎ (error : QueueError) × (told ≡ outcome.Taken (taken.Denied error)) }
     ensures once { (start : Start) (entries : List Entry) (queue : QueueId) (id : PacketId) →
         IsWhole start entries → (one other : Launch start entries queue id) → (one.before ≡ other.before) × (one.packet ≡ other.packet) }
+{}
+
+/// What a legal history takes of a queue has the ids from its start's next one on, each once, in order; the next
+/// id is the first that was not taken.
+pub fn taken_ids_go_on_from_the_start()
+    ensures ids { (start : Start) (entries : List Entry) (queue : QueueId) (place : ℕ) (served : Served) →
+        IsLegal start entries → slice_get (takes entries queue) place ≡ Some served → served.id.0 ≡ next_id start [] queue + place }
+    ensures count { (start : Start) (entries : List Entry) (queue : QueueId) → next_id start entries queue ≡ next_id start [] queue + length (takes entries queue) }
 {}
 
 /// A denied packet's error names the packet and the first launch rule that fails by the grants in force
@@ -284,6 +295,14 @@ pub fn joined_parts_are_legal()
     ensures { (kernels : List Program) (first second : Part) → IsLegalPart kernels first → IsLegalPart kernels second → IsFollowedBy first second → IsLegalPart kernels (joined first second) }
 {}
 
+/// Parts that are legal for some kernels, and lead to where a history begins that is legal for them, are with
+/// that history one whole legal history: no entry came before.
+pub fn parts_lead_to_whole_histories()
+    ensures { (kernels : List Program) (parts : List Part) (origin : Origin) (entries : List Entry) →
+        All (IsLegalPart kernels) parts → LeadTo parts origin → IsLegal (begin kernels origin) entries →
+        IsWhole (begin kernels (first_start parts origin)) (entries_in parts ++ entries) }
+{}
+
 /// A history goes on from the state behind its entries: that state begins a legal one, where they are
 /// legal, and a legal history may be parted and joined at any place. What a legal history ends in is what
 /// the whole one does that led to it, so that each law of whole histories speaks of it too. What an event
@@ -303,7 +322,7 @@ pub fn histories_go_on_from_their_states()
 /// What an opened core begins from is the opening state; a history that begins there is legal just where
 /// it is whole: no entry came before.
 pub fn whole_histories_begin_at_an_opening()
-    ensures opened { (policy : Declared) (kernels : List Program) → begin kernels (opening_origin policy) ≡ opening_state policy kernels }
+    ensures opened { (policy : Declared) (kernels : List Program) (origin : Origin) → IsOpeningOrigin policy origin → begin kernels origin ≡ opening_state policy kernels }
     ensures legal { (start : Start) (entries : List Entry) → IsWhole start entries → IsLegal start entries }
     ensures whole { (start : Start) (entries : List Entry) → start.before ≡ 0 → IsLegal start entries → IsWhole start entries }
 {}

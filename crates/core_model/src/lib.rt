@@ -11,8 +11,11 @@ mod kernel;
 mod laws;
 mod limits;
 mod need;
+mod origin;
 mod outcome;
+mod part;
 mod refusal;
+mod served;
 
 pub use answer::{Answer, Reply};
 pub use effects::Effects;
@@ -29,13 +32,16 @@ pub use laws::{
     each_release_is_due, each_right_in_force_is_allowed, each_signal_change_was_granted,
     each_write_was_granted, faults_release_alone, groups_depend_on_what_they_read,
     held_rights_are_in_force, histories_go_on_from_their_states, joined_parts_are_legal,
-    law_of_flight, nothing_is_told_of_what_is_not_there, refusals_change_nothing,
-    serving_keeps_a_history_legal, what_leaves_flight_finds_room,
-    whole_histories_begin_at_an_opening,
+    law_of_flight, nothing_is_told_of_what_is_not_there, parts_lead_to_whole_histories,
+    refusals_change_nothing, serving_keeps_a_history_legal, taken_ids_go_on_from_the_start,
+    what_leaves_flight_finds_room, whole_histories_begin_at_an_opening,
 };
 pub use limits::{
-    MOST_ENTRIES, MOST_GROUP_ITEMS, MOST_HOST_BYTES, MOST_SEGMENT_BYTES, QUEUES, SLOTS,
+    MOST_BEFORE, MOST_ENTRIES, MOST_GROUP_ITEMS, MOST_HOST_BYTES, MOST_SEGMENT_BYTES, QUEUES, SLOTS,
 };
 pub use need::{ADD64, AgentFunction, COPY, FILL, Need, Range, Subject};
+pub use origin::{Opening, Origin, PacketOrigin, QueueOrigin};
 pub use outcome::{NONE_SATISFIED, Outcome, Polled, Satisfied, Taken, WaitCause, Worked};
+pub use part::{JoinFault, NotJoined, Part, join, lead_to};
 pub use refusal::Refusal;
+pub use served::Served;

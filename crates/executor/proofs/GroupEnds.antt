@@ -38,7 +38,7 @@ module _ (i : GroupInput) (location : Location) (count : ℕ) (first : Contents)
 
   pub failed_as : (e : RunFault) → Fails own i.program (beginning count first) e → FailsAs i e
   failed_as fault.OutOfMemory fails = tt
-  failed_as (fault.Fault f) fails = (leads_begun (faulted f.item f.line f.rule) fails, comes_to (faulted f.item f.line f.rule) tt fails)
+  failed_as (fault.Fault f) fails = (leads_begun (faulted f) fails, comes_to (faulted f) tt fails)
 
 -- no more of a product than of the product of what its factors are at the most
 product_le : (a b c x y z : ℕ) → a ≤ x → b ≤ y → c ≤ z → a * b * c ≤ x * y * z

@@ -1,6 +1,6 @@
 -- An item that runs until it stops is the least item first.
 use Rattle.executor.proofs.Maps.{get_past}
-use Rattle.std.proofs.Common.{◌≡◌, ◌==◌, false, cond, Option, Some, length, ℕ, zero, suc, ◌+◌, ◌<◌, ◌≤◌, List, [], ◌∷◌, ◌++◌, slice_index, arith, refl, sym, ap, ◌∙◌, subst}
+use Rattle.std.proofs.Common.{◌≡◌, ◌==◌, false, cond, Option, Some, None, length, ℕ, zero, suc, ◌+◌, ◌<◌, ◌≤◌, List, [], ◌∷◌, ◌++◌, slice_index, arith, refl, sym, ap, ◌∙◌, subst}
 use Rattle.executor.specs.Group.{Standing, ready, waiting, ended, Advance, stepped, settled, failed, context_of_item, taken, behind, advance, Status, running, faulted, least_waiting, met, followed, follow, LeadsIn, Leads}
 use Rattle.executor.specs.Items.{Contents, Surroundings}
 use Rattle.executor.specs.inner.Stops.{AreStopped}
@@ -12,8 +12,10 @@ use Rattle.kernel_check.specs.declared.step.Step.{Step}
 use Rattle.queue_error.specs.declared.rule.Rule.TheVariants.{A5}
 use Rattle.std.specs.Prelude.{slice_get}
 use Rattle.std.proofs.lemmas.Bool.Decides.{nat_tests}
+use Rattle.executor.specs.declared.fault.ItemFault.{ItemFault}
 use Rattle.executor.specs.declared.item.Item.{Item}
 use Rattle.kernel_check.specs.Programs.{Program}
+use Rattle.queue_error.specs.declared.error.SegmentAddress.{SegmentAddress}
 use Rattle.queue_error.specs.declared.rule.Rule.{Rule}
 
 -- items before those of which a turn is told
@@ -25,9 +27,9 @@ stepped_behind : (earlier items : List Standing) (m : Contents) → behind_all e
 stepped_behind [] items m = refl
 stepped_behind (s ∷ rest) items m = ap (behind s) (stepped_behind rest items m)
 
-failed_behind : (earlier : List Standing) (n line : ℕ) (rule : Rule) → behind_all earlier (failed n line rule) ≡ failed n line rule
-failed_behind [] n line rule = refl
-failed_behind (s ∷ rest) n line rule = ap (behind s) (failed_behind rest n line rule)
+failed_behind : (earlier : List Standing) (f : ItemFault) → behind_all earlier (failed f) ≡ failed f
+failed_behind [] f = refl
+failed_behind (s ∷ rest) f = ap (behind s) (failed_behind rest f)
 
 module _ (a : Surroundings) (p : Program) where
   -- the least item that can take a turn is the first behind those that can't
@@ -101,11 +103,14 @@ module _ (a : Surroundings) (p : Program) where
         → Leads a p from (running (earlier ++ ended ∷ rest) after_m)
     ends_now after_m is = steps_to (ends after_m) (ended ∷ rest) after_m refl is
 
-    pub breaks_now : (rule : Rule) → turn (context_of_item a n) p.steps i executed m ≡ broke rule → Leads a p from (faulted n (slice_index p.lines i.next) rule)
-    breaks_now rule is =
-        leads_trans from (running (at earlier i executed rest) m) (faulted n line rule) before
-        (leads_one (running (at earlier i executed rest) m) (faulted n line rule)
-        (one_turn (broke rule) is ∙ ap (followed p (at earlier i executed rest) m) (failed_behind earlier n line rule)))
+    abbrev pub fault_here : Rule → Option SegmentAddress → ItemFault
+    fault_here rule address = record { item = n; line = line; rule = rule; address = address }
+
+    pub breaks_now : (rule : Rule) (address : Option SegmentAddress) → turn (context_of_item a n) p.steps i executed m ≡ broke rule address → Leads a p from (faulted (fault_here rule address))
+    breaks_now rule address is =
+        leads_trans from (running (at earlier i executed rest) m) (faulted (fault_here rule address)) before
+        (leads_one (running (at earlier i executed rest) m) (faulted (fault_here rule address))
+        (one_turn (broke rule address) is ∙ ap (followed p (at earlier i executed rest) m) (failed_behind earlier (fault_here rule address))))
 
   -- none can take a turn
   pub meet : (items : List Standing) (m : Contents) (o : Option Waiter) → AreStopped items → least_waiting 0 items ≡ o → follow a p (running items m) ≡ met p items m o
@@ -118,7 +123,7 @@ pub acts_turn : (a : Surroundings) (steps : List Step) (i now : Item) (m after_m
 acts_turn a steps i now m after_m s o found acts executed few =
     let within : (executed == 65536) ≡ false = grind (arith, nat_tests) in
     let same : turn a steps i executed m ≡ act a i m s =
-    ap (turn_at a i executed m) found ∙ ap (λ b. cond b (broke A5) (act a i m s)) within in
+    ap (turn_at a i executed m) found ∙ ap (λ b. cond b (broke A5 None) (act a i m s)) within in
     subst (λ t. Acts t o now after_m) (sym same) acts
 
 get_there : {X : Type 0} (xs : List X) (i : ℕ) → i < length xs → (x : X) × (slice_get xs i ≡ Some x)
@@ -128,7 +133,7 @@ get_there (x ∷ xs) (suc i) h = get_there xs i (omega arith)
 
 -- an item that has a step left and no budget
 pub spent : (a : Surroundings) (steps : List Step) (i : Item) (executed : ℕ) (m : Contents) → i.next < length steps → executed ≡ 65536
-    → turn a steps i executed m ≡ broke A5
+    → turn a steps i executed m ≡ broke A5 None
 spent a steps i executed m there all =
     ap (λ n. turn a steps i n m) all ∙ ap (turn_at a i 65536 m) (get_there steps i.next there).1
 

@@ -1,5 +1,5 @@
 -- What a group has written lies in regions that are held with WRITE.
-use Rattle.std.proofs.Common.{◌≡◌, ℕ, zero, suc, ◌+◌, ◌-◌, ◌/◌, ◌%◌, ◌^◌, ◌<◌, ◌≤◌, List, [], ◌∷◌, length, take, slice_index, arith, refl, sym, ap, ◌∙◌, subst, Bool, true, false, Option, Some, None, Result, Ok, Err}
+use Rattle.std.proofs.Common.{◌≡◌, ℕ, zero, suc, ◌+◌, ◌/◌, ◌%◌, ◌^◌, ◌<◌, ◌≤◌, List, [], ◌∷◌, length, take, slice_index, arith, refl, sym, ap, ◌∙◌, subst, Bool, true, false, Option, Some, None, Result, Ok, Err}
 use Rattle.byteorder.specs.Endian.{little_number}
 use Rattle.std.specs.List.{list_all}
 use Rattle.std.specs.Prelude.{All, map, ◌==◌, ◌&&◌, nat_lt, nat_le, not, slice_get, if◌then◌else◌}
@@ -11,7 +11,7 @@ use Rattle.std.proofs.lemmas.List.Elements.{All-nil, All-head, All-tail, All-wea
 use Rattle.policy.specs.Rights.{has}
 use Rattle.policy.specs.declared.rights.Right.TheVariants.{Read, Write}
 use Rattle.queue_error.specs.declared.rule.Rule.{Rule}
-use Rattle.queue_error.specs.declared.rule.Rule.TheVariants.{A2, A3, A5, A6}
+use Rattle.queue_error.specs.declared.rule.Rule.TheVariants.{A2, A3, A5}
 use Rattle.kernel_check.specs.Programs.{Program}
 use Rattle.kernel_check.specs.Steps.{number_bytes}
 use Rattle.kernel_check.specs.declared.step.Step.{Step}
@@ -19,7 +19,7 @@ use Rattle.kernel_check.specs.declared.step.Step.TheVariants as step
 use Rattle.executor.specs.Accesses.{covers_address, region_of, atomic_broken, atomic_broken_in, broken, broken_in, group_loaded, group_stored, lent, loaded, or_misaligned, stored, unless_broken}
 use Rattle.executor.specs.Addresses.{address_of, group_address_of}
 use Rattle.executor.specs.Atomics.{bytes_found, left32, left64, place_of, put, replacing32, replacing64}
-use Rattle.executor.specs.Group.{Standing, ready, waiting, ended, Advance, stepped, settled, failed, context_of_item, taken, behind, advance, Status, running, done, faulted, least_waiting, waits_before, released, met, followed, follow}
+use Rattle.executor.specs.Group.{Standing, ready, waiting, ended, Advance, stepped, settled, failed, context_of_item, taken, behind, advance, Status, running, done, faulted, least_waiting, waits_before, released, met, followed, follow, divergence}
 use Rattle.executor.specs.Items.{Contents, LentRegion, Surroundings}
 use Rattle.executor.specs.Laws.{AreShort, IsHeldAt, IsHeldRun}
 use Rattle.executor.specs.Meaning.{Act, goes_on, arrives, ends, broke, act, after_load, after_store, after_group_store, after_atomic32, after_atomic64, turn, turn_at}
@@ -28,8 +28,8 @@ use Rattle.executor.specs.Results.{wrote, after_turns, most_turns, result_at, gr
 use Rattle.executor.specs.Runs.{GroupInput, begun, surroundings_of}
 use Rattle.executor.specs.Told.{runs_of}
 use Rattle.executor.specs.Written.{laid, seen}
-use Rattle.executor.specs.declared.atomic_place.AtomicPlace.{AtomicPlace}
-use Rattle.executor.specs.declared.atomic_place.AtomicPlace.TheVariants as place
+use Rattle.queue_error.specs.declared.error.SegmentAddress.{SegmentAddress}
+use Rattle.queue_error.specs.declared.error.SegmentAddress.TheVariants as segment
 use Rattle.executor.specs.declared.item.Item.{Item}
 use Rattle.executor.specs.declared.rounds.Waiter.{Waiter}
 use Rattle.executor.specs.declared.written_range.WrittenRange.{WrittenRange}
@@ -127,17 +127,17 @@ module _ (view : List LentRegion) (short : AreShort view) where
       by_read true same = aligned (broken_in (Some region) Write address n) address n same
       by_read false same = absurd cc
 
-  put_kept : (m : Contents) → Kept m.written → (x : AtomicPlace) (n : ℕ) (old bytes : List ℕ) → length bytes ≤ n → bytes_found view m x n ≡ Ok old → Kept (put m x bytes).written
-  put_kept m kept (place.Global x) n old bytes few is =
+  put_kept : (m : Contents) → Kept m.written → (x : SegmentAddress) (n : ℕ) (old bytes : List ℕ) → length bytes ≤ n → bytes_found view m x n ≡ Ok old → Kept (put m x bytes).written
+  put_kept m kept (segment.Global x) n old bytes few is =
       let r = unbroken (atomic_broken view x n) (seen m.written x (lent view x n)) old is in
       allowed_kept m.written kept x n bytes few (region_of view x) refl (atomic_allowed (region_of view x) x n r.0)
-  put_kept m kept (place.Group x) n old bytes few is = kept
+  put_kept m kept (segment.Group x) n old bytes few is = kept
 
-  left32_kept : (m : Contents) → Kept m.written → (x : AtomicPlace) (old : List ℕ) (o : Option ℕ) → bytes_found view m x 4 ≡ Ok old → Kept (left32 m x o).written
+  left32_kept : (m : Contents) → Kept m.written → (x : SegmentAddress) (old : List ℕ) (o : Option ℕ) → bytes_found view m x 4 ≡ Ok old → Kept (left32 m x o).written
   left32_kept m kept x old None is = kept
   left32_kept m kept x old (Some value) is = put_kept m kept x 4 old (to_le_bytes w32 value) (omega arith) is
 
-  left64_kept : (m : Contents) → Kept m.written → (x : AtomicPlace) (old : List ℕ) (o : Option ℕ) → bytes_found view m x 8 ≡ Ok old → Kept (left64 m x o).written
+  left64_kept : (m : Contents) → Kept m.written → (x : SegmentAddress) (old : List ℕ) (o : Option ℕ) → bytes_found view m x 8 ≡ Ok old → Kept (left64 m x o).written
   left64_kept m kept x old None is = kept
   left64_kept m kept x old (Some value) is = put_kept m kept x 8 old (to_le_bytes w64 value) (omega arith) is
 
@@ -147,17 +147,17 @@ module _ (view : List LentRegion) (short : AreShort view) where
   KeptAct (goes_on i m) = Kept m.written
   KeptAct (arrives i m) = Kept m.written
   KeptAct (ends m) = Kept m.written
-  KeptAct (broke rule) = Unit {0}
+  KeptAct (broke rule address) = Unit {0}
 
   abbrev KeptAdvance : Advance → Type 0
   KeptAdvance (stepped items m) = Kept m.written
   KeptAdvance settled = Unit {0}
-  KeptAdvance (failed item line rule) = Unit {0}
+  KeptAdvance (failed f) = Unit {0}
 
   abbrev KeptStatus : Status → Type 0
   KeptStatus (running items m) = Kept m.written
   KeptStatus (done m) = Kept m.written
-  KeptStatus (faulted item line rule) = Unit {0}
+  KeptStatus (faulted f) = Unit {0}
 
   module _ (p : Program) where
     act_kept : (a : Surroundings) → a.view ≡ view → (i : Item) (m : Contents) (s : Step) → Kept m.written → KeptAct (act a i m s)
@@ -168,25 +168,25 @@ module _ (view : List LentRegion) (short : AreShort view) where
     act_kept a same i m (step.Argument l) kept = kept
     act_kept a same i m (step.Load l) kept = by_result (loaded a.view m.written (address_of i.registers l.pointer) (number_bytes l.kind))
       where
-        by_result : (r : Result ℕ Rule) → KeptAct (after_load i m l.target l.kind r)
+        by_result : (r : Result ℕ Rule) → KeptAct (after_load i m l.target l.kind (segment.Global (address_of i.registers l.pointer)) r)
         by_result (Ok value) = kept
         by_result (Err rule) = tt
     act_kept a same i m (step.Store s) kept = by_result (stored a.view m.written (address_of i.registers s.pointer) (number_bytes s.kind) (read_any i.registers s.source)) refl
       where
-        by_result : (r : Result (ℕ → Option ℕ) Rule) → stored a.view m.written (address_of i.registers s.pointer) (number_bytes s.kind) (read_any i.registers s.source) ≡ r → KeptAct (after_store i m r)
+        by_result : (r : Result (ℕ → Option ℕ) Rule) → stored a.view m.written (address_of i.registers s.pointer) (number_bytes s.kind) (read_any i.registers s.source) ≡ r → KeptAct (after_store i m (segment.Global (address_of i.registers s.pointer)) r)
         by_result (Ok now) is =
             stored_kept m.written kept (address_of i.registers s.pointer) (number_bytes s.kind) (read_any i.registers s.source) now
             (subst (λ v. stored v m.written (address_of i.registers s.pointer) (number_bytes s.kind) (read_any i.registers s.source) ≡ Ok now) same is)
         by_result (Err rule) is = tt
     act_kept a same i m (step.LoadGroup l) kept = by_result (group_loaded m.group (group_address_of i.registers l.pointer) (number_bytes l.kind))
       where
-        by_result : (r : Result ℕ Rule) → KeptAct (after_load i m l.target l.kind r)
+        by_result : (r : Result ℕ Rule) → KeptAct (after_load i m l.target l.kind (segment.Group (group_address_of i.registers l.pointer)) r)
         by_result (Ok value) = kept
         by_result (Err rule) = tt
     act_kept a same i m (step.StoreGroup s) kept =
         by_result (group_stored m.group (group_address_of i.registers s.pointer) (number_bytes s.kind) (read_any i.registers s.source))
       where
-        by_result : (r : Result (List ℕ) Rule) → KeptAct (after_group_store i m r)
+        by_result : (r : Result (List ℕ) Rule) → KeptAct (after_group_store i m (segment.Group (group_address_of i.registers s.pointer)) r)
         by_result (Ok group) = kept
         by_result (Err rule) = tt
     act_kept a same i m (step.Atomic32 s) kept = by_result (bytes_found a.view m (place_of i.registers s.pointer) 4) refl
@@ -212,7 +212,7 @@ module _ (view : List LentRegion) (short : AreShort view) where
     turn_kept : (a : Surroundings) → a.view ≡ view → (i : Item) (executed : ℕ) (m : Contents) → Kept m.written → KeptAct (turn a p.steps i executed m)
     turn_kept a same i executed m kept = by_step (slice_get p.steps i.next)
       where
-        by_test : (s : Step) (b : Bool) → KeptAct (if b then broke A5 else act a i m s)
+        by_test : (s : Step) (b : Bool) → KeptAct (if b then broke A5 None else act a i m s)
         by_test s true = tt
         by_test s false = act_kept a same i m s kept
 
@@ -224,12 +224,12 @@ module _ (view : List LentRegion) (short : AreShort view) where
     taken_kept n line executed rest (goes_on i m) kept = kept
     taken_kept n line executed rest (arrives i m) kept = kept
     taken_kept n line executed rest (ends m) kept = kept
-    taken_kept n line executed rest (broke rule) kept = tt
+    taken_kept n line executed rest (broke rule address) kept = tt
 
     behind_kept : (before : Standing) (next : Advance) → KeptAdvance next → KeptAdvance (behind before next)
     behind_kept before (stepped items m) kept = kept
     behind_kept before settled kept = tt
-    behind_kept before (failed item line rule) kept = tt
+    behind_kept before (failed f) kept = tt
 
     advance_kept : (a : Surroundings) → a.view ≡ view → (items : List Standing) (n : ℕ) (m : Contents) → Kept m.written → KeptAdvance (advance a p n items m)
     advance_kept a same [] n m kept = tt
@@ -242,19 +242,19 @@ module _ (view : List LentRegion) (short : AreShort view) where
     met_kept items m None kept = kept
     met_kept items m (Some w) kept = by_test (list_all (waits_before w.next) items)
       where
-        by_test : (b : Bool) → KeptStatus (if b then running (map released items) m else faulted w.number (slice_index p.lines (w.next - 1)) A6)
+        by_test : (b : Bool) → KeptStatus (if b then running (map released items) m else faulted (divergence p w))
         by_test true = kept
         by_test false = tt
 
     followed_kept : (items : List Standing) (m : Contents) (next : Advance) → Kept m.written → KeptAdvance next → KeptStatus (followed p items m next)
     followed_kept items m (stepped after now) kept more = more
     followed_kept items m settled kept more = met_kept items m (least_waiting 0 items) kept
-    followed_kept items m (failed item line rule) kept more = tt
+    followed_kept items m (failed f) kept more = tt
 
     follow_kept : (a : Surroundings) → a.view ≡ view → (s : Status) → KeptStatus s → KeptStatus (follow a p s)
     follow_kept a same (running items m) kept = followed_kept items m (advance a p 0 items m) kept (advance_kept a same items 0 m kept)
     follow_kept a same (done m) kept = kept
-    follow_kept a same (faulted item line rule) kept = tt
+    follow_kept a same (faulted f) kept = tt
 
     turns_kept : (a : Surroundings) → a.view ≡ view → (n : ℕ) (s : Status) → KeptStatus s → KeptStatus (after_turns a p n s)
     turns_kept a same zero s kept = kept
@@ -280,7 +280,7 @@ module _ (view : List LentRegion) (short : AreShort view) where
   result_held : (s : Status) (runs : List WrittenRange) → KeptStatus s → result_at s ≡ wrote runs → All (IsHeldRun view Write) runs
   result_held (running items m) runs kept is = let e : [] ≡ runs = cc in subst (All (IsHeldRun view Write)) e (All-nil (IsHeldRun view Write))
   result_held (done m) runs kept is = let e : runs_of m.written ≡ runs = cc in subst (All (IsHeldRun view Write)) e (runs_held m.written kept)
-  result_held (faulted item line rule) runs kept is = absurd cc
+  result_held (faulted f) runs kept is = absurd cc
 
 pub group_held : (i : GroupInput) (runs : List WrittenRange) → AreShort i.view → group_result i ≡ wrote runs → All (IsHeldRun i.view Write) runs
 unfolding group_result

@@ -20,8 +20,8 @@ use Rattle.executor.specs.Meaning.{broke, act, after_load, after_store, after_at
 use Rattle.executor.specs.Results.{after_turns, most_turns, result_at, group_result}
 use Rattle.executor.specs.Runs.{GroupInput, begun, surroundings_of}
 use Rattle.executor.specs.Written.{seen}
-use Rattle.executor.specs.declared.atomic_place.AtomicPlace.{AtomicPlace}
-use Rattle.executor.specs.declared.atomic_place.AtomicPlace.TheVariants as place
+use Rattle.queue_error.specs.declared.error.SegmentAddress.{SegmentAddress}
+use Rattle.queue_error.specs.declared.error.SegmentAddress.TheVariants as segment
 use Rattle.executor.specs.declared.item.Item.{Item}
 
 -- regions that are found alike, or none of both
@@ -87,9 +87,9 @@ module _ (written : ℕ → Option ℕ) (address n : ℕ) where
           let other : has y.rights Read ≡ false = ap (λ r. has r Read) (sym alike.rights_are) ∙ unreadable in
           rw (unreadable, other) refl
 
-place_alike : (ones others : List LentRegion) (m : Contents) (x : AtomicPlace) (n : ℕ) → AreLentAlike ones others → bytes_found ones m x n ≡ bytes_found others m x n
-place_alike ones others m (place.Global x) n alike = bytes_alike m.written x n (region_of ones x) (region_of others x) (found_alike ones others x alike)
-place_alike ones others m (place.Group x) n alike = refl
+place_alike : (ones others : List LentRegion) (m : Contents) (x : SegmentAddress) (n : ℕ) → AreLentAlike ones others → bytes_found ones m x n ≡ bytes_found others m x n
+place_alike ones others m (segment.Global x) n alike = bytes_alike m.written x n (region_of ones x) (region_of others x) (found_alike ones others x alike)
+place_alike ones others m (segment.Group x) n alike = refl
 
 module _ (ones others : List LentRegion) (alike : AreLentAlike ones others) (p : Program) where
   abbrev seeing : List LentRegion → Surroundings → Surroundings
@@ -103,10 +103,10 @@ module _ (ones others : List LentRegion) (alike : AreLentAlike ones others) (p :
   same_act a i m (step.Argument l) = refl
   same_act a i m (step.Load l) =
       let address = address_of i.registers l.pointer in
-      ap (after_load i m l.target l.kind) (load_alike m.written address (number_bytes l.kind) (region_of ones address) (region_of others address) (found_alike ones others address alike))
+      ap (after_load i m l.target l.kind (segment.Global address)) (load_alike m.written address (number_bytes l.kind) (region_of ones address) (region_of others address) (found_alike ones others address alike))
   same_act a i m (step.Store s) =
       let address = address_of i.registers s.pointer in
-      ap (after_store i m) (store_alike m.written address (number_bytes s.kind) _ (region_of ones address) (region_of others address) (found_alike ones others address alike))
+      ap (after_store i m (segment.Global address)) (store_alike m.written address (number_bytes s.kind) _ (region_of ones address) (region_of others address) (found_alike ones others address alike))
   same_act a i m (step.LoadGroup l) = refl
   same_act a i m (step.StoreGroup s) = refl
   same_act a i m (step.Atomic32 s) = ap (after_atomic32 i m s) (place_alike ones others m (place_of i.registers s.pointer) 4 alike)
@@ -119,7 +119,7 @@ module _ (ones others : List LentRegion) (alike : AreLentAlike ones others) (p :
 
   same_turn : (a : Surroundings) (i : Item) (executed : ℕ) (m : Contents) (o : Option Step) → turn_at (seeing ones a) i executed m o ≡ turn_at (seeing others a) i executed m o
   same_turn a i executed m None = refl
-  same_turn a i executed m (Some s) = ap (λ x. if executed == 65536 then broke A5 else x) (same_act a i m s)
+  same_turn a i executed m (Some s) = ap (λ x. if executed == 65536 then broke A5 None else x) (same_act a i m s)
 
   same_advance : (a : Surroundings) (items : List Standing) (n : ℕ) (m : Contents) → advance (seeing ones a) p n items m ≡ advance (seeing others a) p n items m
   same_advance a [] n m = refl
@@ -131,7 +131,7 @@ module _ (ones others : List LentRegion) (alike : AreLentAlike ones others) (p :
   same_follow : (a : Surroundings) (s : Status) → follow (seeing ones a) p s ≡ follow (seeing others a) p s
   same_follow a (running items m) = ap (followed p items m) (same_advance a items 0 m)
   same_follow a (done m) = refl
-  same_follow a (faulted item line rule) = refl
+  same_follow a (faulted f) = refl
 
   same_turns : (a : Surroundings) (n : ℕ) (s : Status) → after_turns (seeing ones a) p n s ≡ after_turns (seeing others a) p n s
   same_turns a zero s = refl

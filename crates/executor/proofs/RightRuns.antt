@@ -1,12 +1,12 @@
 -- Items of a checked kernel stand at its steps or at its end, as long as their group runs.
-use Rattle.std.proofs.Common.{◌≡◌, ℕ, zero, suc, ◌+◌, ◌-◌, ◌<◌, ◌≤◌, List, [], ◌∷◌, length, map, replicate, slice_get, slice_index, arith, refl, sym, ap, ◌∙◌, subst, Bool, true, false, if◌then◌else◌, Option, Some, None, Result, Ok, Err, ◌==◌}
+use Rattle.std.proofs.Common.{◌≡◌, ℕ, zero, suc, ◌+◌, ◌<◌, ◌≤◌, List, [], ◌∷◌, length, map, replicate, slice_get, slice_index, arith, refl, sym, ap, ◌∙◌, subst, Bool, true, false, if◌then◌else◌, Option, Some, None, Result, Ok, Err, ◌==◌}
 use Rattle.std.specs.List.{All, list_all}
 use Rattle.std.proofs.lemmas.Option.{get_or_from_slice_get, slice_get_within}
 use Rattle.byteorder.specs.Endian.{little_number}
 use Rattle.executor.specs.Accesses.{group_loaded, group_stored, loaded, stored}
 use Rattle.executor.specs.Addresses.{address_of, group_address_of}
 use Rattle.executor.specs.Atomics.{bytes_found, place_of}
-use Rattle.executor.specs.Group.{Advance, Standing, Status, advance, context_of_item, behind, done, ended, failed, faulted, follow, followed, least_waiting, met, ready, released, running, settled, stepped, taken, waiting, waits_before}
+use Rattle.executor.specs.Group.{Advance, Standing, Status, advance, context_of_item, behind, done, ended, failed, faulted, follow, followed, least_waiting, met, ready, released, running, settled, stepped, taken, waiting, waits_before, divergence}
 use Rattle.executor.specs.Items.{Contents, Surroundings, fresh}
 use Rattle.executor.specs.Laws.{AllStand, IsRight, RunsRight, StandRight, StandsAt}
 use Rattle.executor.specs.Meaning.{Act, act, after_atomic32, after_atomic64, after_group_store, after_load, after_store, arrives, broke, ends, goes_on, turn, turn_at}
@@ -20,15 +20,16 @@ use Rattle.kernel_check.specs.Programs.{ArgumentPlace, HasItsClasses, IsSound, L
 use Rattle.kernel_check.specs.Steps.{number_bytes}
 use Rattle.kernel_check.specs.declared.step.Step.{Step}
 use Rattle.kernel_check.specs.declared.step.Step.TheVariants as step
+use Rattle.queue_error.specs.declared.error.SegmentAddress.TheVariants as segment
 use Rattle.queue_error.specs.declared.rule.Rule.{Rule}
-use Rattle.queue_error.specs.declared.rule.Rule.TheVariants.{A5, A6}
+use Rattle.queue_error.specs.declared.rule.Rule.TheVariants.{A5}
 
 -- of an item that has had its turn the next step is one of so many, or behind the last
 abbrev StepsWithin : ℕ → Act → Type 0
 StepsWithin count (goes_on i m) = i.next ≤ count
 StepsWithin count (arrives i m) = i.next ≤ count
 StepsWithin count (ends m) = Unit {0}
-StepsWithin count (broke rule) = Unit {0}
+StepsWithin count (broke rule address) = Unit {0}
 
 branched : (count to next : ℕ) (b : Bool) → to ≤ count → next ≤ count → (if b then to else next) ≤ count
 branched count to next true one other = one
@@ -47,24 +48,24 @@ module _ (count bytes : ℕ) where
   act_within a i m (step.Argument l) next stays = next
   act_within a i m (step.Load l) next stays = by_result (loaded a.view m.written (address_of i.registers l.pointer) (number_bytes l.kind))
     where
-      by_result : (r : Result ℕ Rule) → StepsWithin count (after_load i m l.target l.kind r)
+      by_result : (r : Result ℕ Rule) → StepsWithin count (after_load i m l.target l.kind (segment.Global (address_of i.registers l.pointer)) r)
       by_result (Ok value) = next
       by_result (Err rule) = tt
   act_within a i m (step.Store s) next stays =
       by_result (stored a.view m.written (address_of i.registers s.pointer) (number_bytes s.kind) (read_any i.registers s.source))
     where
-      by_result : (r : Result (ℕ → Option ℕ) Rule) → StepsWithin count (after_store i m r)
+      by_result : (r : Result (ℕ → Option ℕ) Rule) → StepsWithin count (after_store i m (segment.Global (address_of i.registers s.pointer)) r)
       by_result (Ok now) = next
       by_result (Err rule) = tt
   act_within a i m (step.LoadGroup l) next stays = by_result (group_loaded m.group (group_address_of i.registers l.pointer) (number_bytes l.kind))
     where
-      by_result : (r : Result ℕ Rule) → StepsWithin count (after_load i m l.target l.kind r)
+      by_result : (r : Result ℕ Rule) → StepsWithin count (after_load i m l.target l.kind (segment.Group (group_address_of i.registers l.pointer)) r)
       by_result (Ok value) = next
       by_result (Err rule) = tt
   act_within a i m (step.StoreGroup s) next stays =
       by_result (group_stored m.group (group_address_of i.registers s.pointer) (number_bytes s.kind) (read_any i.registers s.source))
     where
-      by_result : (r : Result (List ℕ) Rule) → StepsWithin count (after_group_store i m r)
+      by_result : (r : Result (List ℕ) Rule) → StepsWithin count (after_group_store i m (segment.Group (group_address_of i.registers s.pointer)) r)
       by_result (Ok group) = next
       by_result (Err rule) = tt
   act_within a i m (step.Atomic32 s) next stays = by_result (bytes_found a.view m (place_of i.registers s.pointer) 4)
@@ -90,7 +91,7 @@ module _ (p : Program) (arguments : List ArgumentPlace) (right : (n : ℕ) (s : 
   turn_within : (a : Surroundings) (i : Item) (executed : ℕ) (m : Contents) → StepsWithin (length p.steps) (turn a p.steps i executed m)
   turn_within a i executed m = by_step (slice_get p.steps i.next) refl
     where
-      by_test : (s : Step) (b : Bool) → i.next < length p.steps → IsRight p arguments s → StepsWithin (length p.steps) (if b then broke A5 else act a i m s)
+      by_test : (s : Step) (b : Bool) → i.next < length p.steps → IsRight p arguments s → StepsWithin (length p.steps) (if b then broke A5 None else act a i m s)
       by_test s true some is = tt
       by_test s false some is = act_within (length p.steps) p.argument_bytes a i m s (omega (arith, some)) is.stays
 
@@ -101,25 +102,25 @@ module _ (p : Program) (arguments : List ArgumentPlace) (right : (n : ℕ) (s : 
   abbrev AdvanceStands : Advance → Type 0
   AdvanceStands (stepped items m) = AllStand p arguments items
   AdvanceStands settled = Unit {0}
-  AdvanceStands (failed item line rule) = Unit {0}
+  AdvanceStands (failed f) = Unit {0}
 
   taken_stands : (n line executed : ℕ) (rest : List Standing) (x : Act) → StepsWithin (length p.steps) x → AllStand p arguments rest
       → AdvanceStands (taken n line executed rest x)
   taken_stands n line executed rest (goes_on i m) within others = (stands i.next within, others)
   taken_stands n line executed rest (arrives i m) within others = (stands i.next within, others)
   taken_stands n line executed rest (ends m) within others = others
-  taken_stands n line executed rest (broke rule) within others = tt
+  taken_stands n line executed rest (broke rule address) within others = tt
 
   behind_ended_stands : (next : Advance) → AdvanceStands next → AdvanceStands (behind ended next)
   behind_ended_stands (stepped items m) others = others
   behind_ended_stands settled others = tt
-  behind_ended_stands (failed item line rule) others = tt
+  behind_ended_stands (failed f) others = tt
 
   behind_waiting_stands : (i : Item) (executed : ℕ) (next : Advance) → StandsAt p arguments i.next → AdvanceStands next
       → AdvanceStands (behind (waiting i executed) next)
   behind_waiting_stands i executed (stepped items m) here others = (here, others)
   behind_waiting_stands i executed settled here others = tt
-  behind_waiting_stands i executed (failed item line rule) here others = tt
+  behind_waiting_stands i executed (failed f) here others = tt
 
   advance_stands : (a : Surroundings) (items : List Standing) (n : ℕ) (m : Contents) → AllStand p arguments items → AdvanceStands (advance a p n items m)
   advance_stands a [] n m all = tt
@@ -139,7 +140,7 @@ module _ (p : Program) (arguments : List ArgumentPlace) (right : (n : ℕ) (s : 
   met_stands items m None all = tt
   met_stands items m (Some w) all = by_test (list_all (waits_before w.next) items)
     where
-      by_test : (b : Bool) → StandRight p arguments (if b then running (map released items) m else faulted w.number (slice_index p.lines (w.next - 1)) A6)
+      by_test : (b : Bool) → StandRight p arguments (if b then running (map released items) m else faulted (divergence p w))
       by_test true = released_stand items all
       by_test false = tt
 
@@ -147,12 +148,12 @@ module _ (p : Program) (arguments : List ArgumentPlace) (right : (n : ℕ) (s : 
       → StandRight p arguments (followed p items m next)
   followed_stands items m (stepped after now) all more = more
   followed_stands items m settled all more = met_stands items m (least_waiting 0 items) all
-  followed_stands items m (failed item line rule) all more = tt
+  followed_stands items m (failed f) all more = tt
 
   follow_stands : (a : Surroundings) (s : Status) → StandRight p arguments s → StandRight p arguments (follow a p s)
   follow_stands a (running items m) all = followed_stands items m (advance a p 0 items m) all (advance_stands a items 0 m all)
   follow_stands a (done m) all = tt
-  follow_stands a (faulted item line rule) all = tt
+  follow_stands a (faulted f) all = tt
 
   turns_stand : (a : Surroundings) (n : ℕ) (s : Status) → StandRight p arguments s → StandRight p arguments (after_turns a p n s)
   turns_stand a zero s all = all

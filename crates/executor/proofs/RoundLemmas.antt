@@ -1,10 +1,10 @@
 -- Items that run from barrier to barrier, one after another, are the least item first.
-use Rattle.std.proofs.Common.{◌≡◌, Option, Some, None, length, ℕ, zero, suc, ◌+◌, ◌-◌, ◌<◌, ◌≤◌, List, [], ◌∷◌, ◌++◌, replicate, slice_index, slice_set, get_or, arith, refl, sym, ap, ◌∙◌, subst, Bool, true, false}
+use Rattle.std.proofs.Common.{◌≡◌, Option, Some, None, length, ℕ, zero, suc, ◌+◌, ◌-◌, ◌<◌, ◌≤◌, List, [], ◌∷◌, ◌++◌, replicate, slice_set, get_or, arith, refl, sym, ap, ◌∙◌, subst, Bool, true, false}
 use Rattle.std.specs.Prelude.{drop, map, take, if◌then◌else◌}
 use Rattle.std.specs.List.{list_all}
 use Rattle.std.proofs.lemmas.Bool.{and_parts}
 use Rattle.std.proofs.Math.Seq.{take-append_seam}
-use Rattle.executor.specs.Group.{Standing, ready, ended, Status, running, done, faulted, least_waiting, waits_before, released, met, Leads, beginning}
+use Rattle.executor.specs.Group.{Standing, ready, ended, Status, running, done, faulted, least_waiting, waits_before, released, met, Leads, beginning, divergence}
 use Rattle.executor.specs.Items.{Contents, Surroundings, fresh}
 use Rattle.executor.specs.Runs.{Fails}
 use Rattle.executor.specs.inner.ItemRuns.{ItemRuns, ItemFails}
@@ -17,7 +17,6 @@ use Rattle.executor.specs.declared.item.Stop.TheVariants as stop
 use Rattle.executor.specs.declared.item.StoppedItem.{StoppedItem}
 use Rattle.executor.specs.declared.rounds.Waiter.{Waiter}
 use Rattle.kernel_check.specs.Programs.{Program}
-use Rattle.queue_error.specs.declared.rule.Rule.TheVariants.{A6}
 use Rattle.executor.proofs.GroupLemmas.{leads_trans, leads_none, leads_one, meet}
 use Rattle.executor.proofs.TurnLemmas.{left, Few, falls, fresh_few, released_few, released_less}
 
@@ -134,7 +133,7 @@ module _ (a : Surroundings) (p : Program) (count : ℕ) (first : Contents) where
     pub first_fails : (e : RunFault) → ItemFails a p n (ready fresh 0) m e → Fails a p from e
     first_fails fault.OutOfMemory fails = tt
     first_fails (fault.Fault f) fails =
-        leads_trans a p from (running (earlier ++ ready fresh 0 ∷ begun (count - (n + 1))) m) (faulted f.item f.line f.rule) before
+        leads_trans a p from (running (earlier ++ ready fresh 0 ∷ begun (count - (n + 1))) m) (faulted f) before
         (fails earlier (begun (count - (n + 1))) are many)
 
     module _ (x : StoppedItem) (now : Contents) (runs : ItemRuns a p n (ready fresh 0) m (standing x) now) where
@@ -291,7 +290,7 @@ module _ (a : Surroundings) (p : Program) (all : List StoppedItem) (first : Cont
     pub next_fails : (e : RunFault) → ItemFails a p n (ready x.item x.executed) m e → Fails a p start e
     next_fails fault.OutOfMemory fails = tt
     next_fails (fault.Fault f) fails =
-        leads_trans a p start (running (prior ++ ready x.item x.executed ∷ rest) m) (faulted f.item f.line f.rule) ready_there
+        leads_trans a p start (running (prior ++ ready x.item x.executed ∷ rest) m) (faulted f) ready_there
         (fails prior rest (all_stopped (take n xs)) (length_taken xs n lt))
 
     pub next_goes : (y : StoppedItem) (now : Contents) → ItemRuns a p n (ready x.item x.executed) m (standing y) now → HaveGoneOn (n + 1) (slice_set xs n y) now
@@ -353,10 +352,10 @@ module _ (a : Surroundings) (p : Program) (count : ℕ) (first : Contents) where
 
     module _ (w : Waiter) (least : least_waiting 0 items ≡ Some w) where
       -- not all wait at one barrier
-      pub is_apart : list_all (waits_before w.next) items ≡ false → Leads a p (beginning count first) (faulted w.number (slice_index p.lines (w.next - 1)) A6)
+      pub is_apart : list_all (waits_before w.next) items ≡ false → Leads a p (beginning count first) (faulted (divergence p w))
       is_apart apart =
-          met_is (Some w) (faulted w.number (slice_index p.lines (w.next - 1)) A6) least
-          (ap (λ b. if b then running (map released items) m else faulted w.number (slice_index p.lines (w.next - 1)) A6) apart)
+          met_is (Some w) (faulted (divergence p w)) least
+          (ap (λ b. if b then running (map released items) m else faulted (divergence p w)) apart)
 
       module _ (together : list_all (waits_before w.next) items ≡ true) where
         none : gone ≡ 0
@@ -371,14 +370,14 @@ module _ (a : Surroundings) (p : Program) (count : ℕ) (first : Contents) where
         released_now : Leads a p (beginning count first) (running (stopped_again 0 xs) m)
         released_now =
             met_is (Some w) (running (stopped_again 0 xs) m) least
-            (ap (λ b. if b then running (map released items) m else faulted w.number (slice_index p.lines (w.next - 1)) A6)
+            (ap (λ b. if b then running (map released items) m else faulted (divergence p w))
             together
             ∙ ap (λ zs. running zs m) (ap (map released) all_here ∙ again_none xs))
 
         pub round_fails : (e : RunFault) → Fails a p (running (stopped_again 0 xs) m) e → Fails a p (beginning count first) e
         round_fails fault.OutOfMemory fails = tt
         round_fails (fault.Fault f) fails =
-            leads_trans a p (beginning count first) (running (stopped_again 0 xs) m) (faulted f.item f.line f.rule) released_now fails
+            leads_trans a p (beginning count first) (running (stopped_again 0 xs) m) (faulted f) released_now fails
 
         module _ (ys : List StoppedItem) (now : Contents) (went : Leads a p (running (stopped_again 0 xs) m) (running (map standing ys) now)) where
           pub round_goes : Leads a p (beginning count first) (running (after gone (map standing ys)) now)

@@ -4,7 +4,7 @@ use Rattle.std.specs.Prelude.{◌==◌, map, slice_get, if◌then◌else◌}
 use Rattle.std.specs.List.{list_all}
 use Rattle.std.proofs.lemmas.Bool.{cases_lt}
 use Rattle.std.proofs.lemmas.Bool.Decides.{nat_tests}
-use Rattle.executor.specs.Group.{Standing, ready, waiting, ended, Advance, stepped, settled, failed, context_of_item, taken, behind, advance, Status, running, done, faulted, least_waiting, waits_before, released, met, followed, follow, LeadsIn, Leads, beginning}
+use Rattle.executor.specs.Group.{Standing, ready, waiting, ended, Advance, stepped, settled, failed, context_of_item, taken, behind, advance, Status, running, done, faulted, least_waiting, waits_before, released, met, followed, follow, LeadsIn, Leads, beginning, divergence}
 use Rattle.executor.specs.Items.{Contents, Surroundings, fresh}
 use Rattle.executor.specs.Meaning.{Act, goes_on, arrives, ends, broke, act, turn, turn_at}
 use Rattle.executor.specs.Results.{IsOver, after_turns, most_turns}
@@ -12,7 +12,7 @@ use Rattle.executor.specs.declared.item.Item.{Item}
 use Rattle.executor.specs.declared.rounds.Waiter.{Waiter}
 use Rattle.kernel_check.specs.Programs.{Program}
 use Rattle.kernel_check.specs.declared.step.Step.{Step}
-use Rattle.queue_error.specs.declared.rule.Rule.TheVariants.{A5, A6}
+use Rattle.queue_error.specs.declared.rule.Rule.TheVariants.{A5}
 
 -- as many turns as items have left, and one more for each that waits
 abbrev pub left : List Standing → ℕ
@@ -32,13 +32,13 @@ Few (ended ∷ rest) = Few rest
 abbrev Less : List Standing → Advance → Type 0
 Less before (stepped items m) = Few items × (left items < left before)
 Less before settled = Unit {0}
-Less before (failed item line rule) = Unit {0}
+Less before (failed f) = Unit {0}
 
 taken_less : (n line executed : ℕ) (i : Item) (rest : List Standing) (act : Act) → executed < 65536 → Few rest → Less (ready i executed ∷ rest) (taken n line executed rest act)
 taken_less n line executed i rest (goes_on now m) some few = ((omega arith, few), omega arith)
 taken_less n line executed i rest (arrives now m) some few = ((omega arith, few), omega arith)
 taken_less n line executed i rest (ends m) some few = (few, omega arith)
-taken_less n line executed i rest (broke rule) some few = tt
+taken_less n line executed i rest (broke rule address) some few = tt
 
 module _ (a : Surroundings) (p : Program) where
   turn_less : (n : ℕ) (i : Item) (executed : ℕ) (rest : List Standing) (m : Contents) → executed ≤ 65536 → Few rest
@@ -48,7 +48,7 @@ module _ (a : Surroundings) (p : Program) where
       line : ℕ
       line = slice_index p.lines i.next
 
-      by_test : (b : Bool) (x : Act) → (executed == 65536) ≡ b → Less (ready i executed ∷ rest) (taken n line executed rest (if b then broke A5 else x))
+      by_test : (b : Bool) (x : Act) → (executed == 65536) ≡ b → Less (ready i executed ∷ rest) (taken n line executed rest (if b then broke A5 None else x))
       by_test true x is = tt
       by_test false x is = let some : executed < 65536 = grind (arith, nat_tests) in taken_less n line executed i rest x some few
 
@@ -59,12 +59,12 @@ module _ (a : Surroundings) (p : Program) where
   behind_ended_less : (rest : List Standing) (next : Advance) → Less rest next → Less (ended ∷ rest) (behind ended next)
   behind_ended_less rest (stepped items m) less = less
   behind_ended_less rest settled less = tt
-  behind_ended_less rest (failed item line rule) less = tt
+  behind_ended_less rest (failed f) less = tt
 
   behind_waiting_less : (i : Item) (executed : ℕ) (rest : List Standing) (next : Advance) → executed ≤ 65536 → Less rest next → Less (waiting i executed ∷ rest) (behind (waiting i executed) next)
   behind_waiting_less i executed rest (stepped items m) few less = let fewer : left items < left rest = less.1 in ((few, less.0), omega arith)
   behind_waiting_less i executed rest settled few less = tt
-  behind_waiting_less i executed rest (failed item line rule) few less = tt
+  behind_waiting_less i executed rest (failed f) few less = tt
 
   advance_less : (items : List Standing) (n : ℕ) (m : Contents) → Few items → Less items (advance a p n items m)
   advance_less [] n m few = tt
@@ -97,13 +97,13 @@ module _ (a : Surroundings) (p : Program) where
   abbrev LessThan : List Standing → Status → Type 0
   LessThan before (running items m) = Few items × (left items < left before)
   LessThan before (done m) = Unit {0}
-  LessThan before (faulted item line rule) = Unit {0}
+  LessThan before (faulted f) = Unit {0}
 
   met_less : (items : List Standing) (m : Contents) (o : Option Waiter) → least_waiting 0 items ≡ o → Few items → LessThan items (met p items m o)
   met_less items m None is few = tt
   met_less items m (Some w) is few = by_test (list_all (waits_before w.next) items)
     where
-      by_test : (b : Bool) → LessThan items (if b then running (map released items) m else faulted w.number (slice_index p.lines (w.next - 1)) A6)
+      by_test : (b : Bool) → LessThan items (if b then running (map released items) m else faulted (divergence p w))
       by_test true = (released_few items few, released_less items 0 w is)
       by_test false = tt
 
@@ -113,7 +113,7 @@ module _ (a : Surroundings) (p : Program) where
       by_advance : (next : Advance) → Less items next → LessThan items (followed p items m next)
       by_advance (stepped after now) less = less
       by_advance settled less = met_less items m (least_waiting 0 items) refl few
-      by_advance (failed item line rule) less = tt
+      by_advance (failed f) less = tt
 
   -- ---- turns
 
@@ -125,7 +125,7 @@ module _ (a : Surroundings) (p : Program) where
   over_stays zero s over = refl
   over_stays (suc n) (running items m) over = absurd over
   over_stays (suc n) (done m) over = over_stays n (done m) over
-  over_stays (suc n) (faulted item line rule) over = over_stays n (faulted item line rule) over
+  over_stays (suc n) (faulted f) over = over_stays n (faulted f) over
 
   more_turns : (n k : ℕ) (from : Status) → after_turns a p (n + k) from ≡ after_turns a p k (after_turns a p n from)
   more_turns zero k from = let e : 0 + k ≡ k = omega arith in ap (λ j. after_turns a p j from) e
@@ -142,7 +142,7 @@ module _ (a : Surroundings) (p : Program) where
           → IsOver (after_turns a p n s)
       by_status (running after now) less rest = rest after now less.0 (let fewer : left after < left items = less.1 in omega arith)
       by_status (done now) less rest = subst IsOver (sym (over_stays n (done now) tt)) tt
-      by_status (faulted item line rule) less rest = subst IsOver (sym (over_stays n (faulted item line rule) tt)) tt
+      by_status (faulted f) less rest = subst IsOver (sym (over_stays n (faulted f) tt)) tt
 
   -- where a group still runs after some turns, at least as many fewer are left
   falls_in : (n : ℕ) (items others : List Standing) (m now : Contents) → Few items → after_turns a p n (running items m) ≡ running others now → Few others × (left others + n ≤ left items)
@@ -158,7 +158,7 @@ module _ (a : Surroundings) (p : Program) where
           let fall : left others + n ≤ left after = r.1 in
           (r.0, omega arith)
       by_status (done later) less same rest = let over : done later ≡ running others now = sym (over_stays n (done later) tt) ∙ same in absurd cc
-      by_status (faulted item line rule) less same rest = let over : faulted item line rule ≡ running others now = sym (over_stays n (faulted item line rule) tt) ∙ same in absurd cc
+      by_status (faulted f) less same rest = let over : faulted f ≡ running others now = sym (over_stays n (faulted f) tt) ∙ same in absurd cc
 
   pub falls : (items others : List Standing) (m now : Contents) → Few items → Leads a p (running items m) (running others now) → Few others × (left others ≤ left items)
   falls items others m now few leads =

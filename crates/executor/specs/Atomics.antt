@@ -7,8 +7,6 @@ use Rattle.executor.specs.Items.{Contents, LentRegion}
 use Rattle.executor.specs.Numbers.{unsigned, signed, computed, sum, difference, least, greatest}
 use Rattle.executor.specs.Registers.{read32, read64, with32, with64}
 use Rattle.executor.specs.Written.{laid, seen}
-use Rattle.executor.specs.declared.atomic_place.AtomicPlace.{AtomicPlace}
-use Rattle.executor.specs.declared.atomic_place.AtomicPlace.TheVariants as place
 use Rattle.executor.specs.declared.registers.Registers.{Registers}
 use Rattle.kernel_check.specs.declared.step.AtomicOperation32.{AtomicOperation32}
 use Rattle.kernel_check.specs.declared.step.AtomicOperation32.TheVariants as atomic32
@@ -16,22 +14,24 @@ use Rattle.kernel_check.specs.declared.step.AtomicOperation64.{AtomicOperation64
 use Rattle.kernel_check.specs.declared.step.AtomicOperation64.TheVariants as atomic64
 use Rattle.kernel_check.specs.declared.step.AtomicPointer.{AtomicPointer}
 use Rattle.kernel_check.specs.declared.step.AtomicPointer.TheVariants as pointer
+use Rattle.queue_error.specs.declared.error.SegmentAddress.{SegmentAddress}
+use Rattle.queue_error.specs.declared.error.SegmentAddress.TheVariants as segment
 use Rattle.queue_error.specs.declared.rule.Rule.{Rule}
 
--- where an atomic operation takes place
-abbrev pub place_of : Registers → AtomicPointer → AtomicPlace
-place_of r (pointer.Global p) = place.Global (address_of r p)
-place_of r (pointer.Group p) = place.Group (group_address_of r p)
+-- where an atomic operation takes place (PRM, Address Expressions)
+abbrev pub place_of : Registers → AtomicPointer → SegmentAddress
+place_of r (pointer.Global p) = segment.Global (address_of r p)
+place_of r (pointer.Group p) = segment.Group (group_address_of r p)
 
 -- the n bytes at a place, or the rule that is broken first
-abbrev pub bytes_found : List LentRegion → Contents → AtomicPlace → ℕ → Result (List ℕ) Rule
-bytes_found view m (place.Global x) n = unless_broken (atomic_broken view x n) (seen m.written x (lent view x n))
-bytes_found view m (place.Group x) n = unless_broken (group_atomic_broken m.group x n) (take n (drop x m.group))
+abbrev pub bytes_found : List LentRegion → Contents → SegmentAddress → ℕ → Result (List ℕ) Rule
+bytes_found view m (segment.Global x) n = unless_broken (atomic_broken view x n) (seen m.written x (lent view x n))
+bytes_found view m (segment.Group x) n = unless_broken (group_atomic_broken m.group x n) (take n (drop x m.group))
 
 -- memory with bytes at a place
-abbrev pub put : Contents → AtomicPlace → List ℕ → Contents
-put m (place.Global x) bytes = record m { written = laid m.written x bytes }
-put m (place.Group x) bytes = record m { group = overlaid m.group x bytes }
+abbrev pub put : Contents → SegmentAddress → List ℕ → Contents
+put m (segment.Global x) bytes = record m { written = laid m.written x bytes }
+put m (segment.Group x) bytes = record m { group = overlaid m.group x bytes }
 
 -- what an operation of 32 bits leaves in place of an old value; a cas that finds another than the expected one stores
 -- nothing (PRM, Atomic (atomic) Operations)
@@ -65,12 +65,12 @@ replacing64 r (atomic64.CompareAndSwap p) old =
     if old == read64 r p.expected then Some (read64 r p.replacement) else None
 
 -- memory after an operation of 32 bits, by what it leaves
-abbrev pub left32 : Contents → AtomicPlace → Option ℕ → Contents
+abbrev pub left32 : Contents → SegmentAddress → Option ℕ → Contents
 left32 m x None = m
 left32 m x (Some value) = put m x (to_le_bytes w32 value)
 
 -- memory after one of 64 bits
-abbrev pub left64 : Contents → AtomicPlace → Option ℕ → Contents
+abbrev pub left64 : Contents → SegmentAddress → Option ℕ → Contents
 left64 m x None = m
 left64 m x (Some value) = put m x (to_le_bytes w64 value)
 

@@ -5,10 +5,10 @@ use Rattle.std.specs.List.{list_all}
 use Rattle.executor.specs.Items.{Contents, Surroundings, fresh}
 use Rattle.executor.specs.Locations.{id_of}
 use Rattle.executor.specs.Meaning.{Act, goes_on, arrives, ends, broke, turn}
+use Rattle.executor.specs.declared.fault.ItemFault.{ItemFault}
 use Rattle.executor.specs.declared.item.Item.{Item}
 use Rattle.executor.specs.declared.rounds.Waiter.{Waiter}
 use Rattle.kernel_check.specs.Programs.{Program}
-use Rattle.queue_error.specs.declared.rule.Rule.{Rule}
 use Rattle.queue_error.specs.declared.rule.Rule.TheVariants.{A6}
 
 -- an item that can take a turn, or one that waits at the barrier before its next step, each with the number of
@@ -18,12 +18,11 @@ pub data Standing : Type 0 where
   waiting : Item → ℕ → Standing
   ended : Standing
 
--- what comes of a group's turn: its items and memory; none of them can take one; or a rule that the item of a
--- number broke on a line
+-- what comes of a group's turn: its items and memory; none of them can take one; or an item broke a rule
 pub data Advance : Type 0 where
   stepped : List Standing → Contents → Advance
   settled : Advance
-  failed : ℕ → ℕ → Rule → Advance
+  failed : ItemFault → Advance
 
 -- what surrounds the item of a number
 abbrev pub context_of_item : Surroundings → ℕ → Surroundings
@@ -34,13 +33,13 @@ abbrev pub taken : ℕ → ℕ → ℕ → List Standing → Act → Advance
 taken n line executed rest (goes_on i m) = stepped (ready i (executed + 1) ∷ rest) m
 taken n line executed rest (arrives i m) = stepped (waiting i (executed + 1) ∷ rest) m
 taken n line executed rest (ends m) = stepped (ended ∷ rest) m
-taken n line executed rest (broke rule) = failed n line rule
+taken n line executed rest (broke rule address) = failed (record { item = n; line = line; rule = rule; address = address })
 
 -- what a turn of those behind an item makes of all
 abbrev pub behind : Standing → Advance → Advance
 behind s (stepped items m) = stepped (s ∷ items) m
 behind s settled = settled
-behind s (failed n line rule) = failed n line rule
+behind s (failed f) = failed f
 
 -- the least item that neither ended nor waits takes a turn; the first of these is the item of number n
 abbrev pub advance : Surroundings → Program → ℕ → List Standing → Contents → Advance
@@ -54,7 +53,7 @@ advance a p n (ready i executed ∷ rest) m =
 pub data Status : Type 0 where
   running : List Standing → Contents → Status
   done : Contents → Status
-  faulted : ℕ → ℕ → Rule → Status
+  faulted : ItemFault → Status
 
 -- the least item that waits; the first of these is the item of number n
 abbrev pub least_waiting : ℕ → List Standing → Option Waiter
@@ -75,23 +74,27 @@ released (ready i executed) = ready i executed
 released (waiting i executed) = ready i executed
 released ended = ended
 
+-- the fault of an item that waits at a barrier which not all reach: A6, on the barrier's line, by no access (own)
+abbrev pub divergence : Program → Waiter → ItemFault
+divergence p w = record { item = w.number; line = slice_index p.lines (w.next - 1); rule = A6; address = None }
+
 -- where none of a group's items can take a turn: all have ended, and it is done; all wait at the same barrier, and go
--- on; else the least that waits breaks A6 on its barrier's line (PRM, Barrier Operations; the rule is (own))
+-- on; else the least that waits breaks A6 (PRM, Barrier Operations; the rule is (own))
 abbrev pub met : Program → List Standing → Contents → Option Waiter → Status
 met p items m None = done m
 met p items m (Some w) =
     if list_all (waits_before w.next) items then running (map released items) m
-    else faulted w.number (slice_index p.lines (w.next - 1)) A6
+    else faulted (divergence p w)
 
 abbrev pub followed : Program → List Standing → Contents → Advance → Status
 followed p items m (stepped after now) = running after now
 followed p items m settled = met p items m (least_waiting 0 items)
-followed p items m (failed n line rule) = faulted n line rule
+followed p items m (failed f) = faulted f
 
 abbrev pub follow : Surroundings → Program → Status → Status
 follow a p (running items m) = followed p items m (advance a p 0 items m)
 follow a p (done m) = done m
-follow a p (faulted n line rule) = faulted n line rule
+follow a p (faulted f) = faulted f
 
 -- so many turns lead from one to another
 abbrev pub LeadsIn : Surroundings → Program → ℕ → Status → Status → Type 0

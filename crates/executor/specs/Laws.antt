@@ -65,7 +65,7 @@ AllStand p arguments (ended ∷ rest) = AllStand p arguments rest
 abbrev pub StandRight : Program → List ArgumentPlace → Status → Type 0
 StandRight p arguments (running items m) = AllStand p arguments items
 StandRight p arguments (done m) = Unit {0}
-StandRight p arguments (faulted item line rule) = Unit {0}
+StandRight p arguments (faulted f) = Unit {0}
 
 -- the kernel has arguments, which lie in its block, and after each number of turns of the group all of its items stand right
 abbrev pub RunsRight : GroupInput → Type 0

@@ -4,11 +4,11 @@ use Rattle.executor.specs.Group.{Status, running, done, faulted, follow}
 use Rattle.executor.specs.Items.{Surroundings}
 use Rattle.executor.specs.Runs.{GroupInput, Fails, Finishes, begun, surroundings_of}
 use Rattle.executor.specs.Told.{runs_of}
+use Rattle.executor.specs.declared.fault.ItemFault.{ItemFault}
 use Rattle.executor.specs.declared.fault.RunFault.{RunFault}
 use Rattle.executor.specs.declared.fault.RunFault.TheVariants as fault
 use Rattle.executor.specs.declared.written_range.WrittenRange.{WrittenRange}
 use Rattle.kernel_check.specs.Programs.{Program}
-use Rattle.queue_error.specs.declared.rule.Rule.{Rule}
 
 -- where a group stands after so many turns
 abbrev pub after_turns : Surroundings → Program → ℕ → Status → Status
@@ -24,18 +24,18 @@ most_turns = 2 * (1024 * 65537) + 1
 abbrev pub IsOver : Status → Type 0
 IsOver (running items m) = ⊥
 IsOver (done m) = Unit {0}
-IsOver (faulted item line rule) = Unit {0}
+IsOver (faulted f) = Unit {0}
 
--- what a group comes to: it wrote the bytes of these runs, or the item of a number broke a rule on a line
+-- what a group comes to: it wrote the bytes of these runs, or an item broke a rule
 pub data GroupResult : Type 0 where
   wrote : List WrittenRange → GroupResult
-  broke_rule : ℕ → ℕ → Rule → GroupResult
+  broke_rule : ItemFault → GroupResult
 
 -- what a group has come to where it stands
 abbrev pub result_at : Status → GroupResult
 result_at (running items m) = wrote []
 result_at (done m) = wrote (runs_of m.written)
-result_at (faulted item line rule) = broke_rule item line rule
+result_at (faulted f) = broke_rule f
 
 -- what a group comes to: always the least of its items that neither ended nor waits takes a turn, until none can or one breaks a rule
 unfoldable pub group_result : GroupInput → GroupResult
@@ -54,4 +54,4 @@ FinishesAs i runs = Finishes (surroundings_of i) i.program (begun i) runs × (gr
 abbrev pub FailsAs : GroupInput → RunFault → Type 0
 FailsAs i fault.OutOfMemory = Unit {0}
 FailsAs i (fault.Fault f) =
-    Fails (surroundings_of i) i.program (begun i) (fault.Fault f) × (group_result i ≡ broke_rule f.item f.line f.rule)
+    Fails (surroundings_of i) i.program (begun i) (fault.Fault f) × (group_result i ≡ broke_rule f)

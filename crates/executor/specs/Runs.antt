@@ -79,7 +79,7 @@ Finishes a p from runs = (m : Contents) × (Leads a p from (done m) × AreRuns m
 -- a group in which an item broke a rule; without memory nothing is said
 abbrev pub Fails : Surroundings → Program → Status → RunFault → Type 0
 Fails a p from fault.OutOfMemory = Unit {0}
-Fails a p from (fault.Fault f) = Leads a p from (faulted f.item f.line f.rule)
+Fails a p from (fault.Fault f) = Leads a p from (faulted f)
 
 -- a group as it begins
 abbrev pub begun : GroupInput → Status

@@ -22,7 +22,7 @@ use byteorder::{ByteOrder, LittleEndian};
 use kernel_check::{
     AnyRegister, ArgumentStep, GroupLoadStep, GroupStoreStep, LoadStep, Step, StoreStep,
 };
-use queue_error::Rule;
+use queue_error::{Rule, SegmentAddress};
 use std::alloc::Global;
 
 /// What comes of a turn.
@@ -33,7 +33,8 @@ pub enum Outcome {
     /// The item waits at a barrier.
     Arrived,
     Ended,
-    Broke(Rule),
+    /// It broke a rule by an access to an address.
+    Broke(Rule, SegmentAddress),
     OutOfMemory,
 }
 
@@ -75,7 +76,7 @@ fn load_step(
             set(item, step.target, convert(step.kind, step.kind, value));
             Outcome::GoesOn
         }
-        Err(rule) => Outcome::Broke(rule),
+        Err(rule) => Outcome::Broke(rule, SegmentAddress::Global(address)),
     }
 }
 
@@ -105,7 +106,7 @@ fn store_step(
             item.next += 1;
             Outcome::GoesOn
         }
-        Err(StoreError::Broke(rule)) => Outcome::Broke(rule),
+        Err(StoreError::Broke(rule)) => Outcome::Broke(rule, SegmentAddress::Global(address)),
         Err(StoreError::OutOfMemory) => Outcome::OutOfMemory,
     }
 }
@@ -126,7 +127,7 @@ fn group_load_step(
             set(item, step.target, convert(step.kind, step.kind, value));
             Outcome::GoesOn
         }
-        Err(rule) => Outcome::Broke(rule),
+        Err(rule) => Outcome::Broke(rule, SegmentAddress::Group(address)),
     }
 }
 
@@ -148,7 +149,7 @@ fn group_store_step(
             item.next += 1;
             Outcome::GoesOn
         }
-        Err(rule) => Outcome::Broke(rule),
+        Err(rule) => Outcome::Broke(rule, SegmentAddress::Group(address)),
     }
 }
 

@@ -125,7 +125,7 @@ pub fn atomic_step32(
     let place = place_of(&item.registers, step.pointer);
     let mut bytes = [0; 4];
     if let Err(rule) = find(context.view, memory, place, &mut bytes) {
-        return Outcome::Broke(rule);
+        return Outcome::Broke(rule, place);
     }
     let old = LittleEndian::read_u32(&bytes);
     if let Some(value) = replacing32(&item.registers, &step.operation, old) {
@@ -152,7 +152,7 @@ pub fn atomic_step64(
     let place = place_of(&item.registers, step.pointer);
     let mut bytes = [0; 8];
     if let Err(rule) = find(context.view, memory, place, &mut bytes) {
-        return Outcome::Broke(rule);
+        return Outcome::Broke(rule, place);
     }
     let old = LittleEndian::read_u64(&bytes);
     if let Some(value) = replacing64(&item.registers, &step.operation, old) {

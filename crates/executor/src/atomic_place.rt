@@ -14,24 +14,19 @@ use crate::registers::Registers;
 use crate::view::View;
 use kernel_check::AtomicPointer;
 use policy::Right;
-use queue_error::Rule;
+use queue_error::{Rule, SegmentAddress};
 use std::alloc::{AllocError, Global};
-
-/// Where an atomic operation takes place: an address of its segment.
-#[derive(Clone, Copy)]
-pub enum AtomicPlace {
-    Global(u64),
-    Group(u32),
-}
 
 /// Where the operation at a pointer takes place.
 #[inline(always)]
-pub fn place_of(registers: &Registers, pointer: AtomicPointer) -> AtomicPlace
+pub fn place_of(registers: &Registers, pointer: AtomicPointer) -> SegmentAddress
     ensures { result ≡ place_of registers.now pointer }
 {
     match pointer {
-        AtomicPointer::Global(pointer) => AtomicPlace::Global(address_of(registers, pointer)),
-        AtomicPointer::Group(pointer) => AtomicPlace::Group(group_address_of(registers, pointer)),
+        AtomicPointer::Global(pointer) => SegmentAddress::Global(address_of(registers, pointer)),
+        AtomicPointer::Group(pointer) => SegmentAddress::Group(group_address_of(
+            registers, pointer,
+        )),
     }
 }
 
@@ -68,7 +63,7 @@ fn atomic_access<'v>(view: &'v View<'v>, address: u64, size: usize) -> Result<&'
 pub fn find(
     view: &View<'_>,
     memory: &Memory,
-    place: AtomicPlace,
+    place: SegmentAddress,
     buffer: &mut [u8],
 ) -> Result<(), Rule>
     requires some { 1 ≤ length buffer.old }
@@ -79,12 +74,12 @@ pub fn find(
     ensures err { IfErr result (λ rule. bytes_found (map lent_region view.now) (contents memory.now) place (length buffer.old) ≡ Err rule) }
 {
     match place {
-        AtomicPlace::Global(address) => {
+        SegmentAddress::Global(address) => {
             let bytes = atomic_access(view, address, buffer.len())?;
             buffer.copy_from_slice(bytes);
             memory.written.load(address, buffer);
         }
-        AtomicPlace::Group(address) => {
+        SegmentAddress::Group(address) => {
             let begin = group_access::atomic_begin_of(
                 memory.group.as_slice(),
                 address,
@@ -101,7 +96,7 @@ pub fn find(
 pub fn put(
     alloc: Global,
     memory: &mut Memory,
-    place: AtomicPlace,
+    place: SegmentAddress,
     bytes: &[u8],
 ) -> Result<(), AllocError>
     requires few { length bytes.now ≤ 8 }
@@ -109,8 +104,8 @@ pub fn put(
     ensures { OnOk result (contents memory.new ≡ put (contents memory.old) place bytes.now) }
 {
     match place {
-        AtomicPlace::Global(address) => memory.written.store(alloc, address, bytes),
-        AtomicPlace::Group(address) => {
+        SegmentAddress::Global(address) => memory.written.store(alloc, address, bytes),
+        SegmentAddress::Group(address) => {
             group_access::put(memory.group.as_mut_slice(), address as usize, bytes);
             Ok(())
         }

@@ -3,7 +3,7 @@
 ghost use Rattle.std.specs.Prelude.{◌≡◌};
 ghost use Rattle.executor.specs.Results.{fault_number};
 
-use queue_error::Rule;
+use queue_error::{Rule, SegmentAddress};
 use std::alloc::AllocError;
 
 /// A rule that a work-item broke (own).
@@ -14,6 +14,8 @@ pub struct ItemFault {
     /// The line of the instruction.
     pub line: u32,
     pub rule: Rule,
+    /// The address that the instruction asked for; none where the rule was broken without an access.
+    pub address: Option<SegmentAddress>,
 }
 
 /// Why a work-group has no writes.

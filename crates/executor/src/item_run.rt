@@ -15,7 +15,7 @@ use crate::item::{Item, ItemContext, Stop, StoppedItem};
 use crate::location::{Extent, Location};
 use crate::memory::Memory;
 use kernel_check::Program;
-use queue_error::Rule;
+use queue_error::{Rule, SegmentAddress};
 use std::alloc::Global;
 
 /// How many instructions a work-item executes at most.
@@ -117,24 +117,37 @@ pub fn run_item(
                 stopped.stop = Stop::End;
                 return Ok(());
             }
-            Outcome::Broke(rule) => return Err(fault(program, number, next, rule)),
+            Outcome::Broke(rule, address) => return Err(fault(
+                program,
+                number,
+                next,
+                rule,
+                Some(address),
+            )),
             Outcome::OutOfMemory => return Err(RunFault::OutOfMemory),
         }
     }
     if item.next < program.steps().len() {
-        return Err(fault(program, number, item.next, Rule::A5));
+        return Err(fault(program, number, item.next, Rule::A5, None));
     }
     stopped.stop = Stop::End;
     Ok(())
 }
 
-/// The fault of an item at a step.
-pub fn fault(program: &Program, item: u32, step: usize, rule: Rule) -> RunFault
-    ensures { result ≡ fault_arm.Fault (record { item = item; line = slice_index program.now.lines step; rule = rule }) }
+/// The fault of an item at a step, by an access to an address or by none.
+pub fn fault(
+    program: &Program,
+    item: u32,
+    step: usize,
+    rule: Rule,
+    address: Option<SegmentAddress>,
+) -> RunFault
+    ensures { result ≡ fault_arm.Fault (record { item = item; line = slice_index program.now.lines step; rule = rule; address = address }) }
 {
     RunFault::Fault(ItemFault {
         item,
         line: line_of(program, step),
         rule,
+        address,
     })
 }

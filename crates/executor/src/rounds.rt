@@ -47,7 +47,7 @@ pub fn run_items(
         };
         if !wait_together(ended, stopped.as_slice(), waiter.next) {
             let barrier = waiter.next.saturating_sub(1);
-            return Err(fault(program, waiter.number, barrier, Rule::A6));
+            return Err(fault(program, waiter.number, barrier, Rule::A6, None));
         }
         if let Err(fault) = run_past_barrier(
             alloc,

@@ -207,6 +207,7 @@ fn of_request(request: &Request) -> Asked {
         Request::Call(call) => of_call(call),
         Request::Query(query) => of_query(query),
         Request::Reload(_) => Asked::Reloading,
+        Request::Rotate => Asked::Nothing,
     }
 }
 

@@ -11,7 +11,7 @@ use byteorder::{ByteOrder, LittleEndian};
 use core_model::{Effect, Entry};
 use kernel_check::{AtomicPointer, NumberType, Step};
 use policy::{Object, Right};
-use queue_error::{FaultPlace, QueueError, Rule};
+use queue_error::{FaultPlace, QueueError, Rule, SegmentAddress};
 use std::alloc::{AllocError, Global};
 
 /// What an instruction does to memory.
@@ -61,8 +61,27 @@ fn reach_of(step: &Step) -> Reach {
     }
 }
 
-// What the instruction on a line does to memory: the first there that works in memory.
-fn reach_at(alloc: Global, scene: &Scene<'_>, dispatch: &KernelDispatch, line: u32) -> Reach {
+// Whether an instruction works in the segment of an address; in any, where there is no address.
+fn works_at(reach: Reach, address: Option<SegmentAddress>) -> bool {
+    let in_group = match reach {
+        Reach::None => return false,
+        Reach::Group(_) => true,
+        _ => false,
+    };
+    match address {
+        Some(SegmentAddress::Global(_)) => !in_group,
+        Some(SegmentAddress::Group(_)) => in_group,
+        None => true,
+    }
+}
+
+// What the instruction at a place does to memory: the first of its line that works in the segment of its address.
+fn reach_at(
+    alloc: Global,
+    scene: &Scene<'_>,
+    dispatch: &KernelDispatch,
+    place: FaultPlace,
+) -> Reach {
     let Some(checked) = checked(alloc, scene.policy, dispatch.kernel_object) else {
         return Reach::None;
     };
@@ -75,7 +94,7 @@ fn reach_at(alloc: Global, scene: &Scene<'_>, dispatch: &KernelDispatch, line: u
     let program = checked.kernel(index);
     for (step, of) in program.steps().iter().zip(program.lines().iter()) {
         let reach = reach_of(step);
-        if *of == line && reach != Reach::None {
+        if *of == place.line && works_at(reach, place.address) {
             return reach;
         }
     }
@@ -121,23 +140,125 @@ fn bytes_word(size: u32) -> &'static str {
     if size == 1 { "byte" } else { "bytes" }
 }
 
-// What an access of so many bytes is, and which rights it wants.
-fn put_reach(out: &mut String, reach: Reach) -> Result<(), AllocError> {
-    let size = match reach {
-        Reach::Load(size) | Reach::Store(size) | Reach::Atomic(size) | Reach::Group(size) => size,
+// Where an access takes place, if its address is told.
+fn put_at(out: &mut String, word: &str, address: Option<SegmentAddress>) -> Result<(), AllocError> {
+    match address {
+        Some(SegmentAddress::Global(address)) => {
+            out.push_str(word)?;
+            put_address(out, address)
+        }
+        Some(SegmentAddress::Group(offset)) => write!(out, " at byte {offset}"),
+        None => Ok(()),
+    }
+}
+
+// What an access of so many bytes is, and where it takes place.
+fn put_access(
+    out: &mut String,
+    reach: Reach,
+    address: Option<SegmentAddress>,
+) -> Result<(), AllocError> {
+    let (size, word) = match reach {
+        Reach::Load(size) => (size, " from "),
+        Reach::Store(size) => (size, " to "),
+        Reach::Atomic(size) | Reach::Group(size) => (size, " at "),
         Reach::None => return out.push_str("an instruction"),
     };
     let bytes = bytes_word(size);
     match reach {
-        Reach::Load(_) => write!(out, "a load of {size} {bytes}, which wants READ"),
-        Reach::Store(_) => write!(out, "a store of {size} {bytes}, which wants WRITE"),
-        Reach::Atomic(_) => {
-            write!(
-                out,
-                "an atomic operation on {size} {bytes}, which wants READ and WRITE"
-            )
+        Reach::Load(_) => write!(out, "a load of {size} {bytes}")?,
+        Reach::Store(_) => write!(out, "a store of {size} {bytes}")?,
+        Reach::Atomic(_) => write!(out, "an atomic operation on {size} {bytes}")?,
+        _ => write!(out, "an access to {size} {bytes} of group memory")?,
+    }
+    put_at(out, word, address)
+}
+
+// Which rights an access wants.
+fn put_wanted(out: &mut String, reach: Reach) -> Result<(), AllocError> {
+    out.push_str(match wanted(reach) {
+        (true, true) => ", which wants READ and WRITE",
+        (true, false) => ", which wants READ",
+        (false, true) => ", which wants WRITE",
+        (false, false) => "",
+    })
+}
+
+// A region between two texts.
+fn put_about(
+    out: &mut String,
+    scene: &Scene<'_>,
+    before: &str,
+    region: Object,
+    behind: &str,
+) -> Result<(), AllocError> {
+    out.push_str(before)?;
+    put_object(out, scene.policy, region)?;
+    out.push_str(behind)
+}
+
+// Whether the packet holds a right on the region in which an access begins: the client had it at the launch, and an
+// argument points into the region; or it is READ where the argument block lies.
+fn is_held(launch: &Launch<'_>, region: Object, right: Right) -> bool {
+    if launch.is_pointed && is_in_force(launch.before, launch.opening.client, region, right) {
+        return true;
+    }
+    launch.has_block && right == Right::Read
+}
+
+// The first right that an access wants and that the packet doesn't hold on the region in which it begins.
+fn missing(launch: &Launch<'_>, region: Object) -> Option<Right> {
+    let (reads, writes) = wanted(launch.reach);
+    if reads && !is_held(launch, region, Right::Read) {
+        return Some(Right::Read);
+    }
+    if writes && !is_held(launch, region, Right::Write) {
+        return Some(Right::Write);
+    }
+    None
+}
+
+// Which right a packet lacks on the region in which an access begins.
+fn put_missing(
+    out: &mut String,
+    scene: &Scene<'_>,
+    launch: &Launch<'_>,
+    region: Object,
+) -> Result<(), AllocError> {
+    match missing(launch, region) {
+        Some(right) => {
+            write!(out, ": the packet holds no {right}")?;
+            put_about(out, scene, " on ", region, "\n")
         }
-        _ => write!(out, "an access to {size} {bytes} of group memory"),
+        None => out.push_str(": the packet doesn't hold that on the region\n"),
+    }
+}
+
+// What a rule of regions says of an access, by the region in which it begins.
+fn put_region(
+    out: &mut String,
+    scene: &Scene<'_>,
+    launch: &Launch<'_>,
+    region: Object,
+) -> Result<(), AllocError> {
+    match launch.rule {
+        Rule::A1 => put_about(out, scene, ": the packet holds no right on ", region, "\n"),
+        Rule::A2 => put_missing(out, scene, launch, region),
+        Rule::A3 => put_about(
+            out,
+            scene,
+            ": it begins in ",
+            region,
+            ", and ends behind it\n",
+        ),
+        Rule::A4 => put_about(
+            out,
+            scene,
+            ": its address, in ",
+            region,
+            ", is no multiple of its size\n",
+        ),
+        _ => out.push_str("\n"),
     }
 }
 
@@ -146,19 +267,19 @@ fn tell_rule(
     out: &mut String,
     scene: &Scene<'_>,
     dispatch: &KernelDispatch,
-    rule: Rule,
-    reach: Reach,
+    launch: &Launch<'_>,
+    address: Option<SegmentAddress>,
 ) -> Result<(), AllocError> {
     begin(out, scene)?;
     out.push_str("it is ")?;
-    put_reach(out, reach)?;
+    put_access(out, launch.reach, address)?;
+    put_wanted(out, launch.reach)?;
+    if let Some(region) = launch.region {
+        return put_region(out, scene, launch, region);
+    }
     let segment = dispatch.group_segment_size;
-    match rule {
-        Rule::A1 => out.push_str(": its address lies in no region that the packet holds\n"),
-        Rule::A2 => out.push_str(": the packet doesn't hold that on the region\n"),
-        Rule::A3 => out.push_str(
-            ": it begins in a region that the packet holds, and ends behind it\n",
-        ),
+    match launch.rule {
+        Rule::A1 => out.push_str(": no region of the policy lies there\n"),
         Rule::A4 => out.push_str(": its address is no multiple of its size\n"),
         Rule::A5 => out.push_str(
             ", behind 65536 others of the item, the most: see that the loop ends\n",
@@ -230,6 +351,14 @@ fn region_at(scene: &Scene<'_>, address: u64) -> Option<Object> {
     }
 }
 
+// The region in which an access begins, if its address lies in one.
+fn region_of(scene: &Scene<'_>, address: Option<SegmentAddress>) -> Option<Object> {
+    match address {
+        Some(SegmentAddress::Global(address)) => region_at(scene, address),
+        _ => None,
+    }
+}
+
 // The rights on a region that the packet got at its launch.
 fn put_held(
     out: &mut String,
@@ -249,13 +378,19 @@ fn put_held(
     })
 }
 
-/// What is told of each argument that may point into memory: the packet's launch, and what the access wants.
+/// By what a fault and each argument that may point into memory are told: the packet's launch, what the access
+/// wants, and the region in which it begins.
 #[derive(Clone, Copy)]
 struct Launch<'a> {
     opening: Opening,
     before: &'a [Entry],
     rule: Rule,
     reach: Reach,
+    region: Option<Object>,
+    /// Whether an argument of 64 bits points into that region.
+    is_pointed: bool,
+    /// Whether the argument block lies in it.
+    has_block: bool,
 }
 
 // A right that an access wants and that the client lacks on a region.
@@ -289,7 +424,7 @@ fn tell_all_wanted(
     launch: &Launch<'_>,
     region: Object,
 ) -> Result<(), AllocError> {
-    if launch.rule != Rule::A1 && launch.rule != Rule::A2 {
+    if launch.rule == Rule::A3 || launch.region != Some(region) {
         return Ok(());
     }
     let (reads, writes) = wanted(launch.reach);
@@ -323,38 +458,106 @@ fn tell_pointer(
     tell_all_wanted(out, scene, launch, region)
 }
 
-// Where the packet's arguments point.
-fn tell_pointers(
-    alloc: Global,
+// That no argument points into the region in which an access begins, where one lies there.
+fn tell_unpointed(
     out: &mut String,
     scene: &Scene<'_>,
     launch: &Launch<'_>,
-    dispatch: &KernelDispatch,
+) -> Result<(), AllocError> {
+    let Some(region) = launch.region else {
+        return Ok(());
+    };
+    if launch.is_pointed || launch.rule == Rule::A3 {
+        return Ok(());
+    }
+    begin(out, scene)?;
+    put_about(
+        out,
+        scene,
+        "no argument of 64 bits points into ",
+        region,
+        ": a packet holds rights on regions into which one does, and READ where its argument block lies\n",
+    )
+}
+
+// Whether an argument of 64 bits points into a region.
+fn is_pointed(scene: &Scene<'_>, shape: &Shape, block: &[u8], region: Option<Object>) -> bool {
+    for offset in shape.wide.as_slice() {
+        if region.is_some() && region_at(scene, argument(block, *offset)) == region {
+            return true;
+        }
+    }
+    false
+}
+
+// Where the packet's arguments point.
+fn tell_pointers(
+    out: &mut String,
+    scene: &Scene<'_>,
+    launch: &Launch<'_>,
     shape: &Shape,
+    block: &[u8],
 ) -> Result<(), AllocError> {
     if shape.wide.is_empty() {
         return say(
             out,
             scene,
-            "the kernel has no argument of 64 bits, so its packet holds no region",
+            "the kernel has no argument of 64 bits: its packet holds no right on a region, but READ where its argument block lies",
         );
     }
+    for offset in shape.wide.as_slice() {
+        tell_pointer(out, scene, launch, *offset, argument(block, *offset))?;
+    }
+    tell_unpointed(out, scene, launch)
+}
+
+// Whether a rule is of regions.
+fn is_of_regions(rule: Rule) -> bool {
+    rule == Rule::A1 || rule == Rule::A2 || rule == Rule::A3
+}
+
+// Why a kernel dispatch failed, by its argument block at its launch.
+fn tell_block(
+    out: &mut String,
+    scene: &Scene<'_>,
+    dispatch: &KernelDispatch,
+    place: FaultPlace,
+    launch: &Launch<'_>,
+    shape: &Shape,
+    block: &[u8],
+) -> Result<(), AllocError> {
+    let region = region_at(scene, dispatch.kernarg_address.0);
+    let launch = Launch {
+        is_pointed: is_pointed(scene, shape, block, launch.region),
+        has_block: shape.arguments > 0 && region.is_some() && region == launch.region,
+        ..*launch
+    };
+    tell_place(out, scene, dispatch, launch.rule, place)?;
+    tell_rule(out, scene, dispatch, &launch, place.address)?;
+    if is_of_regions(launch.rule) {
+        tell_pointers(out, scene, &launch, shape, block)
+    } else {
+        Ok(())
+    }
+}
+
+// Why a kernel dispatch failed, by its kernel's arguments.
+fn tell_shape(
+    alloc: Global,
+    out: &mut String,
+    scene: &Scene<'_>,
+    dispatch: &KernelDispatch,
+    place: FaultPlace,
+    launch: &Launch<'_>,
+    shape: &Shape,
+) -> Result<(), AllocError> {
     let block = memory(
         alloc,
         launch.before,
         dispatch.kernarg_address,
         shape.arguments,
     )?;
-    for offset in shape.wide.as_slice() {
-        let address = argument(block.as_slice(), *offset);
-        tell_pointer(out, scene, launch, *offset, address)?;
-    }
-    Ok(())
-}
-
-// Whether a rule is of regions.
-fn is_of_regions(rule: Rule) -> bool {
-    rule == Rule::A1 || rule == Rule::A2 || rule == Rule::A3
+    tell_block(out, scene, dispatch, place, launch, shape, block.as_slice())
 }
 
 // Why a kernel dispatch failed.
@@ -372,12 +575,6 @@ fn tell_dispatch(
     let Some(opening) = owner(alloc, scene.entries, error.queue)? else {
         return Ok(());
     };
-    let reach = reach_at(alloc, scene, dispatch, place.line);
-    tell_place(out, scene, dispatch, error.rule, place)?;
-    tell_rule(out, scene, dispatch, error.rule, reach)?;
-    if !is_of_regions(error.rule) {
-        return Ok(());
-    }
     let before = scene
         .entries
         .split_at(found.before.min(scene.entries.len()))
@@ -386,10 +583,13 @@ fn tell_dispatch(
         opening,
         before,
         rule: error.rule,
-        reach,
+        reach: reach_at(alloc, scene, dispatch, place),
+        region: region_of(scene, place.address),
+        is_pointed: false,
+        has_block: false,
     };
     match shape_of(alloc, scene.policy, dispatch.kernel_object)? {
-        Some(shape) => tell_pointers(alloc, out, scene, &launch, dispatch, &shape),
+        Some(shape) => tell_shape(alloc, out, scene, dispatch, place, &launch, &shape),
         None => Ok(()),
     }
 }

@@ -277,7 +277,7 @@ fn tell(replies: &[Reply], entries: usize) -> bool {
     let [
         Ok(Answer::Outcome(first)),
         Ok(Answer::Errors(errors)),
-        Ok(Answer::Audit(audit)),
+        Ok(Answer::Audit { entries: audit, .. }),
     ] = replies
     else {
         return false;

@@ -1,7 +1,7 @@
 //! What queue errors print.
 
 use aql_packet::{PacketId, QueueId};
-use queue_error::{FaultPlace, QueueError, Rule};
+use queue_error::{FaultPlace, QueueError, Rule, SegmentAddress};
 use std::test::*;
 
 const RULES: [(Rule, &str); 18] = [
@@ -39,11 +39,13 @@ fn an_error_prints_with_and_without_a_place(rt: HostRuntime) -> Result<(), Fail>
         group: 1,
         item: 1,
         line: 9,
+        address: Some(SegmentAddress::Global(0x1_0000_003d)),
     };
     let last = FaultPlace {
         group: 4_294_967_294,
         item: 1_023,
         line: 65_536,
+        address: None,
     };
     let rows = [
         ("queue 1 packet 0 rule L8", 1, 0, Rule::L8, None),

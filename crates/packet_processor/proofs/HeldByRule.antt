@@ -8,7 +8,7 @@ use Rattle.policy.specs.declared.object.Object.{Object}
 use Rattle.policy.specs.declared.rights.Rights.{Rights}
 use Rattle.queue_error.specs.declared.rule.Rule.TheVariants.{L4, L6, L8, L9, L10}
 use Rattle.core_model.specs.declared.need.Need.{Need}
-use Rattle.core_model.specs.Queues.{Opening}
+use Rattle.core_model.specs.declared.origin.Opening.{Opening}
 use Rattle.core_model.specs.Needs.{needs}
 use Rattle.core_model.specs.Holds.{ObjectRight, right_needed, held_by_needs}
 use Rattle.packet_processor.specs.Holding.{as_rights}

@@ -29,7 +29,7 @@ text_of_rule A6 = codes "A6"
 text_of_rule A7 = codes "A7"
 text_of_rule B1 = codes "B1"
 
--- `group G item I line L`
+-- `group G item I line L`; the address is told by no text of an error
 abbrev pub text_of_place : FaultPlace → List ℕ
 text_of_place place =
     codes "group " ++ decimal place.group ++ codes " item " ++ decimal place.item

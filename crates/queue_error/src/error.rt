@@ -4,7 +4,15 @@ use crate::rule::Rule;
 use aql_packet::{PacketId, QueueId};
 use std::fmt;
 
-/// Where in a kernel's work a rule was broken. It prints as `group 1 item 1 line 9`.
+/// An address of a segment (PRM, Address Expressions): one of all memory that a packet may hold, or how
+/// far it lies behind the first byte of the work-group's group segment.
+#[derive(Clone, Copy, Debug, PartialEq, Eq)]
+pub enum SegmentAddress {
+    Global(u64),
+    Group(u32),
+}
+
+/// Where in a kernel's work a rule was broken. It prints as `group 1 item 1 line 9`, without the address.
 #[derive(Clone, Copy, Debug, PartialEq, Eq)]
 pub struct FaultPlace {
     /// The work-group's flat number, from 0.
@@ -13,6 +21,8 @@ pub struct FaultPlace {
     pub item: u32,
     /// The line of the kernel's text, from 1.
     pub line: u32,
+    /// The address that the item asked for; none where it broke the rule without an access, A5 or A6.
+    pub address: Option<SegmentAddress>,
 }
 
 /// A packet was denied, or failed at its work. It prints as `queue 1 packet 0 rule L8`, and with a

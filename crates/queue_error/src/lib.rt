@@ -6,5 +6,5 @@
 mod error;
 mod rule;
 
-pub use error::{FaultPlace, QueueError};
+pub use error::{FaultPlace, QueueError, SegmentAddress};
 pub use rule::Rule;

@@ -13,11 +13,11 @@ entries_snoc policy number (first ∷ entries) entry =
     rw (entries_snoc policy (number + 1) entries entry, e)
     (sym (append_assoc (text_of_entry policy number first) (text_of_entries policy (number + 1) entries) (text_of_entry policy (number + length (first ∷ entries)) entry)))
 
-pub entries_more : (policy : Declared) (entries : List Entry) (i : ℕ) (d : Entry) (start old new : List ℕ) (number : ℕ) → i < length entries →
-    old ≡ start ++ text_of_entries policy 1 (take i entries) → number ≡ i + 1 → new ≡ old ++ text_of_entry policy number (get_or entries i d) →
-    new ≡ start ++ text_of_entries policy 1 (take (i + 1) entries)
-entries_more policy entries i d start old new number h so n e =
+pub entries_more : (policy : Declared) (entries : List Entry) (i : ℕ) (d : Entry) (start old new : List ℕ) (before number : ℕ) → i < length entries →
+    old ≡ start ++ text_of_entries policy (before + 1) (take i entries) → number ≡ before + 1 + i → new ≡ old ++ text_of_entry policy number (get_or entries i d) →
+    new ≡ start ++ text_of_entries policy (before + 1) (take (i + 1) entries)
+entries_more policy entries i d start old new before number h so n e =
     let len : length (take i entries) ≡ i = length-take-le i entries (omega arith) in
-    let num : 1 + length (take i entries) ≡ number = omega arith in
-    let snoc = entries_snoc policy 1 (take i entries) (get_or entries i d) in
+    let num : (before + 1) + length (take i entries) ≡ number = omega arith in
+    let snoc = entries_snoc policy (before + 1) (take i entries) (get_or entries i d) in
     rw (take_more entries i d h, snoc, num) (e ∙ ap (λ text. text ++ text_of_entry policy number (get_or entries i d)) so ∙ append_assoc start _ _)

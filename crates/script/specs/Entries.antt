@@ -24,6 +24,7 @@ use Rattle.core_model.specs.declared.outcome.Outcome.{Outcome}
 use Rattle.core_model.specs.declared.outcome.Outcome.TheVariants as outcome
 use Rattle.core_model.specs.declared.event.Event.{Event}
 use Rattle.core_model.specs.declared.event.Event.TheVariants as event
+use Rattle.core_model.specs.History.{Part}
 use Rattle.core_model.specs.declared.entry.Effect.{Effect}
 use Rattle.core_model.specs.declared.entry.Effect.TheVariants as effect
 use Rattle.core_model.specs.declared.entry.Entry.{Entry}
@@ -137,6 +138,10 @@ abbrev pub text_of_entries : Declared → ℕ → List Entry → List ℕ
 text_of_entries policy number [] = []
 text_of_entries policy number (entry ∷ entries) = text_of_entry policy number entry ++ text_of_entries policy (number + 1) entries
 
--- the audit: `audit N`, then N lines, numbered from 1
-abbrev pub text_of_audit : Declared → List Entry → List ℕ
-text_of_audit policy entries = codes "audit " ++ decimal (length entries) ++ codes "\n" ++ text_of_entries policy 1 entries
+-- the audit: `audit N`, then N lines, numbered on from those that came before
+abbrev pub text_of_audit : Declared → ℕ → List Entry → List ℕ
+text_of_audit policy before entries = codes "audit " ++ decimal (length entries) ++ codes "\n" ++ text_of_entries policy (before + 1) entries
+
+-- a part that was handed out: `rotated N`, then N lines as those of the audit
+abbrev pub text_of_rotated : Declared → Part → List ℕ
+text_of_rotated policy part = codes "rotated " ++ decimal (length part.entries) ++ codes "\n" ++ text_of_entries policy (part.start.before + 1) part.entries

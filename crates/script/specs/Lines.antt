@@ -182,6 +182,10 @@ reload_row later words = option_and_then (λ w. option_and_then (λ number.
 abbrev pub audit_row : List Word → Option Command
 audit_row words = if no_words words then Some (asks query.Audit) else None
 
+-- `rotate`
+abbrev pub rotate_row : List Word → Option Command
+rotate_row words = if no_words words then Some (command.Ask request.Rotate) else None
+
 -- the verb of a word, among those of clients' calls and of queries
 abbrev pub client_verb_of : Word → Option Verb
 client_verb_of word =
@@ -194,6 +198,7 @@ client_verb_of word =
     else if bytes_eq word (codes "errors") then Some verb.Errors
     else if bytes_eq word (codes "audit") then Some verb.Audit
     else if bytes_eq word (codes "reload") then Some verb.Reload
+    else if bytes_eq word (codes "rotate") then Some verb.Rotate
     else None
 
 -- the verb of a word, among those and those of single steps on a ring
@@ -262,6 +267,7 @@ command_of policy later verb.List words = list_row policy words
 command_of policy later verb.Errors words = option_map (λ queue. asks (query.Errors queue)) (queue_of words)
 command_of policy later verb.Audit words = audit_row words
 command_of policy later verb.Reload words = reload_row later words
+command_of policy later verb.Rotate words = rotate_row words
 
 -- what words ask: none ask nothing, else the first is a verb
 abbrev pub asked_by : Declared → ℕ → List Word → Option Line

@@ -36,7 +36,7 @@ use Rattle.script.specs.declared.command.Form.TheVariants as form
 use Rattle.script.specs.declared.command.LineAnswer.{LineAnswer}
 use Rattle.script.specs.declared.command.LineAnswer.TheVariants as line
 use Rattle.script.specs.Texts.{text_of_bytes, text_of_rights, text_of_word}
-use Rattle.script.specs.Entries.{text_of_audit}
+use Rattle.script.specs.Entries.{text_of_audit, text_of_rotated}
 
 -- a refusal's number and name
 abbrev pub name_of_refusal : Refusal → List ℕ
@@ -130,7 +130,7 @@ text_of_answer policy old (answer.Value value) = codes "value " ++ signed_decima
 text_of_answer policy old (answer.Test held) = if held then codes "true\n" else codes "false\n"
 text_of_answer policy old (answer.Listing all) = text_of_listing policy all
 text_of_answer policy old (answer.Errors all) = text_of_errors all
-text_of_answer policy old (answer.Audit all) = text_of_audit policy all
+text_of_answer policy old (answer.Audit before all) = text_of_audit policy before all
 
 -- ---- what the world answers
 
@@ -157,6 +157,7 @@ text_of_made policy form (made.Step seen) = text_of_seen form seen ++ codes "\n"
 text_of_made policy form (made.Header packet word) = codes "word " ++ text_of_word word ++ codes "\n"
 text_of_made policy form (made.Taken packet taken) = text_of_taken packet taken ++ codes "\n"
 text_of_made policy form (made.Core answer) = text_of_answer policy (tells_old form) answer
+text_of_made policy form (made.Rotated part) = text_of_rotated policy part
 
 -- the words of a packet, as its bytes
 abbrev pub text_of_words : List ℕ → List ℕ

@@ -1,6 +1,5 @@
 -- What is owed to the lines of a script.
 use Rattle.std.specs.Prelude.{ℕ, ◌≡◌, ◌==◌, ◌⊎◌, Bool, true, false, List, [], ◌∷◌, ◌++◌, Option, Some, None, Result, if◌then◌else◌, length}
-use Rattle.core_model.specs.History.{beginning}
 use Rattle.policy.specs.Policy.{Declared}
 use Rattle.world.specs.declared.reply.Refusal.{Refusal}
 use Rattle.world.specs.declared.request.Request.{Request}
@@ -66,7 +65,7 @@ StopsNear law old new lines = (new ≡ old) ⊎ StopsAt law old new lines
 unfoldable pub worlds : List Declared → Law Joined
 worlds later = record {
   serves = λ old command told new. does later command old told new;
-  names = λ world. (beginning world.core).policy;
+  names = λ world. world.core.origin.policy;
   later = length later;
 }
 

@@ -1,7 +1,6 @@
 //! The engine: it reads a line, does what it asks, and writes the reply.
 
 ghost use Rattle.std.specs.Prelude.{◌≡◌, ◌++◌, MatchResult, OnOk, OnErr, Result, string_bytes};
-ghost use Rattle.core_model.specs.History.{beginning};
 ghost use Rattle.world.specs.declared.reply.Refusal.{Refusal};
 ghost use Rattle.script.specs.declared.command.LineAnswer.{LineAnswer};
 ghost use Rattle.script.specs.Expansions.{does};
@@ -25,7 +24,7 @@ fn serve(
     out: &mut String,
 ) -> Result<(), AllocError>
     ensures served { (told : Result LineAnswer Refusal) × does later.now command world.old told world.new
-        × OnOk result (string_bytes out.new ≡ string_bytes out.old ++ text_of_line (beginning world.new.core).policy told) }
+        × OnOk result (string_bytes out.new ≡ string_bytes out.old ++ text_of_line world.new.core.origin.policy told) }
     ensures wanted { OnErr result (string_bytes out.new ≡ string_bytes out.old) }
 {
     let told = perform(alloc, world, later, command);

@@ -1,12 +1,12 @@
 //! The audit as text.
 
 ghost use Rattle.std.specs.Prelude.{◌≡◌, ◌++◌, ◌+◌, ◌<◌, OnOk, flat_map, decimal, string_bytes};
-ghost use Rattle.script.specs.Entries.{name_of_operation, text_of_packet, text_of_rights_on, opened, text_of_opening, seen_at, text_of_take, text_of_work, text_of_poll, text_of_event, text_of_seen, text_of_broken, text_of_result, text_of_effect, text_of_entry, text_of_audit};
+ghost use Rattle.script.specs.Entries.{name_of_operation, text_of_packet, text_of_rights_on, opened, text_of_opening, seen_at, text_of_take, text_of_work, text_of_poll, text_of_event, text_of_seen, text_of_broken, text_of_result, text_of_effect, text_of_entry, text_of_entries, text_of_audit, text_of_rotated};
 ghost use Rattle.script.specs.Texts.{comma_if};
 
 use crate::texts::{write_address, write_bytes, write_client, write_item, write_rights};
 use aql_packet::{ClientId, PacketId, QueueId};
-use core_model::{Effect, Entry, Event, Outcome, Polled, Satisfied, Taken, Worked};
+use core_model::{Effect, Entry, Event, Outcome, Part, Polled, Satisfied, Taken, Worked};
 use policy::{Object, Policy, Rights};
 use queue_error::QueueError;
 use signals::SignalOp;
@@ -260,7 +260,7 @@ fn opened_queue(outcome: &Outcome) -> u64
 fn write_entry(
     out: &mut String,
     policy: &Policy,
-    number: u64,
+    number: u128,
     entry: &Entry,
 ) -> Result<(), AllocError>
     ensures { OnOk result (string_bytes out.new ≡ string_bytes out.old ++ text_of_entry policy.now number entry.now) }
@@ -272,12 +272,38 @@ fn write_entry(
     out.push_str("\n")
 }
 
-/// Writes the audit.
-pub fn write_audit(out: &mut String, policy: &Policy, entries: &[Entry]) -> Result<(), AllocError>
-    ensures { OnOk result (string_bytes out.new ≡ string_bytes out.old ++ text_of_audit policy.now entries.now) }
+/// Writes the audit, whose entries come behind so many others.
+pub fn write_audit(
+    out: &mut String,
+    policy: &Policy,
+    before: u64,
+    entries: &[Entry],
+) -> Result<(), AllocError>
+    ensures { OnOk result (string_bytes out.new ≡ string_bytes out.old ++ text_of_audit policy.now before entries.now) }
 {
     writeln!(out, "audit {}", entries.len())?;
-    let mut number = 1u64;
+    write_entries(out, policy, before, entries)
+}
+
+/// Writes a part that was handed out, its entries as those of the audit.
+pub fn write_rotated(out: &mut String, policy: &Policy, part: &Part) -> Result<(), AllocError>
+    ensures { OnOk result (string_bytes out.new ≡ string_bytes out.old ++ text_of_rotated policy.now part.now) }
+{
+    let entries = part.entries();
+    writeln!(out, "rotated {}", entries.len())?;
+    write_entries(out, policy, part.start().before, entries)
+}
+
+/// Writes entries that come behind so many others, each with its number.
+pub fn write_entries(
+    out: &mut String,
+    policy: &Policy,
+    before: u64,
+    entries: &[Entry],
+) -> Result<(), AllocError>
+    ensures { OnOk result (string_bytes out.new ≡ string_bytes out.old ++ text_of_entries policy.now (before + 1) entries.now) }
+{
+    let mut number = u128::from(before) + 1;
     for entry in entries {
         write_entry(out, policy, number, entry)?;
         number += 1;

@@ -4,6 +4,7 @@ ghost use Rattle.std.specs.Prelude.{◌≡◌, ℕ, List, Some, true};
 ghost use Rattle.std.specs.List.{list_all};
 ghost use Rattle.kernel_check.specs.Programs.{Program};
 ghost use Rattle.policy.specs.Policy.{Declared};
+ghost use Rattle.world.specs.Dues.{Reply, handed_out};
 ghost use Rattle.world.specs.Headline.{Headline, IsBegun};
 ghost use Rattle.world.specs.States.{Joined};
 ghost use Rattle.script.specs.declared.command.Command.{Command};
@@ -29,11 +30,11 @@ pub fn numbers_are_sums_of_their_digits()
 {}
 
 /// What a line does is some requests to the world, served in turn; so after any script, over a world that was just
-/// opened over a policy, with any kernels, the headline holds.
+/// opened over a policy, with any kernels, the headline holds, behind what the replies to those requests handed out.
 pub fn scripts_are_requests(policy: &Policy)
     ensures line { (later : List Declared) (asked : Command) (old : Joined) (told : Told) (new : Joined) → does later asked old told new → Reaches old new }
     ensures headline { (later : List Declared) (kernels : List Program) (capacity : ℕ) (lines : List (List ℕ)) (text : List ℕ) (opened world : Joined) →
-        IsBegun opened policy.now kernels capacity → Runs (worlds later) opened lines text world → Headline world }
+        IsBegun opened policy.now kernels capacity → Runs (worlds later) opened lines text world → (replies : List Reply) × Headline policy.now (handed_out replies) world }
 {
     the_headline(policy);
 }

@@ -2,7 +2,7 @@
 
 ghost use Rattle.std.specs.Prelude.{◌≡◌, IfOk, option_map};
 ghost use Rattle.script.specs.Words.{words};
-ghost use Rattle.script.specs.Lines.{client_in, object_in, agent_in, signal_in, rights_on, grant_row, revoke_row, queue_row, queue_of, packet_of_queue, calls, asks, steps, processes, reserve_row, room_row, store_of, word_row, part_row, publish_row, submit_row, write_row, read_row, operation_of, plain_operation, cas_operation, signal_row, load_row, test_row, list_row, is_later, reload_row, audit_row, command_of, line_of, asked_by, is_comment, IsPlain};
+ghost use Rattle.script.specs.Lines.{client_in, object_in, agent_in, signal_in, rights_on, grant_row, revoke_row, queue_row, queue_of, packet_of_queue, calls, asks, steps, processes, reserve_row, room_row, store_of, word_row, part_row, publish_row, submit_row, write_row, read_row, operation_of, plain_operation, cas_operation, signal_row, load_row, test_row, list_row, is_later, reload_row, audit_row, rotate_row, command_of, line_of, asked_by, is_comment, IsPlain};
 
 use crate::command::Command;
 use crate::numbers::{
@@ -476,6 +476,17 @@ fn audit(line: &[u8]) -> Option<Command>
     }
 }
 
+// `rotate`
+fn rotate(line: &[u8]) -> Option<Command>
+    ensures { result ≡ rotate_row (words line.now) }
+{
+    if no_words(line) {
+        Some(Command::Ask(Request::Rotate))
+    } else {
+        None
+    }
+}
+
 // Whether a number of further policies has this one, counted from 1.
 fn is_later(later: usize, number: u64) -> bool
     ensures { result ≡ is_later later number }
@@ -533,6 +544,7 @@ fn plain_command(policy: &Policy, later: usize, verb: Verb, line: &[u8]) -> Opti
         Verb::Errors => errors(line),
         Verb::Audit => audit(line),
         Verb::Reload => reload(later, line),
+        Verb::Rotate => rotate(line),
         Verb::Word | Verb::Publish | Verb::Submit | Verb::Write => None,
     }
 }

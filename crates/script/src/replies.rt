@@ -5,7 +5,7 @@ ghost use Rattle.script.specs.Replies.{name_of_refusal, details_of_refusal, text
 ghost use Rattle.script.specs.Texts.{text_of_bytes, text_of_word};
 
 use crate::command::{Form, LineAnswer, LineReply, Shown};
-use crate::entries::write_audit;
+use crate::entries::{write_audit, write_rotated};
 use crate::texts::{write_bytes, write_rights, write_word};
 use aql_packet::PacketId;
 use core_model::{Answer, Outcome, Polled, Refusal, Taken, WaitCause, Worked};
@@ -197,7 +197,9 @@ fn write_answer(
         Answer::Test(held) => out.push_str(if *held { "true\n" } else { "false\n" }),
         Answer::Listing(all) => write_listing(out, policy, all.as_slice()),
         Answer::Errors(all) => write_errors(out, all.as_slice()),
-        Answer::Audit(all) => write_audit(out, policy, all.as_slice()),
+        Answer::Audit { before, entries } => {
+            write_audit(out, policy, *before, entries.as_slice())
+        }
     }
 }
 
@@ -263,6 +265,7 @@ fn write_made(out: &mut String, policy: &Policy, form: Form, made: &Made) -> Res
             out.push_str("\n")
         }
         Made::Core(answer) => write_answer(out, policy, tells_old(form), answer),
+        Made::Rotated(part) => write_rotated(out, policy, part),
     }
 }
 

@@ -37,6 +37,7 @@ pub enum Verb {
     Errors,
     Audit,
     Reload,
+    Rotate,
 }
 
 /// The verb of a word.
@@ -128,6 +129,8 @@ fn client_verb(word: &[u8]) -> Option<Verb>
         Some(Verb::Audit)
     } else if is_word(word, "reload") {
         Some(Verb::Reload)
+    } else if is_word(word, "rotate") {
+        Some(Verb::Rotate)
     } else {
         None
     }

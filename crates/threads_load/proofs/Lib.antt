@@ -1,3 +1,4 @@
 pub mod Belonging
 pub mod Endings
 pub mod Ranges
+pub mod Sums

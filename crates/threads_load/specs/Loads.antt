@@ -1,7 +1,8 @@
 -- What a load comes to (own).
-use Rattle.std.specs.Prelude.{◌≡◌, List, string_bytes, ⊤}
+use Rattle.std.specs.Prelude.{◌≡◌, List, [], ◌∷◌, ◌++◌, string_bytes, ⊤}
 use Rattle.policy.specs.Policy.{Declared}
-use Rattle.core_model.specs.History.{History, beginning}
+use Rattle.core_model.specs.History.{History, Part, beginning}
+use Rattle.core_model.specs.Rotation.{LeadTo}
 use Rattle.core_model.specs.Legal.{IsLegal}
 use Rattle.core_model.specs.declared.entry.Entry.{Entry}
 use Rattle.client_threads.specs.declared.client_end.ClientEnd.{ClientEnd}
@@ -30,22 +31,26 @@ EndsAs entries lanes ending.Settled = AllAgree entries lanes
 EndsAs entries lanes ending.Unsettled = AllAgree entries lanes
 EndsAs entries lanes (ending.Mismatch queue packet) = IsLeastMismatch entries lanes queue.0 packet.0
 
--- what a broker came to with some rings, ends and lanes (own)
-abbrev pub IsSomeSettlement : Settlement → Type 0
-IsSomeSettlement settlement = (rings : List QueueRing) × (ends : List ClientEnd) × (lanes : List LaneSeen) × IsSettlement rings ends lanes settlement
+-- what a broker came to with some rings, ends and lanes, and with a part that was handed out of its audit (own)
+abbrev pub IsSomeSettlement : Part → Settlement → Type 0
+IsSomeSettlement part settlement = (rings : List QueueRing) × (ends : List ClientEnd) × (lanes : List LaneSeen) × IsSettlement rings (part ∷ []) ends lanes settlement
 
--- a history is legal, and a load that left it ended so with some lanes (own)
-abbrev pub EndsWith : History → Ending → Type 0
-EndsWith history ended = IsLegal (beginning history) history.entries × ((lanes : List LaneSeen) × EndsAs history.entries lanes ended)
+-- a history is legal, a part leads to it, and a load that left both ended so with some lanes (own)
+pub record EndsWith (part : Part) (history : History) (ended : Ending) : Type 0 where
+  pub legal : IsLegal (beginning history) history.entries
+  pub lead : LeadTo (part ∷ []) history.origin
+  pub lanes : List LaneSeen
+  pub ends : EndsAs (part.entries ++ history.entries) lanes ended
 
--- a load ended, with the core that it left (own)
+-- a load ended, with the core that it left and the part that was handed out (own)
 abbrev pub EndsLoad : Ended → Type 0
-EndsLoad ended = EndsWith ended.core.history ended.ending
+EndsLoad ended = EndsWith ended.part ended.core.history ended.ending
 
--- the report of a load with this plan is that of a legal history, which the load left (own)
+-- the report of a load with this plan is that of a legal history, which the load left, and of the part that leads to it (own)
 abbrev pub TellsPlan : List PlannedQueue → Load → Type 0
 TellsPlan plan load =
-    (history : History) × EndsWith history load.ending × (string_bytes load.report ≡ text_of_report (beginning history) history.entries plan load.ending)
+    (part : Part) × (history : History) × EndsWith part history load.ending
+    × (string_bytes load.report ≡ text_of_report (beginning history) part.entries history.entries plan load.ending)
 
 -- the report of a load over a policy (own)
 abbrev pub TellsLoad : Declared → Load → Type 0

@@ -85,6 +85,8 @@ text_of_ending ending.Settled = codes "settled\n"
 text_of_ending ending.Unsettled = codes "unsettled\n"
 text_of_ending (ending.Mismatch queue packet) = codes "mismatch " ++ decimal queue.0 ++ codes " " ++ decimal packet.0 ++ 10 ∷ []
 
--- the report of a load, by the entries that it left and its plan (own)
-abbrev pub text_of_report : Start → List Entry → List PlannedQueue → Ending → List ℕ
-text_of_report start entries plan ended = text_of_queues start entries 1 plan ++ text_of_regions start entries plan ++ text_of_ending ended
+-- the report of a load, by the entries that were handed out, what the history goes on from behind them, its entries, and the load's
+-- plan (own)
+abbrev pub text_of_report : Start → List Entry → List Entry → List PlannedQueue → Ending → List ℕ
+text_of_report start handed_out entries plan ended =
+    text_of_queues start (handed_out ++ entries) 1 plan ++ text_of_regions start entries plan ++ text_of_ending ended

@@ -1,6 +1,6 @@
 //! What became of packets is counted in the audit.
 
-ghost use Rattle.std.specs.Prelude.{◌≡◌, count_by};
+ghost use Rattle.std.specs.Prelude.{◌≡◌, ◌++◌, count_by};
 ghost use Rattle.threads_load.specs.Counts.{is_completion, is_denial, is_denied, is_launch, is_launched, packet_counts};
 
 use aql_packet::QueueId;
@@ -96,5 +96,17 @@ pub fn count_packets(audit: &[Entry], queue: QueueId) -> PacketCounts
         launched: launches(audit, queue),
         finished: completions(audit, queue),
         denied: denials(audit, queue),
+    }
+}
+
+/// Counts what became of the packets of a queue in the entries that were handed out of an audit, and in those since.
+#[tactic(auto, using(crate::proofs::Sums::in_both))]
+pub fn count_all(handed_out: &[Entry], audit: &[Entry], queue: QueueId) -> PacketCounts
+    ensures { result ≡ packet_counts (handed_out.now ++ audit.now) queue.0 }
+{
+    PacketCounts {
+        launched: launches(handed_out, queue) + launches(audit, queue),
+        finished: completions(handed_out, queue) + completions(audit, queue),
+        denied: denials(handed_out, queue) + denials(audit, queue),
     }
 }

@@ -15,6 +15,8 @@ pub enum LoadFault {
     Refused(Refusal),
     /// A pass didn't come back from its thread.
     MissingPass,
+    /// The part that was handed out doesn't lead to the audit.
+    NotNext,
 }
 
 impl From<AllocError> for LoadFault {

@@ -8,6 +8,9 @@ use std::thread;
 /// How many turns a lane makes at the most.
 const MOST_TURNS: u64 = 10_000_000;
 
+/// How often it is looked at the most whether a packet is finished.
+const MOST_LOOKS: u64 = 1_000_000;
+
 /// Ends a lane of the load where as many of its packets are finished as its producers publish, and else behind
 /// 10,000,000 turns.
 #[derive(Drop)]
@@ -37,6 +40,26 @@ impl LoadGate {
     /// Whether a lane met its turns.
     pub fn is_unsettled(&self) -> bool {
         self.unsettled.load(Ordering::SeqCst) != 0
+    }
+
+    /// Waits until a packet is finished, where there is a lane, and else behind 1,000,000 looks.
+    pub fn wait_for_first(&self) {
+        for _look in 0..MOST_LOOKS {
+            if self.has_first() {
+                return;
+            }
+            thread::yield_now();
+        }
+    }
+
+    // Whether a packet is finished, or there is no lane.
+    fn has_first(&self) -> bool {
+        for finished in &self.finished {
+            if finished.load(Ordering::SeqCst) != 0 {
+                return true;
+            }
+        }
+        self.finished.is_empty()
     }
 
     // How many packets of a lane are finished, if it is one of the load's.

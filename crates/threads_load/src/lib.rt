@@ -15,7 +15,7 @@ mod producing;
 mod report;
 mod running;
 
-pub use counting::{PacketCounts, count_packets};
+pub use counting::{PacketCounts, count_all, count_packets};
 pub use fault::LoadFault;
 pub use gate::LoadGate;
 pub use granting::grant_all;
@@ -24,4 +24,4 @@ pub use opening::{Stage, open_stage};
 pub use plan::{PlannedQueue, plan_load};
 pub use producing::addition;
 pub use report::{Ending, report_load};
-pub use running::run_stage;
+pub use running::{run_rotated, run_stage};

@@ -11,12 +11,13 @@ use crate::opening::{Stage, open_stage};
 use crate::plan::{PlannedQueue, plan_load};
 use crate::producing::PACKETS;
 use crate::report::{Ending, report_load};
-use crate::running::run_stage;
+use crate::running::run_rotated;
 use access_core::{AccessCore, Kernel};
 use client_threads::{Broker, SettleAllFault, Settlement, UnsettledBroker, settle_all};
-use core_model::Refusal;
+use core_model::{Part, Refusal};
 use policy::Policy;
 use std::alloc::Global;
+use std::slice;
 use std::sync::Wait;
 use std::thread::Threads;
 
@@ -30,10 +31,11 @@ pub struct Load {
     pub ending: Ending,
 }
 
-// What a broker came to: its core, and how the load ended.
+// What a broker came to: its core, the part that was handed out of its audit, and how the load ended.
 #[derive(Drop)]
 pub(crate) struct Ended {
     pub core: AccessCore,
+    pub part: Part,
     pub ending: Ending,
 }
 
@@ -50,17 +52,19 @@ fn ending_by(gate: &LoadGate) -> Ending
 
 // How a load ended, by what its broker came to.
 #[tactic(auto, using(crate::proofs::Endings::settled_ends, crate::proofs::Endings::mismatch_ends))]
-fn ended_by(settlement: Settlement, gate: &LoadGate) -> Ended
-    requires { IsSomeSettlement settlement }
+fn ended_by(settlement: Settlement, part: Part, gate: &LoadGate) -> Ended
+    requires { IsSomeSettlement part settlement }
     ensures { EndsLoad result }
 {
     match settlement {
         Settlement::Settled { core, .. } => Ended {
             core,
+            part,
             ending: ending_by(gate),
         },
         Settlement::Mismatch { core, queue, id } => Ended {
             core,
+            part,
             ending: Ending::Mismatch { queue, packet: id },
         },
     }
@@ -71,29 +75,30 @@ fn fault_of(back: UnsettledBroker) -> LoadFault {
     match back.fault {
         SettleAllFault::OutOfMemory => LoadFault::OutOfMemory,
         SettleAllFault::MissingPass => LoadFault::MissingPass,
+        SettleAllFault::NotNext => LoadFault::NotNext,
     }
 }
 
-// Settles a broker whose threads have ended.
-fn settle(alloc: Global, stage: Stage) -> Result<Settlement, UnsettledBroker>
+// Settles a broker whose threads have ended, and of whose audit a part was handed out.
+fn settle(alloc: Global, stage: Stage, part: &Part) -> Result<Settlement, UnsettledBroker>
     requires { IsStage stage }
-    ensures { IfOk result IsSomeSettlement }
+    ensures { IfOk result (IsSomeSettlement part.now) }
 {
     let Stage {
         broker,
         ends,
         lanes,
     } = stage;
-    settle_all(alloc, broker, ends, lanes)
+    settle_all(alloc, broker, slice::from_ref(part), ends, lanes)
 }
 
 // Settles it, and tells how the load ended.
-fn finish(alloc: Global, stage: Stage, gate: &LoadGate) -> Result<Ended, LoadFault>
+fn finish(alloc: Global, stage: Stage, part: Part, gate: &LoadGate) -> Result<Ended, LoadFault>
     requires { IsStage stage }
     ensures { IfOk result EndsLoad }
 {
-    match settle(alloc, stage) {
-        Ok(settlement) => Ok(ended_by(settlement, gate)),
+    match settle(alloc, stage, &part) {
+        Ok(settlement) => Ok(ended_by(settlement, part, gate)),
         Err(back) => Err(fault_of(back)),
     }
 }
@@ -113,6 +118,21 @@ pub fn open_broker<R: Wait>(
     }
 }
 
+// Settles it, if a part was handed out.
+fn finish_rotated(
+    alloc: Global,
+    rotated: (Stage, Result<Part, Refusal>),
+    gate: &LoadGate,
+) -> Result<Ended, LoadFault>
+    requires { IsStage rotated.0 }
+    ensures { IfOk result EndsLoad }
+{
+    match rotated {
+        (stage, Ok(part)) => finish(alloc, stage, part, gate),
+        (_, Err(why)) => Err(LoadFault::from(why)),
+    }
+}
+
 // Runs the load of a plan over a broker.
 fn run_over<R: Threads + Wait + Sync>(
     rt: &R,
@@ -125,9 +145,9 @@ fn run_over<R: Threads + Wait + Sync>(
     ensures { IfOk result EndsLoad }
 {
     match open_stage(alloc, broker, plan, producers) {
-        Ok(stage) => finish(
+        Ok(stage) => finish_rotated(
             alloc,
-            run_stage(rt, alloc, stage, plan, PACKETS, gate),
+            run_rotated(rt, alloc, stage, plan, PACKETS, gate),
             gate,
         ),
         Err(why) => Err(why),
@@ -149,7 +169,8 @@ fn tell(alloc: Global, ended: Ended, plan: &[PlannedQueue]) -> Result<Load, Load
     requires { EndsLoad ended }
     ensures { IfOk result (TellsPlan plan.now) }
 {
-    let report = report_load(alloc, &ended.core, plan, ended.ending);
+    let handed_out = ended.part.entries();
+    let report = report_load(alloc, handed_out, &ended.core, plan, ended.ending);
     load_of(report, ended.ending)
 }
 
@@ -173,7 +194,7 @@ fn run_plan<R: Threads + Wait + Sync>(
 
 /// Runs the load over a policy and its kernels with so many producers a queue, 1 to 16: grants all that the policy
 /// allows, opens the queues of the plan, has the producers publish and the lanes serve, each on a thread of its own,
-/// and reports what came of it. That the load settles is not promised.
+/// while this one rotates the audit once, and reports what came of it. That the load settles is not promised.
 pub fn run_load<R: Threads + Wait + Sync>(
     rt: &R,
     alloc: Global,

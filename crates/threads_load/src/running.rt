@@ -10,6 +10,7 @@ use crate::opening::Stage;
 use crate::plan::PlannedQueue;
 use crate::producing::produce;
 use client_threads::{Broker, ClientEnd, Lane, run_lanes};
+use core_model::{Part, Refusal};
 use std::alloc::Global;
 use std::sync::Wait;
 use std::thread;
@@ -112,6 +113,43 @@ fn run_both<R: Threads + Wait + Sync>(
     )
 }
 
+// Hands out what the audit tells so far, once a packet is finished.
+fn rotate_once<R: Wait>(
+    rt: &R,
+    alloc: Global,
+    broker: &Broker,
+    gate: &LoadGate,
+) -> Result<Part, Refusal> {
+    gate.wait_for_first();
+    broker.with_core(rt, |core| core.rotate(alloc))
+}
+
+// Producers and lanes run at once, and this thread rotates the audit meanwhile.
+fn run_beside<R: Threads + Wait + Sync>(
+    rt: &R,
+    alloc: Global,
+    broker: &Broker,
+    plan: &[PlannedQueue],
+    packets: u64,
+    gate: &LoadGate,
+    ends: Vec<ClientEnd>,
+    lanes: Vec<Lane>,
+) -> ((Vec<ClientEnd>, Vec<Lane>), Result<Part, Refusal>)
+    requires ends { All (λ end. IsEndOf broker.now end) ends.items }
+    requires lanes { All (λ lane. IsLaneOf broker.now lane) lanes.items }
+    ensures ends { All (λ end. IsEndOf broker.now end) result.0.0.items }
+    ensures lanes { All (λ lane. IsLaneOf broker.now lane) result.0.1.items }
+{
+    thread::join(
+        rt,
+        move || -> (Vec<ClientEnd>, Vec<Lane>)
+            requires { IsSync R.row × All (λ end. IsEndOf broker.now end) ends.items × All (λ lane. IsLaneOf broker.now lane) lanes.items }
+            ensures { All (λ end. IsEndOf broker.entry.now end) result.0.items × All (λ lane. IsLaneOf broker.entry.now lane) result.1.items }
+        { run_both(rt, alloc, broker, plan, packets, gate, ends, lanes) },
+        move || -> Result<Part, Refusal> { rotate_once(rt, alloc, broker, gate) },
+    )
+}
+
 /// Runs the producers and the lanes of a broker, each on a thread of its own where one can be made, until all have
 /// ended. Each producer publishes so many packets.
 pub fn run_stage<R: Threads + Wait + Sync>(
@@ -136,4 +174,31 @@ pub fn run_stage<R: Threads + Wait + Sync>(
         ends,
         lanes,
     }
+}
+
+/// Runs them just so, while this thread rotates the audit once, when a packet is finished. The part is what the audit
+/// told until then.
+pub fn run_rotated<R: Threads + Wait + Sync>(
+    rt: &R,
+    alloc: Global,
+    stage: Stage,
+    plan: &[PlannedQueue],
+    packets: u64,
+    gate: &LoadGate,
+) -> (Stage, Result<Part, Refusal>)
+    requires { IsStage stage }
+    ensures { IsStage result.0 }
+{
+    let Stage {
+        broker,
+        ends,
+        lanes,
+    } = stage;
+    let ((ends, lanes), part) = run_beside(rt, alloc, &broker, plan, packets, gate, ends, lanes);
+    let stage = Stage {
+        broker,
+        ends,
+        lanes,
+    };
+    (stage, part)
 }

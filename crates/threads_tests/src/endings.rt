@@ -7,6 +7,7 @@ use crate::stages::{packet, publish_alone, run_with, split_last_end, stage, with
 use access_core::AccessCore;
 use aql_packet::{PacketId, QueueId};
 use client_threads::{Gate, LaneAnswer, SettleAllFault, SettledQueue, Settlement, settle_all};
+use core_model::Part;
 use std::alloc::Global;
 use std::sync::Wait;
 use std::thread::Threads;
@@ -39,7 +40,7 @@ fn settled_indices(alloc: Global, stage: Stage) -> Option<(u64, u64)>
         ends,
         lanes,
     } = stage;
-    match settle_all(alloc, broker, ends, lanes) {
+    match settle_all(alloc, broker, &[], ends, lanes) {
         Ok(Settlement::Settled { rings, .. }) => indices(rings.as_slice()),
         _ => None,
     }
@@ -54,7 +55,7 @@ fn mismatch(alloc: Global, stage: Stage) -> Option<(QueueId, PacketId)>
         ends,
         lanes,
     } = stage;
-    match settle_all(alloc, broker, ends, lanes) {
+    match settle_all(alloc, broker, &[], ends, lanes) {
         Ok(Settlement::Mismatch { queue, id, .. }) => Some((queue, id)),
         _ => None,
     }
@@ -91,8 +92,12 @@ fn taken_alone<R: Wait>(rt: &R, alloc: Global) -> Option<(QueueId, PacketId)> {
     mismatch(alloc, stage)
 }
 
-// Why a stage is not settled, and the stage, which comes back.
-fn unsettled(alloc: Global, stage: Stage) -> Option<(SettleAllFault, Stage)>
+// Why a stage is not settled with these parts, and the stage, which comes back.
+pub(crate) fn unsettled(
+    alloc: Global,
+    stage: Stage,
+    parts: &[Part],
+) -> Option<(SettleAllFault, Stage)>
     requires { IsStage stage }
     ensures stage { IfSome result (λ back. IsStage back.1) }
     ensures broker { IfSome result (λ back. back.1.broker ≡ stage.broker) }
@@ -102,7 +107,7 @@ fn unsettled(alloc: Global, stage: Stage) -> Option<(SettleAllFault, Stage)>
         ends,
         lanes,
     } = stage;
-    match settle_all(alloc, broker, ends, lanes) {
+    match settle_all(alloc, broker, parts, ends, lanes) {
         Err(back) => Some((
             back.fault,
             Stage {
@@ -120,7 +125,7 @@ fn settles_with_its_last(alloc: Global, stage: Stage) -> Option<bool>
     requires { IsStage stage }
 {
     let (stage, last) = split_last_end(stage)?;
-    let (fault, stage) = unsettled(alloc, stage)?;
+    let (fault, stage) = unsettled(alloc, stage, &[])?;
     settled_indices(alloc, with_end(stage, last)?)?;
     Some(fault == SettleAllFault::MissingPass)
 }

@@ -12,6 +12,8 @@ mod loads;
 #[cfg(test)]
 mod many;
 #[cfg(test)]
+mod rotations;
+#[cfg(test)]
 mod sections;
 pub mod stages;
 pub mod waking;

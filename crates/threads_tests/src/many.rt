@@ -10,6 +10,7 @@ use crate::waking::{EACH, PRODUCERS, WakingGate, publish_turns};
 use access_core::AccessCore;
 use aql_packet::PacketId;
 use client_threads::{Broker, ClientEnd, Lane, Served, Settlement, run_lanes, settle_all};
+use core_model::Part;
 use std::alloc::Global;
 use std::sync::Wait;
 use std::thread;
@@ -169,8 +170,8 @@ fn are_whole(lanes: &[Lane]) -> bool {
     turns.is_whole()
 }
 
-// The core, if the broker settles.
-fn settled_core(alloc: Global, stage: Stage) -> Option<AccessCore>
+// The core, if the broker settles with these parts.
+pub(crate) fn settled_core(alloc: Global, stage: Stage, parts: &[Part]) -> Option<AccessCore>
     requires { IsStage stage }
 {
     let Stage {
@@ -178,7 +179,7 @@ fn settled_core(alloc: Global, stage: Stage) -> Option<AccessCore>
         ends,
         lanes,
     } = stage;
-    match settle_all(alloc, broker, ends, lanes) {
+    match settle_all(alloc, broker, parts, ends, lanes) {
         Ok(Settlement::Settled { core, .. }) => Some(core),
         _ => None,
     }
@@ -191,7 +192,7 @@ fn run_packets<R: Threads + Wait + Sync>(rt: &R, alloc: Global) -> Option<(bool,
     let gate = WakingGate::new(alloc, 4).ok()?;
     let stage = run_many(rt, alloc, stage, &gate);
     let is_whole = are_whole(stage.lanes.as_slice());
-    let core = settled_core(alloc, stage)?;
+    let core = settled_core(alloc, stage, &[])?;
     Some((is_whole, core.audit().len()))
 }
 

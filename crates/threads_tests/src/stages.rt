@@ -39,7 +39,7 @@ allow = [
 "#;
 
 /// How many entries an audit has place for.
-const PLACES: usize = 400_000;
+pub const PLACES: usize = 400_000;
 
 /// The region that the client counts in.
 const REGION: u64 = 2;
@@ -59,8 +59,8 @@ pub fn packet(producer: u64, turn: u64) -> [u8; 64] {
     }))
 }
 
-// Reads a policy. It has no contract, so that the proofs of its callers carry none.
-fn read(alloc: Global, text: &str) -> Result<Policy, ReadPolicyError> {
+/// Reads a policy. It has no contract, so that the proofs of its callers carry none.
+pub fn read(alloc: Global, text: &str) -> Result<Policy, ReadPolicyError> {
     read_policy(alloc, text.as_bytes())
 }
 

@@ -23,9 +23,12 @@ use Rattle.core_model.specs.declared.outcome.Taken.TheVariants as taken
 use Rattle.core_model.specs.declared.refusal.Refusal as cores
 use Rattle.core_model.specs.declared.refusal.Refusal.TheVariants as refusal
 use Rattle.core_model.specs.History.{beginning, Start, History}
+use Rattle.core_model.specs.History.{Part as Handed}
+use Rattle.core_model.specs.Rotation.{Rotates}
 use Rattle.core_model.specs.Flight.{flight_of}
 use Rattle.core_model.specs.LaunchRules.{first_failing_rule, cause_to_wait}
-use Rattle.core_model.specs.Queues.{Opening, is_down, next_id, owner}
+use Rattle.core_model.specs.Queues.{is_down, next_id, owner}
+use Rattle.core_model.specs.declared.origin.Opening.{Opening}
 use Rattle.core_model.specs.Owed.{Owed, owed, refuses, answers, enters, owed_verdict, error_without_place, facts_of, owed_take}
 use Rattle.core_model.specs.Refusals.{for_some, refuse_unless}
 use Rattle.core_model.specs.Legal as cores_law
@@ -48,14 +51,14 @@ use Rattle.world.specs.declared.reply.Refusal.{Refusal}
 use Rattle.world.specs.Bytes.{bytes_of}
 use Rattle.world.specs.Calls.{event_of}
 use Rattle.world.specs.Dues.{Reply, asked_size, hindrance, is_decided, taking}
-use Rattle.world.specs.InStep.{IsInStep, IsJoined, IsUntouched, Stands, whole_of}
+use Rattle.world.specs.InStep.{IsInStep, IsJoinedBehind, IsUntouched, Stands}
 use Rattle.world.specs.Making.{AreDecided, MakesAt, MakesWhere, decided_after, ring_made, rings_of, with_queue_ring}
-use Rattle.world.specs.Obeying.{Asks, HandsOver, Obeys, Opens, TakesAt, new_ring, ring_taken, rings_opened}
+use Rattle.world.specs.Obeying.{Asks, HandsOut, HandsOver, Obeys, Opens, TakesAt, new_ring, ring_taken, rings_opened}
 use Rattle.core_model.proofs.Turns.{numbered-new, numbered-end}
 use Rattle.world.proofs.Numbering.{numbered_old, numbered_other, numbered_same}
 use Rattle.world.proofs.Entering.{due_answers, due_enters}
 use Rattle.world.proofs.Joining.{IsAside, same_queue}
-use Rattle.world.proofs.Kept.{call_aside, reload_aside, unhindered}
+use Rattle.world.proofs.Kept.{call_aside, reload_aside, rotated_next, unhindered, unrotated}
 use Rattle.world.proofs.Obeyed.{World, ring_is}
 
 same_some : {X : Type 0} (x y : X) → Some x ≡ Some y → x ≡ y
@@ -102,9 +105,9 @@ made_decided core all queue r step h d (inl raised) =
 made_decided core all queue r step h d (inr stayed) =
     kept_after r.decided step.access stayed.other ∙ d ∙ ap (λ n. nat_lt n (next_id (beginning core) core.entries queue)) (sym stayed.index_is)
 
-module _ (core : History) (rings : List QueueRing) (h : IsJoined (World core rings)) (d : AreDecided core rings) where
-  stands : (queue : QueueId) (r : QueueRing) → numbered rings queue.0 ≡ Some r → Stands core (whole_of core h.legal) queue (Some r.ring)
-  stands queue r found = subst (Stands core (whole_of core h.legal) queue) (ring_is core rings queue (Some r) found) (h.each queue)
+module _ (core : History) (rings : List QueueRing) (first : Declared) (prior : List Entry) (h : IsJoinedBehind first prior (World core rings)) (d : AreDecided core rings) where
+  stands : (queue : QueueId) (r : QueueRing) → numbered rings queue.0 ≡ Some r → Stands core (prior ++ core.entries) queue (Some r.ring)
+  stands queue r found = subst (Stands core (prior ++ core.entries) queue) (ring_is core rings queue (Some r) found) (h.each queue)
 
   after_step : (queue : QueueId) (step : Step) (r after : QueueRing) (reply : Reply) → numbered rings queue.0 ≡ Some r → (o : Option Refusal) → hindrance r.decided r.ring step ≡ o → MakesWhere o r step reply after
       → after.decided ≡ is_decided core queue after.ring
@@ -112,7 +115,7 @@ module _ (core : History) (rings : List QueueRing) (h : IsJoined (World core rin
   after_step queue step r after reply found None is (inl (told, same)) =
       let free = unhindered r.decided r.ring step is in
       let s = stands queue r found in
-      subst (λ (x : QueueRing). x.decided ≡ is_decided core queue x.ring) (sym same) (made_decided core (whole_of core h.legal) queue r step s.1 (d queue r found) (index_moves (producers_of r.ring) r.ring step s.0.rule free.0))
+      subst (λ (x : QueueRing). x.decided ≡ is_decided core queue x.ring) (sym same) (made_decided core (prior ++ core.entries) queue r step s.1 (d queue r found) (index_moves (producers_of r.ring) r.ring step s.0.rule free.0))
   after_step queue step r after reply found None is (inr (may, told, same)) = subst (λ (x : QueueRing). x.decided ≡ is_decided core queue x.ring) (sym same) (d queue r found)
 
   step_decided : (queue : QueueId) (step : Step) (reply : Reply) (new : List QueueRing) (o : Option QueueRing) → numbered rings queue.0 ≡ o → MakesAt o queue step rings reply new → AreDecided core new
@@ -171,7 +174,7 @@ refused_stays : (r : QueueRing) (became : Result Taken cores.Refusal) (why : cor
 refused_stays r (Ok became) why is = absurd (cc)
 refused_stays r (Err other) why is = refl
 
-module _ (core : History) (rings : List QueueRing) (h : IsJoined (World core rings)) (d : AreDecided core rings) (queue : QueueId) (r : QueueRing) (found : numbered rings queue.0 ≡ Some r) (words : List ℕ) where
+module _ (core : History) (rings : List QueueRing) (first : Declared) (prior : List Entry) (h : IsJoinedBehind first prior (World core rings)) (d : AreDecided core rings) (queue : QueueId) (r : QueueRing) (found : numbered rings queue.0 ≡ Some r) (words : List ℕ) where
   abbrev Taking : Event
   Taking = taking queue (read_index r.ring) words
 
@@ -229,14 +232,14 @@ length_rings : (rings : List QueueRing) → length (rings_of rings) ≡ length r
 length_rings [] = refl
 length_rings (r ∷ rings) = omega (arith, length_rings rings)
 
-module _ (core core' : History) (rings new : List QueueRing) (h : IsJoined (World core rings)) (d : AreDecided core rings) (reply : Reply) where
+module _ (core core' : History) (rings new : List QueueRing) (first : Declared) (prior : List Entry) (h : IsJoinedBehind first prior (World core rings)) (d : AreDecided core rings) (reply : Reply) where
   take_decided : (queue : QueueId) (o : Option QueueRing) → numbered rings queue.0 ≡ o → TakesAt o queue core rings reply core' new → AreDecided core' new
   take_decided queue None found (told, same, is) = subst (λ (x : History). AreDecided x new) (sym same) (subst (AreDecided core) (sym is) d)
   take_decided queue (Some r) found takes = by_packet (collected_packet (processor_of r.ring.parts)) takes
     where
       by_packet : (packet : Option (List ℕ)) → HandsOver packet r queue core rings reply core' new → AreDecided core' new
       by_packet None (told, same, is) = subst (λ (x : History). AreDecided x new) (sym same) (subst (AreDecided core) (sym is) d)
-      by_packet (Some words) (became, meets, told, put) = subst (AreDecided core') (sym put) (handed_decided core rings h d queue r found words core' became meets)
+      by_packet (Some words) (became, meets, told, put) = subst (AreDecided core') (sym put) (handed_decided core rings first prior h d queue r found words core' became meets)
 
   -- a queue that is opened has no packet yet
   opened_decided : (size producers : ℕ) (made : Result QueueId cores.Refusal) → ((queue : QueueId) → next_id (beginning core') core'.entries queue ≡ next_id (beginning core) core.entries queue) → AreDecided core' (rings_opened rings size producers made)
@@ -247,7 +250,7 @@ module _ (core core' : History) (rings new : List QueueRing) (h : IsJoined (Worl
             let place : numbered (rings ++ new_ring size producers ∷ []) queue.0 ≡ Some (new_ring size producers) = ap (numbered (rings ++ new_ring size producers ∷ [])) e.1 ∙ numbered-new rings (new_ring size producers) in
             let is : new_ring size producers ≡ r = same_some (new_ring size producers) r (sym place ∙ at) in
             let none : numbered rings queue.0 ≡ None = ap (numbered rings) e.1 ∙ numbered-end rings in
-            let fresh : IsUntouched core (whole_of core h.legal) queue = subst (Stands core (whole_of core h.legal) queue) (ring_is core rings queue None none) (h.each queue) in
+            let fresh : IsUntouched core (prior ++ core.entries) queue = subst (Stands core (prior ++ core.entries) queue) (ring_is core rings queue None none) (h.each queue) in
             let zero_next : next_id (beginning core') core'.entries queue ≡ 0 = next queue ∙ fresh.next in
             subst (λ (y : QueueRing). y.decided ≡ is_decided core' queue y.ring) is (ap (nat_lt 0) (sym zero_next))
         | inr e ↦
@@ -266,7 +269,7 @@ module _ (core core' : History) (rings new : List QueueRing) (h : IsJoined (Worl
   call_decided call ((replied, served, told), same) = subst (AreDecided core') (sym same) (decided_along core core' rings (by_served served) d)
     where
       by_served : cores_law.IsServed core (asked.Event (event_of call)) replied core' → (queue : QueueId) → next_id (beginning core') core'.entries queue ≡ next_id (beginning core) core.entries queue
-      by_served (made, is, inl m) queue = ap (λ (x : History). next_id (beginning x) x.entries queue) m.history_is ∙ aside_next core (event_of call) (call_aside (World core rings) h call) (due core (event_of call)) queue
+      by_served (made, is, inl m) queue = ap (λ (x : History). next_id (beginning x) x.entries queue) m.history_is ∙ aside_next core (event_of call) (call_aside call) (due core (event_of call)) queue
       by_served (made, is, inr l) queue = ap (λ (x : History). next_id (beginning x) x.entries queue) l.history_is
 
   query_decided : (query : Query) → Asks (asked.Query query) core reply core' × (new ≡ rings) → AreDecided core' new
@@ -282,13 +285,21 @@ module _ (core core' : History) (rings new : List QueueRing) (h : IsJoined (Worl
       by_served (made, is, inl o) queue = ap (λ (x : History). next_id (beginning x) x.entries queue) o.history_is
       by_served (made, is, inr (declares, inl m)) queue =
           ap (λ (x : History). next_id (beginning x) x.entries queue) m.history_is
-          ∙ aside_next core (Reload policy.rows) (reload_aside (World core rings) h policy.rows) (due core (Reload policy.rows)) queue
+          ∙ aside_next core (Reload policy.rows) (reload_aside policy.rows) (due core (Reload policy.rows)) queue
       by_served (made, is, inr (declares, inr l)) queue = ap (λ (x : History). next_id (beginning x) x.entries queue) l.history_is
 
+  rotation_decided : HandsOut core reply core' × (new ≡ rings) → AreDecided core' new
+  rotation_decided ((made, rotates, told), same) = subst (AreDecided core') (sym same) (decided_along core core' rings (by_made made rotates) d)
+    where
+      by_made : (made : Result Handed cores.Refusal) → Rotates core made core' → (queue : QueueId) → next_id (beginning core') core'.entries queue ≡ next_id (beginning core) core.entries queue
+      by_made (Ok part) is queue = rotated_next core core' part is.1 queue
+      by_made (Err why) is queue = ap (λ (x : History). next_id (beginning x) x.entries queue) (unrotated core core' why is)
+
   pub obeyed_decided : (wanted : Request) → Obeys wanted core rings reply core' new → AreDecided core' new
-  obeyed_decided (request.Step queue step) (makes, same) = subst (λ (x : History). AreDecided x new) (sym same) (step_decided core rings h d queue step reply new (numbered rings queue.0) refl makes)
+  obeyed_decided (request.Step queue step) (makes, same) = subst (λ (x : History). AreDecided x new) (sym same) (step_decided core rings first prior h d queue step reply new (numbered rings queue.0) refl makes)
   obeyed_decided (request.Take queue) takes = take_decided queue (numbered rings queue.0) refl takes
   obeyed_decided (request.OpenQueue client agent size producers) opens = opening_decided client agent size producers opens
   obeyed_decided (request.Call call) asks = call_decided call asks
   obeyed_decided (request.Query query) asks = query_decided query asks
   obeyed_decided (request.Reload policy) asks = reload_decided policy asks
+  obeyed_decided request.Rotate hands = rotation_decided hands

@@ -11,9 +11,11 @@ use Rattle.core_model.specs.declared.entry.Effect.{Effect}
 use Rattle.core_model.specs.declared.outcome.Outcome.{Outcome}
 use Rattle.core_model.specs.declared.refusal.Refusal.TheVariants as refusal
 use Rattle.core_model.specs.History.{beginning, opening_state, Start, History}
+use Rattle.core_model.specs.States.{state_after}
+use Rattle.policy.specs.Policy.{Declared}
 use Rattle.core_model.specs.Queues.{next_id, openings}
 use Rattle.core_model.specs.Owed.{Owed, owed, refuses, answers, enters}
-use Rattle.core_model.specs.Legal.{IsLegal, IsWhole, due, entry_of, lacks_room, within_room}
+use Rattle.core_model.specs.Legal.{IsWhole, due, entry_of, lacks_room, within_room}
 use Rattle.core_model.proofs.More.{with_some}
 use Rattle.core_model.proofs.States.{whole-more}
 use Rattle.world.specs.InStep.{size_of, sizes, taken_from, takes}
@@ -89,10 +91,8 @@ due_answers old event outcome = by_owed (owed (beginning old) old.entries event)
         by_room false f = absurd (cc)
 
 -- one entry more, as it is due, behind a legal history: the whole one goes on
-pub whole_entered : (old : History) (event : Event) (told : Outcome) (effects : List Effect) (legal : IsLegal (beginning old) old.entries) → due old event ≡ enters told effects
-    → IsWhole (opening_state legal.first old.kernels) (legal.prior ++ (old.entries ++ entry_of event told effects ∷ []))
-whole_entered old event told effects legal is = whole-more (beginning old) old.entries (entry_of event told effects ∷ []) legal (due_enters old event told effects is, tt)
-
-abbrev pub legal_entered : (old : History) (event : Event) (told : Outcome) (effects : List Effect) (legal : IsLegal (beginning old) old.entries) → due old event ≡ enters told effects
-    → IsLegal (beginning old) (old.entries ++ entry_of event told effects ∷ [])
-legal_entered old event told effects legal is = record { first = legal.first; prior = legal.prior; start_is = legal.start_is; whole = whole_entered old event told effects legal is }
+pub whole_entered : (old : History) (event : Event) (told : Outcome) (effects : List Effect) (first : Declared) (prior : List Entry) → beginning old ≡ state_after (opening_state first old.kernels) prior
+    → IsWhole (opening_state first old.kernels) (prior ++ old.entries) → due old event ≡ enters told effects
+    → IsWhole (opening_state first old.kernels) (prior ++ (old.entries ++ entry_of event told effects ∷ []))
+whole_entered old event told effects first prior start whole is =
+    whole-more (beginning old) old.entries (entry_of event told effects ∷ []) (record { first = first; prior = prior; start_is = start; whole = whole }) (due_enters old event told effects is, tt)

@@ -9,7 +9,7 @@ use Rattle.policy.specs.Policy.{Declared, numbered}
 use Rattle.core_model.specs.declared.event.Event.TheVariants.{OpenQueue, Take}
 use Rattle.core_model.specs.declared.outcome.Outcome.{Outcome}
 use Rattle.core_model.specs.declared.refusal.Refusal as cores
-use Rattle.core_model.specs.History.{beginning, History, Start}
+use Rattle.core_model.specs.History.{beginning, History}
 use Rattle.core_model.specs.Owed.{Owed, refuses, answers, enters}
 use Rattle.core_model.specs.Legal.{IsOpening, MeetsOrLacks, due, reply_of}
 use Rattle.ring_core.specs.Parts.{collected_packet}
@@ -21,7 +21,7 @@ use Rattle.world.specs.declared.queue_ring.QueueRing.{QueueRing}
 use Rattle.world.specs.declared.reply.Refusal.TheVariants as refusal
 use Rattle.world.specs.Bytes.{bytes_of}
 use Rattle.world.specs.Dues.{asked_size}
-use Rattle.world.specs.InStep.{IsJoined}
+use Rattle.world.specs.InStep.{IsJoined, IsJoinedBehind}
 use Rattle.world.specs.Making.{AreDecided}
 use Rattle.world.specs.Obeying.{HandsOver, TakesAt, next_of, next_where}
 use Rattle.world.proofs.Numbering.{numbered_none, numbered_set}
@@ -65,10 +65,8 @@ never_opened core core' client agent size producers asked told unfit is (inl mee
     by_owing (enters other effects) e reply = fits_not (opening_owed (beginning core) core.entries client agent asked (enters other effects) (λ w x. cc) (due_enters core (OpenQueue client agent asked) other effects e)).0
 
 -- a world begins joined
-pub starts : (policy : Declared) (kernels : List Program) (capacity : ℕ) (core : History) (rings : List QueueRing) → IsOpening core policy kernels capacity → rings ≡ []
-    → IsJoined (World core rings) × AreDecided core rings × ((beginning core).before ≡ 0)
+pub starts : (policy : Declared) (kernels : List Program) (capacity : ℕ) (core : History) (rings : List QueueRing) → IsOpening core policy kernels capacity → rings ≡ [] → IsJoined (World core rings) × AreDecided core rings
 starts policy kernels capacity core rings opening none = (
-  subst (λ (rs : List QueueRing). IsJoined (World core rs)) (sym none) (begins policy kernels capacity core opening),
+  record { first = policy; prior = []; behind = subst (λ (rs : List QueueRing). IsJoinedBehind policy [] (World core rs)) (sym none) (begins policy kernels capacity core opening) },
   (λ queue r found. absurd (let nothing = numbered_none rings queue.0 (ap length none) in cc)),
-  ap (λ (now : Start). now.before) opening.start_is,
 )

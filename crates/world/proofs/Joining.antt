@@ -4,6 +4,7 @@ use Rattle.std.specs.Prelude.{◌⊎◌, slice_get, if◌then◌else◌}
 use Rattle.std.proofs.lemmas.Bool.{ltb-true}
 use Rattle.std.proofs.lemmas.Bool.Decides.{eqb_tells}
 use Rattle.aql_packet.specs.declared.ids.QueueId.{QueueId}
+use Rattle.policy.specs.Policy.{Declared}
 use Rattle.core_model.specs.declared.event.Event.{Event}
 use Rattle.core_model.specs.declared.entry.Entry.{Entry}
 use Rattle.core_model.specs.History.{beginning, History}
@@ -21,9 +22,9 @@ use Rattle.ring_core.proofs.Publication.{Raised, Stayed, index_moves, published_
 use Rattle.world.specs.Bytes.{bytes_of}
 use Rattle.world.specs.States.{Joined, ring_of, with_core, with_ring}
 use Rattle.world.specs.Dues.{is_decided, may_follow}
-use Rattle.world.specs.InStep.{IsInStep, IsJoined, IsPublished, Stands, published, size_of, sizes, taken_from, takes, whole_of}
+use Rattle.world.specs.InStep.{IsInStep, IsJoinedBehind, IsPublished, Stands, published, size_of, sizes, taken_from, takes}
 use Rattle.world.proofs.Numbering.{map_same, numbered_other, numbered_place, numbered_same}
-use Rattle.world.proofs.Entering.{legal_entered, sizes_behind, takes_behind}
+use Rattle.world.proofs.Entering.{sizes_behind, takes_behind, whole_entered}
 
 -- ---- a ring's step
 
@@ -76,18 +77,19 @@ pub same_queue : (one other : QueueId) → one.0 ≡ other.0 → one ≡ other
 same_queue one other e = λ i. record { 0 = e i }
 
 -- another state of a queue's ring, in step
-pub ring_replaced : (world : Joined) (queue : QueueId) (ring new : Machine) (h : IsJoined world) → ring_of world queue ≡ Some ring → new.size ≡ ring.size → Stands world.core (whole_of world.core h.legal) queue (Some new) → IsJoined (with_ring world queue new)
-ring_replaced world queue ring new h found size stands = record {
-  legal = h.legal;
+pub ring_replaced : (first : Declared) (prior : List Entry) (world : Joined) (queue : QueueId) (ring new : Machine) (h : IsJoinedBehind first prior world) → ring_of world queue ≡ Some ring → new.size ≡ ring.size → Stands world.core (prior ++ world.core.entries) queue (Some new) → IsJoinedBehind first prior (with_ring world queue new)
+ring_replaced first prior world queue ring new h found size stands = record {
+  start_is = h.start_is;
+  whole = h.whole;
   count = length-set world.rings (queue.0 - 1) new ∙ h.count;
   sizes = map_same (λ (r : Machine). r.size) world.rings (queue.0 - 1) ring new (numbered_place world.rings queue.0 ring found).1 size ∙ h.sizes;
   each = λ other.
       elim (eqb_tells other.0 queue.0) [
         | inl e ↦
             let same = same_queue other queue e.1 in
-            subst (λ (q : QueueId). Stands world.core (whole_of world.core h.legal) q (ring_of (with_ring world queue new) q)) (sym same)
-            (subst (Stands world.core (whole_of world.core h.legal) queue) (sym (numbered_same world.rings queue.0 ring new found)) stands)
-        | inr e ↦ subst (Stands world.core (whole_of world.core h.legal) other) (sym (numbered_other world.rings queue.0 other.0 ring new found e.1)) (h.each other)
+            subst (λ (q : QueueId). Stands world.core (prior ++ world.core.entries) q (ring_of (with_ring world queue new) q)) (sym same)
+            (subst (Stands world.core (prior ++ world.core.entries) queue) (sym (numbered_same world.rings queue.0 ring new found)) stands)
+        | inr e ↦ subst (Stands world.core (prior ++ world.core.entries) other) (sym (numbered_other world.rings queue.0 other.0 ring new found e.1)) (h.each other)
       ];
 }
 
@@ -116,24 +118,25 @@ pub record IsAside (event : Event) : Type 0 where
   pub takes : (queue : QueueId) → taken_from queue event ≡ None
   pub hands : (queue : QueueId) → hands_over_packet_of queue event ≡ false
 
-module _ (world : Joined) (h : IsJoined world) (event : Event) where
+module _ (first : Declared) (prior : List Entry) (world : Joined) (h : IsJoinedBehind first prior world) (event : Event) where
   abbrev After : Owed → Joined
   After owing = with_core world (history_after world.core event owing)
 
-  aside_by : IsAside event → (owing : Owed) → due world.core event ≡ owing → IsJoined (After owing)
+  aside_by : IsAside event → (owing : Owed) → due world.core event ≡ owing → IsJoinedBehind first prior (After owing)
   aside_by aside (refuses why) is = h
   aside_by aside (answers outcome) is = h
   aside_by aside (enters outcome effects) is =
       let e : Entry = entry_of event outcome effects in
       record {
-        legal = legal_entered world.core event outcome effects h.legal is;
+        start_is = h.start_is;
+        whole = whole_entered world.core event outcome effects first prior h.start_is h.whole is;
         count = h.count ∙ ap length (sym (openings-more (beginning world.core) world.core.entries e ∙ ap (with_some (openings (beginning world.core) world.core.entries)) aside.opens));
-        sizes = h.sizes ∙ sym (sizes_behind h.legal.prior world.core.entries e ∙ ap (with_some (sizes (whole_of world.core h.legal))) aside.sizes);
-        each = λ queue. stands_along world.core (history_after world.core event (enters outcome effects)) (whole_of world.core h.legal) (h.legal.prior ++ (world.core.entries ++ e ∷ [])) queue (ring_of world queue)
+        sizes = h.sizes ∙ sym (sizes_behind prior world.core.entries e ∙ ap (with_some (sizes (prior ++ world.core.entries))) aside.sizes);
+        each = λ queue. stands_along world.core (history_after world.core event (enters outcome effects)) (prior ++ world.core.entries) (prior ++ (world.core.entries ++ e ∷ [])) queue (ring_of world queue)
             (next_id-more (beginning world.core) world.core.entries e queue ∙ ap (λ b. if b then next_id (beginning world.core) world.core.entries queue + 1 else next_id (beginning world.core) world.core.entries queue) (aside.hands queue))
-            (takes_behind h.legal.prior world.core.entries e queue ∙ ap (with_some (takes (whole_of world.core h.legal) queue)) (aside.takes queue))
+            (takes_behind prior world.core.entries e queue ∙ ap (with_some (takes (prior ++ world.core.entries) queue)) (aside.takes queue))
             (h.each queue);
       }
 
-  pub aside_kept : IsAside event → IsJoined (After (due world.core event))
+  pub aside_kept : IsAside event → IsJoinedBehind first prior (After (due world.core event))
   aside_kept aside = aside_by aside (due world.core event) refl

@@ -1,19 +1,21 @@
 -- Whatever is asked, the world stays joined.
-use Rattle.std.proofs.Common.{◌≡◌, ℕ, List, [], ◌∷◌, refl, sym, subst, Bool, true, false, Option, Some, None, inl, inr}
+use Rattle.std.proofs.Common.{◌≡◌, ℕ, List, [], ◌∷◌, ◌++◌, append_assoc, map, refl, sym, subst, Bool, true, false, Option, Some, None, Result, Ok, Err, inl, inr}
+use Rattle.std.proofs.lemmas.List.{append-nil}
 use Rattle.std.proofs.Common.{ap, ◌∙◌}
 use Rattle.std.specs.Prelude.{◌&&◌, length, slice_get, if◌then◌else◌}
 use Rattle.aql_packet.specs.declared.ids.QueueId.{QueueId}
 use Rattle.kernel_check.specs.Programs.{Program}
-use Rattle.policy.specs.Policy.{Declared}
+use Rattle.policy.specs.Policy.{Declared, numbered}
 use Rattle.policy.specs.declared.rows.PolicyRows.{PolicyRows}
-use Rattle.core_model.specs.declared.event.Event.TheVariants.{Reload}
+use Rattle.core_model.specs.declared.event.Event.{Event}
+use Rattle.core_model.specs.declared.event.Event.TheVariants.{OpenQueue, Reload}
 use Rattle.core_model.specs.Legal.{IsOpening, IsWhole}
 use Rattle.core_model.specs.Queues.{next_id, openings}
 use Rattle.core_model.specs.declared.entry.Entry.{Entry}
-use Rattle.core_model.proofs.States.{state-now}
+use Rattle.core_model.proofs.States.{same-begin, state-join, state-now}
 use Rattle.ring_core.specs.declared.access.Step.{Step}
 use Rattle.ring_core.specs.Parts.{collected_packet}
-use Rattle.ring_core.specs.Machine.{Machine, is_allowed, made, read_index}
+use Rattle.ring_core.specs.Machine.{Machine, found, is_allowed, made, read_index}
 use Rattle.ring_core.specs.Rule.{processor_of}
 use Rattle.ring_core.proofs.Kept.{both}
 use Rattle.ring_core.proofs.States.{ring_steps}
@@ -25,15 +27,26 @@ use Rattle.world.specs.declared.reply.Refusal.{Refusal}
 use Rattle.world.specs.declared.reply.Refusal.TheVariants as refusal
 use Rattle.world.specs.States.{Joined, joined, ring_of}
 use Rattle.world.specs.Calls.{event_of}
-use Rattle.world.specs.Dues.{AreReplies, IsServed, Reply, due_collected, due_step, due_take, due_where, has_spent, hindrance, is_decided, may_follow, owed_to, reserves}
+use Rattle.world.specs.Dues.{AreReplies, Due, IsServed, Meets, Reply, answer_to, asked_size, due_collected, due_event, due_opening, due_query, due_step, due_take, due_where, handed, handed_out, has_spent, hindrance, is_decided, may_follow, of_core, reserves, rotated_reply, taken_reply, taking}
 use Rattle.world.specs.Headline.{IsBegun}
-use Rattle.world.specs.InStep.{IsJoined, Stands, sizes, takes, whole_of}
+use Rattle.world.specs.InStep.{IsJoinedBehind, Stands, sizes, takes}
 use Rattle.world.proofs.Numbering.{numbered_none}
 use Rattle.world.proofs.Entering.{no_openings, no_sizes, no_takes, none_next}
-use Rattle.world.proofs.Joining.{IsAside, aside_kept, ring_replaced, step_in_step}
+use Rattle.world.proofs.Joining.{IsAside, aside_kept, ring_replaced, stands_along, step_in_step}
 use Rattle.world.proofs.Taking.{take_kept}
 use Rattle.world.proofs.OpeningKept.{opening_kept}
-use Rattle.core_model.specs.History.{History, Start, beginning, opening_state}
+use Rattle.core_model.specs.History.{History, Start, begin, beginning, opening_state}
+use Rattle.core_model.specs.History.{Part as Handed}
+use Rattle.core_model.specs.Legal.{as_reply, due, reply_of}
+use Rattle.core_model.specs.Queries.{AnswerOrRefusal, query_answer}
+use Rattle.core_model.specs.Rotation.{IsRotated, Rotates}
+use Rattle.core_model.specs.States.{state_after}
+use Rattle.core_model.specs.declared.outcome.Outcome.{Outcome}
+use Rattle.core_model.specs.declared.outcome.Outcome.TheVariants as outcome
+use Rattle.core_model.specs.declared.refusal.Refusal as cores
+use Rattle.core_model.specs.declared.refusal.Refusal.TheVariants as core_refusal
+use Rattle.ring_core.specs.declared.access.Access.{Access}
+use Rattle.ring_core.specs.declared.access.Access.TheVariants.{LoadHeader, Reserve}
 
 -- ---- steps
 
@@ -50,100 +63,155 @@ unhindered decided ring step = by_spent (reserves step.access && has_spent (slic
     by_spent true e = absurd (cc)
     by_spent false e = by_may (is_allowed ring step && may_follow decided step.access) refl e
 
-module _ (world : Joined) (h : IsJoined world) where
-  step_kept : (queue : QueueId) (step : Step) (o : Option Machine) → ring_of world queue ≡ o → IsJoined (due_step world queue step o).after
+-- a call concerns no ring
+pub call_aside : (asked : Call) → IsAside (event_of asked)
+call_aside (call.Grant client object rights) = record { opens = refl; sizes = refl; takes = λ q. refl; hands = λ q. refl }
+call_aside (call.Revoke client object rights) = record { opens = refl; sizes = refl; takes = λ q. refl; hands = λ q. refl }
+call_aside (call.Stop queue) = record { opens = refl; sizes = refl; takes = λ q. refl; hands = λ q. refl }
+call_aside (call.RunNext queue packet) = record { opens = refl; sizes = refl; takes = λ q. refl; hands = λ q. refl }
+call_aside (call.Poll queue packet) = record { opens = refl; sizes = refl; takes = λ q. refl; hands = λ q. refl }
+call_aside (call.Finish queue packet) = record { opens = refl; sizes = refl; takes = λ q. refl; hands = λ q. refl }
+call_aside (call.HostWrite client address bytes) = record { opens = refl; sizes = refl; takes = λ q. refl; hands = λ q. refl }
+call_aside (call.ChangeSignal client signal operation) = record { opens = refl; sizes = refl; takes = λ q. refl; hands = λ q. refl }
+
+-- nor does a policy that is handed in
+pub reload_aside : (rows : PolicyRows) → IsAside (Reload rows)
+reload_aside rows = record { opens = refl; sizes = refl; takes = λ q. refl; hands = λ q. refl }
+
+-- ---- rotations
+
+-- a rotated history goes on from the state behind the old one
+rotated_start : (old new : History) (part : Handed) → IsRotated old part new → beginning new ≡ state_after (beginning old) old.entries
+rotated_start old new part is = ap (λ (kernels : List Program). begin kernels new.origin) is.kernels_are ∙ same-begin old.kernels new.origin part.end is.goes_on ∙ is.end_is
+
+-- so each queue's next id stays
+pub rotated_next : (old new : History) (part : Handed) → IsRotated old part new → (queue : QueueId) → next_id (beginning new) new.entries queue ≡ next_id (beginning old) old.entries queue
+rotated_next old new part is queue = (λ i. next_id (rotated_start old new part is i) (is.empty i) queue) ∙ none_next (state_after (beginning old) old.entries) queue
+
+-- one that is refused leaves the history
+pub unrotated : (old new : History) (why : cores.Refusal) → Rotates old (Err why) new → new ≡ old
+unrotated old new core_refusal.OutOfMemory is = is.1
+unrotated old new core_refusal.AuditFull is = is.1
+unrotated old new _ is = absurd is
+
+-- ---- what is handed out: only by a rotation
+
+handed_of_core : (made : AnswerOrRefusal) → handed (of_core made) ≡ []
+handed_of_core (Ok answered) = refl
+handed_of_core (Err why) = refl
+
+handed_by_step : (access : Access) (index old : ℕ) → handed (Ok (answer_to access index old)) ≡ []
+handed_by_step Reserve index old = refl
+handed_by_step LoadHeader index old = refl
+handed_by_step _ index old = refl
+
+handed_where : (world : Joined) (queue : QueueId) (ring : Machine) (step : Step) (o : Option Refusal) → handed (due_where world queue ring step o).reply ≡ []
+handed_where world queue ring step None = handed_by_step step.access (read_index ring) (found ring step)
+handed_where world queue ring step (Some why) = refl
+
+handed_at_step : (world : Joined) (queue : QueueId) (step : Step) (o : Option Machine) → handed (due_step world queue step o).reply ≡ []
+handed_at_step world queue step None = refl
+handed_at_step world queue step (Some ring) = handed_where world queue ring step (hindrance (is_decided world.core queue ring) ring step)
+
+handed_taken : (id : ℕ) (made : Result Outcome cores.Refusal) → handed (taken_reply id made) ≡ []
+handed_taken id (Ok (outcome.Taken taken)) = refl
+handed_taken id (Ok _) = refl
+handed_taken id (Err why) = refl
+
+handed_collected : (world : Joined) (queue : QueueId) (id : ℕ) (packet : Option (List ℕ)) → handed (due_collected world queue id packet).reply ≡ []
+handed_collected world queue id None = refl
+handed_collected world queue id (Some words) = handed_taken id (reply_of (due world.core (taking queue id words)))
+
+handed_at_take : (world : Joined) (queue : QueueId) (o : Option Machine) → handed (due_take world queue o).reply ≡ []
+handed_at_take world queue None = refl
+handed_at_take world queue (Some ring) = handed_collected world queue (read_index ring) (collected_packet (processor_of ring.parts))
+
+module _ (first : Declared) (prior : List Entry) (world : Joined) (h : IsJoinedBehind first prior world) where
+  step_kept : (queue : QueueId) (step : Step) (o : Option Machine) → ring_of world queue ≡ o → IsJoinedBehind first prior (due_step world queue step o).after
   step_kept queue step None found = h
   step_kept queue step (Some ring) found = by_hindrance (hindrance (is_decided world.core queue ring) ring step) refl
     where
-      by_hindrance : (why : Option Refusal) → hindrance (is_decided world.core queue ring) ring step ≡ why → IsJoined (due_where world queue ring step why).after
+      by_hindrance : (why : Option Refusal) → hindrance (is_decided world.core queue ring) ring step ≡ why → IsJoinedBehind first prior (due_where world queue ring step why).after
       by_hindrance (Some why) is = h
       by_hindrance None is =
           let free = unhindered (is_decided world.core queue ring) ring step is in
-          let stands : Stands world.core (whole_of world.core h.legal) queue (Some ring) = subst (Stands world.core (whole_of world.core h.legal) queue) found (h.each queue) in
-          ring_replaced world queue ring (made ring step) h found refl (ring_steps ring step stands.0 free.0, step_in_step world.core (whole_of world.core h.legal) queue ring step stands.0 free.0 free.1 stands.1)
+          let stands : Stands world.core (prior ++ world.core.entries) queue (Some ring) = subst (Stands world.core (prior ++ world.core.entries) queue) found (h.each queue) in
+          ring_replaced first prior world queue ring (made ring step) h found refl (ring_steps ring step stands.0 free.0, step_in_step world.core (prior ++ world.core.entries) queue ring step stands.0 free.0 free.1 stands.1)
 
-  taking_kept : (queue : QueueId) (o : Option Machine) → ring_of world queue ≡ o → IsJoined (due_take world queue o).after
+  taking_kept : (queue : QueueId) (o : Option Machine) → ring_of world queue ≡ o → IsJoinedBehind first prior (due_take world queue o).after
   taking_kept queue None found = h
   taking_kept queue (Some ring) found = by_packet (collected_packet (processor_of ring.parts)) refl
     where
-      by_packet : (packet : Option (List ℕ)) → collected_packet (processor_of ring.parts) ≡ packet → IsJoined (due_collected world queue (read_index ring) packet).after
+      by_packet : (packet : Option (List ℕ)) → collected_packet (processor_of ring.parts) ≡ packet → IsJoinedBehind first prior (due_collected world queue (read_index ring) packet).after
       by_packet None is = h
-      by_packet (Some words) is = take_kept world h queue ring found words is
+      by_packet (Some words) is = take_kept first prior world h queue ring found words is
 
-  -- a call concerns no ring
-  pub call_aside : (asked : Call) → IsAside (event_of asked)
-  call_aside (call.Grant client object rights) = record { opens = refl; sizes = refl; takes = λ q. refl; hands = λ q. refl }
-  call_aside (call.Revoke client object rights) = record { opens = refl; sizes = refl; takes = λ q. refl; hands = λ q. refl }
-  call_aside (call.Stop queue) = record { opens = refl; sizes = refl; takes = λ q. refl; hands = λ q. refl }
-  call_aside (call.RunNext queue packet) = record { opens = refl; sizes = refl; takes = λ q. refl; hands = λ q. refl }
-  call_aside (call.Poll queue packet) = record { opens = refl; sizes = refl; takes = λ q. refl; hands = λ q. refl }
-  call_aside (call.Finish queue packet) = record { opens = refl; sizes = refl; takes = λ q. refl; hands = λ q. refl }
-  call_aside (call.HostWrite client address bytes) = record { opens = refl; sizes = refl; takes = λ q. refl; hands = λ q. refl }
-  call_aside (call.ChangeSignal client signal operation) = record { opens = refl; sizes = refl; takes = λ q. refl; hands = λ q. refl }
+  rotated_kept : (part : Handed) (new : Joined) → IsRotated world.core part new.core → new.rings ≡ world.rings → IsJoinedBehind first (prior ++ part.entries) new
+  rotated_kept part new is rings =
+      let start : beginning new.core ≡ state_after (beginning world.core) world.core.entries = rotated_start world.core new.core part is in
+      let all : (prior ++ part.entries) ++ new.core.entries ≡ prior ++ world.core.entries =
+      ap (λ (es : List Entry). (prior ++ part.entries) ++ es) is.empty ∙ append-nil (prior ++ part.entries) ∙ ap (λ (es : List Entry). prior ++ es) is.entries_are in
+      let opened : openings (beginning new.core) new.core.entries ≡ openings (beginning world.core) world.core.entries =
+      (λ i. openings (start i) (is.empty i)) ∙ no_openings (state_after (beginning world.core) world.core.entries) in
+      record {
+        start_is = start
+            ∙ ap (λ (now : Start). state_after now world.core.entries) h.start_is
+            ∙ sym (state-join (opening_state first world.core.kernels) prior world.core.entries)
+            ∙ (λ i. state_after (opening_state first (sym is.kernels_are i)) (prior ++ sym is.entries_are i));
+        whole = subst (IsWhole (opening_state first new.core.kernels)) (sym all)
+            (subst (λ (kernels : List Program). IsWhole (opening_state first kernels) (prior ++ world.core.entries)) (sym is.kernels_are) h.whole);
+        count = ap length rings ∙ h.count ∙ ap length (sym opened);
+        sizes = ap (map (λ (ring : Machine). ring.size)) rings ∙ h.sizes ∙ ap sizes (sym all);
+        each = λ queue.
+            subst (λ (machines : List Machine). Stands new.core ((prior ++ part.entries) ++ new.core.entries) queue (numbered machines queue.0)) (sym rings)
+            (stands_along world.core new.core (prior ++ world.core.entries) ((prior ++ part.entries) ++ new.core.entries) queue (ring_of world queue)
+            (rotated_next world.core new.core part is queue) (ap (λ (es : List Entry). takes es queue) all) (h.each queue));
+      }
 
-  -- nor does a policy that is handed in
-  pub reload_aside : (rows : PolicyRows) → IsAside (Reload rows)
-  reload_aside rows = record { opens = refl; sizes = refl; takes = λ q. refl; hands = λ q. refl }
+  -- with no entry handed out, the same come before
+  none_more : (more : List Entry) (new : Joined) → more ≡ [] → IsJoinedBehind first prior new → IsJoinedBehind first (prior ++ more) new
+  none_more more new none kept = subst (λ (es : List Entry). IsJoinedBehind first es new) (sym (append-nil prior) ∙ ap (λ (es : List Entry). prior ++ es) (sym none)) kept
 
-  owed_kept : (asked : Request) → IsJoined (owed_to world asked).after
-  owed_kept (request.Step queue step) = step_kept queue step (ring_of world queue) refl
-  owed_kept (request.Take queue) = taking_kept queue (ring_of world queue) refl
-  owed_kept (request.OpenQueue client agent size producers) = opening_kept world h client agent size producers
-  owed_kept (request.Call asked) = aside_kept world h (event_of asked) (call_aside asked)
-  owed_kept (request.Query asked) = h
-  owed_kept (request.Reload policy) = aside_kept world h (Reload policy.rows) (reload_aside policy.rows)
+  meets_kept : (owed : Due) (reply : Reply) (new : Joined) → handed owed.reply ≡ [] → IsJoinedBehind first prior owed.after → Meets world owed reply new → IsJoinedBehind first (prior ++ handed reply) new
+  meets_kept owed reply new none kept (inl served) =
+      none_more (handed reply) new (ap handed served.0 ∙ none) (subst (IsJoinedBehind first prior) (sym served.1) kept)
+  meets_kept owed reply new none kept (inr lacked) = none_more (handed reply) new (ap handed lacked.1) (subst (IsJoinedBehind first prior) (sym lacked.2) h)
+
+  rotates_kept : (reply : Reply) (new : Joined) (made : Result Handed cores.Refusal) → reply ≡ rotated_reply made → Rotates world.core made new.core → new.rings ≡ world.rings → IsJoinedBehind first (prior ++ handed reply) new
+  rotates_kept reply new (Ok part) told is rings =
+      subst (λ (es : List Entry). IsJoinedBehind first (prior ++ es) new) (sym (ap handed told)) (rotated_kept part new is.1 rings)
+  rotates_kept reply new (Err why) told is rings =
+      let same : new ≡ world = λ i. joined (unrotated world.core new.core why is i) (rings i) in
+      none_more (handed reply) new (ap handed told) (subst (IsJoinedBehind first prior) (sym same) h)
 
   -- one request
-  pub served_kept : (asked : Request) (reply : Reply) (new : Joined) → IsServed world asked reply new → IsJoined new
-  served_kept asked reply new (inl (same, inl served)) = subst IsJoined (sym served.1) (owed_kept asked)
-  served_kept asked reply new (inl (same, inr lacked)) = subst IsJoined (sym lacked.2) h
-  served_kept asked reply new (inr others) = subst IsJoined (sym others.2) h
+  pub served_kept : (asked : Request) (reply : Reply) (new : Joined) → IsServed world asked reply new → IsJoinedBehind first (prior ++ handed reply) new
+  served_kept (request.Step queue step) reply new is =
+      meets_kept (due_step world queue step (ring_of world queue)) reply new (handed_at_step world queue step (ring_of world queue)) (step_kept queue step (ring_of world queue) refl) is
+  served_kept (request.Take queue) reply new is =
+      meets_kept (due_take world queue (ring_of world queue)) reply new (handed_at_take world queue (ring_of world queue)) (taking_kept queue (ring_of world queue) refl) is
+  served_kept (request.OpenQueue client agent size producers) reply new is =
+      let event : Event = OpenQueue client agent (asked_size size producers) in
+      meets_kept (due_opening world size producers event (due world.core event)) reply new (handed_of_core (as_reply (reply_of (due world.core event)))) (opening_kept first prior world h client agent size producers) is
+  served_kept (request.Call asked) reply new is =
+      meets_kept (due_event world (event_of asked) (due world.core (event_of asked))) reply new (handed_of_core (as_reply (reply_of (due world.core (event_of asked)))))
+      (aside_kept first prior world h (event_of asked) (call_aside asked)) is
+  served_kept (request.Query asked) reply new is = meets_kept (due_query world asked) reply new (handed_of_core (query_answer (beginning world.core) world.core.entries asked)) h is
+  served_kept (request.Reload policy) reply new (inl is) =
+      meets_kept (due_event world (Reload policy.rows) (due world.core (Reload policy.rows))) reply new (handed_of_core (as_reply (reply_of (due world.core (Reload policy.rows)))))
+      (aside_kept first prior world h (Reload policy.rows) (reload_aside policy.rows)) is.1
+  served_kept (request.Reload policy) reply new (inr others) = none_more (handed reply) new (ap handed others.1) (subst (IsJoinedBehind first prior) (sym others.2) h)
+  served_kept request.Rotate reply new is = rotates_kept reply new is.0 is.1 is.2 is.3
 
 -- any list of requests
-pub replies_kept : (world new : Joined) (requests : List Request) (replies : List Reply) → IsJoined world → AreReplies world requests replies new → IsJoined new
-replies_kept world new [] [] h are = subst IsJoined (sym are) h
-replies_kept world new (asked ∷ requests) (reply ∷ replies) h are = replies_kept are.0 new requests replies (served_kept world h asked reply are.0 are.1) are.2
-replies_kept world new [] (reply ∷ replies) h are = absurd are
-replies_kept world new (asked ∷ requests) [] h are = absurd are
-
--- ---- what the history begins from
-
--- a request leaves it
-owed_start : (world : Joined) (asked : Request) → (beginning (owed_to world asked).after.core) ≡ (beginning world.core)
-owed_start world (request.Step queue step) = by_ring (ring_of world queue)
-  where
-    by_hindrance : (ring : Machine) (why : Option Refusal) → (beginning (due_where world queue ring step why).after.core) ≡ (beginning world.core)
-    by_hindrance ring None = refl
-    by_hindrance ring (Some why) = refl
-
-    by_ring : (o : Option Machine) → (beginning (due_step world queue step o).after.core) ≡ (beginning world.core)
-    by_ring None = refl
-    by_ring (Some ring) = by_hindrance ring (hindrance (is_decided world.core queue ring) ring step)
-owed_start world (request.Take queue) = by_ring (ring_of world queue)
-  where
-    by_packet : (id : ℕ) (packet : Option (List ℕ)) → (beginning (due_collected world queue id packet).after.core) ≡ (beginning world.core)
-    by_packet id None = refl
-    by_packet id (Some words) = refl
-
-    by_ring : (o : Option Machine) → (beginning (due_take world queue o).after.core) ≡ (beginning world.core)
-    by_ring None = refl
-    by_ring (Some ring) = by_packet (read_index ring) (collected_packet (processor_of ring.parts))
-owed_start world (request.OpenQueue client agent size producers) = refl
-owed_start world (request.Call asked) = refl
-owed_start world (request.Query asked) = refl
-owed_start world (request.Reload policy) = refl
-
-pub served_start : (world new : Joined) (asked : Request) (reply : Reply) → IsServed world asked reply new → (beginning new.core) ≡ (beginning world.core)
-served_start world new asked reply (inl (same, inl served)) = ap (λ w. (beginning w.core)) served.1 ∙ owed_start world asked
-served_start world new asked reply (inl (same, inr lacked)) = ap (λ w. (beginning w.core)) lacked.2
-served_start world new asked reply (inr others) = ap (λ w. (beginning w.core)) others.2
-
--- any list of requests leaves it
-pub replies_start : (world new : Joined) (requests : List Request) (replies : List Reply) → AreReplies world requests replies new → (beginning new.core) ≡ (beginning world.core)
-replies_start world new [] [] are = ap (λ w. (beginning w.core)) are
-replies_start world new (asked ∷ requests) (reply ∷ replies) are = replies_start are.0 new requests replies are.2 ∙ served_start world are.0 asked reply are.1
-replies_start world new [] (reply ∷ replies) are = absurd are
-replies_start world new (asked ∷ requests) [] are = absurd are
+pub replies_kept : (first : Declared) (prior : List Entry) (world new : Joined) (requests : List Request) (replies : List Reply) → IsJoinedBehind first prior world → AreReplies world requests replies new
+    → IsJoinedBehind first (prior ++ handed_out replies) new
+replies_kept first prior world new [] [] h are = none_more first prior world h [] new refl (subst (IsJoinedBehind first prior) (sym are) h)
+replies_kept first prior world new (asked ∷ requests) (reply ∷ replies) h are =
+    subst (λ (es : List Entry). IsJoinedBehind first es new) (append_assoc prior (handed reply) (handed_out replies))
+    (replies_kept first (prior ++ handed reply) are.0 new requests replies (served_kept first prior world h asked reply are.0 are.1) are.2)
+replies_kept first prior world new [] (reply ∷ replies) h are = absurd are
+replies_kept first prior world new (asked ∷ requests) [] h are = absurd are
 
 -- ---- the opening
 
@@ -152,14 +220,10 @@ module _ (policy : Declared) (kernels : List Program) (capacity : ℕ) (core : H
   of_none : (P : Start → List Entry → Type 0) → P (opening_state policy kernels) [] → P (beginning core) core.entries
   of_none P none = subst (P (beginning core)) (sym opening.entries_are) (subst (λ (now : Start). P now []) (sym opening.start_is) none)
 
-  pub begins : IsJoined (joined core [])
+  pub begins : IsJoinedBehind policy [] (joined core [])
   begins = record {
-    legal = record {
-      first = policy;
-      prior = [];
-      start_is = opening.start_is ∙ ap (opening_state policy) (sym opening.kernels_are) ∙ sym (state-now (opening_state policy core.kernels));
-      whole = subst (IsWhole (opening_state policy core.kernels)) (sym opening.entries_are) (record { opens = refl; legal = tt });
-    };
+    start_is = opening.start_is ∙ ap (opening_state policy) (sym opening.kernels_are) ∙ sym (state-now (opening_state policy core.kernels));
+    whole = subst (IsWhole (opening_state policy core.kernels)) (sym opening.entries_are) (record { opens = refl; legal = tt });
     count = sym (of_none (λ now es. length (openings now es) ≡ 0) (ap length (no_openings (opening_state policy kernels))));
     sizes = sym (of_none (λ now es. sizes es ≡ []) no_sizes);
     each = λ queue.
@@ -170,5 +234,5 @@ module _ (policy : Declared) (kernels : List Program) (capacity : ℕ) (core : H
   }
 
 -- a world that was just opened is joined
-pub begun_joined : (world : Joined) (policy : Declared) (kernels : List Program) (capacity : ℕ) → IsBegun world policy kernels capacity → IsJoined world
-begun_joined world policy kernels capacity is = subst (λ (rings : List Machine). IsJoined (joined world.core rings)) (sym is.rings) (begins policy kernels capacity world.core is.core)
+pub begun_joined : (world : Joined) (policy : Declared) (kernels : List Program) (capacity : ℕ) → IsBegun world policy kernels capacity → IsJoinedBehind policy [] world
+begun_joined world policy kernels capacity is = subst (λ (rings : List Machine). IsJoinedBehind policy [] (joined world.core rings)) (sym is.rings) (begins policy kernels capacity world.core is.core)

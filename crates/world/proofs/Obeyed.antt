@@ -27,9 +27,9 @@ use Rattle.world.specs.declared.request.Request.TheVariants as request
 use Rattle.world.specs.declared.reply.Refusal.{Refusal}
 use Rattle.world.specs.States.{Joined, joined, ring_of}
 use Rattle.world.specs.Calls.{event_of}
-use Rattle.world.specs.Dues.{IsServed, Meets, Reply, asked_size, due_collected, due_step, due_take, due_where, hindrance, is_decided, of_core, owed_to, rings_after, taken_reply, taking}
+use Rattle.world.specs.Dues.{IsServed, Meets, Reply, asked_size, due_collected, due_step, due_take, due_where, hindrance, is_decided, of_core, rings_after, taken_reply, taking}
 use Rattle.world.specs.Making.{AreDecided, MakesAt, MakesWhere, rings_of, with_queue_ring}
-use Rattle.world.specs.Obeying.{Asks, HandsOver, Obeys, Opens, TakesAt, new_ring, ring_taken, rings_opened, told_opened, told_taken}
+use Rattle.world.specs.Obeying.{Asks, HandsOut, HandsOver, Obeys, Opens, TakesAt, new_ring, ring_taken, rings_opened, told_opened, told_taken}
 use Rattle.policy.proofs.NameLemmas.{numbered-map}
 use Rattle.world.proofs.Numbering.{map_more, map_same, map_set, numbered_place}
 
@@ -44,7 +44,7 @@ ring_is core rings queue o found = numbered-map (λ (r : QueueRing). r.ring) rin
 
 module _ (core core' : History) (old new : List QueueRing) (decided : AreDecided core old) (reply : Reply) where
   step_served : (queue : QueueId) (step : Step) → MakesAt (numbered old queue.0) queue step old reply new × (core' ≡ core) → IsServed (World core old) (request.Step queue step) reply (World core' new)
-  step_served queue step (makes, same) = inl (tt, by_ring (numbered old queue.0) refl makes)
+  step_served queue step (makes, same) = by_ring (numbered old queue.0) refl makes
     where
       by_hindrance : (r after : QueueRing) (o : Option Refusal) → r.decided ≡ r.decided → MakesWhere o r step reply after → new ≡ with_queue_ring old queue after → numbered old queue.0 ≡ Some r
           → Meets (World core old) (due_where (World core old) queue r.ring step o) reply (World core' new)
@@ -58,7 +58,7 @@ module _ (core core' : History) (old new : List QueueRing) (decided : AreDecided
           let kept : rings_of new ≡ rings_of old = ap rings_of put ∙ map_same (λ (x : QueueRing). x.ring) old (queue.0 - 1) r after (numbered_place old queue.0 r found).1 (ap (λ x. x.ring) is) in
           inr (may, told, λ i. joined (same i) (kept i))
 
-      by_ring : (o : Option QueueRing) → numbered old queue.0 ≡ o → MakesAt o queue step old reply new → Meets (World core old) (owed_to (World core old) (request.Step queue step)) reply (World core' new)
+      by_ring : (o : Option QueueRing) → numbered old queue.0 ≡ o → MakesAt o queue step old reply new → IsServed (World core old) (request.Step queue step) reply (World core' new)
       by_ring None found (told, is) =
           subst (λ x. Meets (World core old) (due_step (World core old) queue step x) reply (World core' new)) (sym (ring_is core old queue None found))
           (inl (told, λ i. joined (same i) (rings_of (is i))))
@@ -83,7 +83,7 @@ module _ (core core' : History) (old new : List QueueRing) (decided : AreDecided
   same_ring r (Err why) = refl
 
   take_served : (queue : QueueId) → TakesAt (numbered old queue.0) queue core old reply core' new → IsServed (World core old) (request.Take queue) reply (World core' new)
-  take_served queue takes = inl (tt, by_ring (numbered old queue.0) refl takes)
+  take_served queue takes = by_ring (numbered old queue.0) refl takes
     where
       by_packet : (r : QueueRing) → numbered old queue.0 ≡ Some r → (packet : Option (List ℕ)) → HandsOver packet r queue core old reply core' new
           → Meets (World core old) (due_collected (World core old) queue (read_index r.ring) packet) reply (World core' new)
@@ -98,7 +98,7 @@ module _ (core core' : History) (old new : List QueueRing) (decided : AreDecided
           by_due (inl m) = inl (told ∙ told_as (read_index r.ring) became ∙ ap (taken_reply (read_index r.ring)) m.reply_is, λ i. joined (m.history_is i) (kept i))
           by_due (inr l) = inr (l.may, told ∙ told_as (read_index r.ring) became ∙ ap (taken_reply (read_index r.ring)) l.reply_is, λ i. joined (l.history_is i) (kept i))
 
-      by_ring : (o : Option QueueRing) → numbered old queue.0 ≡ o → TakesAt o queue core old reply core' new → Meets (World core old) (owed_to (World core old) (request.Take queue)) reply (World core' new)
+      by_ring : (o : Option QueueRing) → numbered old queue.0 ≡ o → TakesAt o queue core old reply core' new → IsServed (World core old) (request.Take queue) reply (World core' new)
       by_ring None found (told, same, is) =
           subst (λ x. Meets (World core old) (due_take (World core old) queue x) reply (World core' new)) (sym (ring_is core old queue None found))
           (inl (told, λ i. joined (same i) (rings_of (is i))))
@@ -118,10 +118,10 @@ module _ (core core' : History) (old new : List QueueRing) (decided : AreDecided
 
   opening_served : (client : ClientId) (agent : AgentHandle) (size producers : ℕ) → Opens client agent size producers core old reply core' new
       → IsServed (World core old) (request.OpenQueue client agent size producers) reply (World core' new)
-  opening_served client agent size producers (made, meets, told, put) = inl (tt, by_due meets)
+  opening_served client agent size producers (made, meets, told, put) = by_due meets
     where
       by_due : MeetsOrLacks (OpenQueue client agent (asked_size size producers)) core core' (map_ok outcome.Opened made)
-          → Meets (World core old) (owed_to (World core old) (request.OpenQueue client agent size producers)) reply (World core' new)
+          → IsServed (World core old) (request.OpenQueue client agent size producers) reply (World core' new)
       by_due (inl m) =
           let rings : rings_of new ≡ rings_after (rings_of old) size producers (reply_of (due core (OpenQueue client agent (asked_size size producers)))) =
           ap rings_of put ∙ rings_as size producers made ∙ ap (rings_after (rings_of old) size producers) m.reply_is in
@@ -133,16 +133,16 @@ module _ (core core' : History) (old new : List QueueRing) (decided : AreDecided
   -- ---- calls and queries
 
   call_served : (call : Call) → Asks (asked.Event (event_of call)) core reply core' × (new ≡ old) → IsServed (World core old) (request.Call call) reply (World core' new)
-  call_served call ((replied, served, told), same) = inl (tt, by_served served)
+  call_served call ((replied, served, told), same) = by_served served
     where
-      by_served : cores_law.IsServed core (asked.Event (event_of call)) replied core' → Meets (World core old) (owed_to (World core old) (request.Call call)) reply (World core' new)
+      by_served : cores_law.IsServed core (asked.Event (event_of call)) replied core' → IsServed (World core old) (request.Call call) reply (World core' new)
       by_served (made, is, inl m) = inl (told ∙ ap of_core (is ∙ ap as_reply m.reply_is), λ i. joined (m.history_is i) (rings_of (same i)))
       by_served (made, is, inr l) = inr (l.may, told ∙ ap of_core (is ∙ ap as_reply l.reply_is), λ i. joined (l.history_is i) (rings_of (same i)))
 
   query_served : (query : Query) → Asks (asked.Query query) core reply core' × (new ≡ old) → IsServed (World core old) (request.Query query) reply (World core' new)
-  query_served query ((replied, served, told), same) = inl (tt, by_served served)
+  query_served query ((replied, served, told), same) = by_served served
     where
-      by_served : cores_law.IsServed core (asked.Query query) replied core' → Meets (World core old) (owed_to (World core old) (request.Query query)) reply (World core' new)
+      by_served : cores_law.IsServed core (asked.Query query) replied core' → IsServed (World core old) (request.Query query) reply (World core' new)
       by_served (inl is, leads) = inl (told ∙ ap of_core is, λ i. joined (leads i) (rings_of (same i)))
       by_served (inr (may, is), leads) = inr (may, told ∙ ap of_core is, λ i. joined (leads i) (rings_of (same i)))
 
@@ -156,6 +156,11 @@ module _ (core core' : History) (old new : List QueueRing) (decided : AreDecided
       by_served (made, is, inr (declares, inl m)) = inl (declares, inl (told ∙ ap of_core (is ∙ ap as_reply m.reply_is), λ i. joined (m.history_is i) (rings_of (same i))))
       by_served (made, is, inr (declares, inr l)) = inl (declares, inr (l.may, told ∙ ap of_core (is ∙ ap as_reply l.reply_is), λ i. joined (l.history_is i) (rings_of (same i))))
 
+  -- ---- a rotation
+
+  rotation_served : HandsOut core reply core' × (new ≡ old) → IsServed (World core old) request.Rotate reply (World core' new)
+  rotation_served ((made, rotates, told), same) = (made, told, rotates, ap rings_of same)
+
   -- any request
   pub obeyed_served : (wanted : Request) → Obeys wanted core old reply core' new → IsServed (World core old) wanted reply (World core' new)
   obeyed_served (request.Step queue step) h = step_served queue step h
@@ -164,3 +169,4 @@ module _ (core core' : History) (old new : List QueueRing) (decided : AreDecided
   obeyed_served (request.Call call) h = call_served call h
   obeyed_served (request.Query query) h = query_served query h
   obeyed_served (request.Reload policy) h = reload_served policy h
+  obeyed_served request.Rotate h = rotation_served h

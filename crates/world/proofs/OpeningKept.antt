@@ -8,7 +8,7 @@ use Rattle.aql_packet.specs.declared.ids.QueueId.{QueueId}
 use Rattle.policy.specs.declared.object.Object.TheVariants as object
 use Rattle.policy.specs.declared.rights.Right.TheVariants as right
 use Rattle.policy.specs.Rules.{knows_client}
-use Rattle.policy.specs.Policy.{numbered, rules_of}
+use Rattle.policy.specs.Policy.{Declared, numbered, rules_of}
 use Rattle.core_model.specs.declared.event.Event.{Event}
 use Rattle.core_model.specs.declared.event.Event.TheVariants.{OpenQueue}
 use Rattle.core_model.specs.declared.entry.Entry.{Entry}
@@ -32,10 +32,10 @@ use Rattle.ring_core.proofs.States.{ring_opens}
 use Rattle.world.specs.States.{Joined, joined, ring_of}
 use Rattle.world.specs.Dues.{asked_size, rings_after}
 use Rattle.world.specs.InStep as InStep
-use Rattle.world.specs.InStep.{IsInStep, IsJoined, IsUntouched, Stands, whole_of}
+use Rattle.world.specs.InStep.{IsInStep, IsJoinedBehind, IsUntouched, Stands}
 use Rattle.core_model.proofs.Turns.{numbered-new, numbered-end}
 use Rattle.world.proofs.Numbering.{map_more, numbered_old}
-use Rattle.world.proofs.Entering.{due_answers, due_enters, legal_entered, sizes_behind, takes_behind}
+use Rattle.world.proofs.Entering.{due_answers, due_enters, sizes_behind, takes_behind, whole_entered}
 use Rattle.world.proofs.Joining.{stands_along}
 
 -- ---- what an opening is owed
@@ -77,7 +77,7 @@ opens_in_step core all queue size producers h = record {
   whole = λ id lt. absurd (omega (arith, h.next));
 }
 
-module _ (world : Joined) (h : IsJoined world) (client : ClientId) (agent : AgentHandle) (size producers : ℕ) where
+module _ (first : Declared) (prior : List Entry) (world : Joined) (h : IsJoinedBehind first prior world) (client : ClientId) (agent : AgentHandle) (size producers : ℕ) where
   abbrev Opening : Event
   Opening = OpenQueue client agent (asked_size size producers)
 
@@ -92,10 +92,10 @@ module _ (world : Joined) (h : IsJoined world) (client : ClientId) (agent : Agen
     TheEntry = entry_of Opening told effects
 
     abbrev All : List Entry
-    All = whole_of world.core h.legal
+    All = prior ++ world.core.entries
 
     abbrev NewAll : List Entry
-    NewAll = h.legal.prior ++ (world.core.entries ++ TheEntry ∷ [])
+    NewAll = prior ++ (world.core.entries ++ TheEntry ∷ [])
 
     abbrev NewRing : Machine
     NewRing = machine.opened size producers
@@ -113,7 +113,7 @@ module _ (world : Joined) (h : IsJoined world) (client : ClientId) (agent : Agen
     few = (producer_bounds producers asked.1).1
 
     after : (queue : QueueId) (o : Option Machine) → Stands world.core All queue o → Stands New NewAll queue o
-    after queue o = stands_along world.core New All NewAll queue o (next_id-more (beginning world.core) world.core.entries TheEntry queue) (takes_behind h.legal.prior world.core.entries TheEntry queue)
+    after queue o = stands_along world.core New All NewAll queue o (next_id-more (beginning world.core) world.core.entries TheEntry queue) (takes_behind prior world.core.entries TheEntry queue)
 
     new_here : (queue : QueueId) → queue.0 ≡ length world.rings + 1 → Stands New NewAll queue (Some NewRing)
     new_here queue is =
@@ -121,9 +121,10 @@ module _ (world : Joined) (h : IsJoined world) (client : ClientId) (agent : Agen
         let fresh : Stands New NewAll queue None = after queue None (subst (Stands world.core All queue) none (h.each queue)) in
         (ring_opens size producers fits few, opens_in_step New NewAll queue size producers fresh)
 
-    made : IsJoined (joined New (world.rings ++ NewRing ∷ []))
+    made : IsJoinedBehind first prior (joined New (world.rings ++ NewRing ∷ []))
     made = record {
-      legal = legal_entered world.core Opening told effects h.legal owing;
+      start_is = h.start_is;
+      whole = whole_entered world.core Opening told effects first prior h.start_is h.whole owing;
       count =
           let rings = length-append world.rings (NewRing ∷ []) in
           let more = ap length (openings-more (beginning world.core) world.core.entries TheEntry) in
@@ -133,7 +134,7 @@ module _ (world : Joined) (h : IsJoined world) (client : ClientId) (agent : Agen
           map_more (λ (r : Machine). r.size) world.rings NewRing
           ∙ ap (λ xs. xs ++ size ∷ []) h.sizes
           ∙ ap (λ n. InStep.sizes All ++ n ∷ []) (sym asked.0)
-          ∙ sym (sizes_behind h.legal.prior world.core.entries TheEntry);
+          ∙ sym (sizes_behind prior world.core.entries TheEntry);
       each = λ queue.
           elim (eqb_tells queue.0 (length world.rings + 1)) [
             | inl e ↦ subst (Stands New NewAll queue) (sym (ap (numbered (world.rings ++ NewRing ∷ [])) e.1 ∙ numbered-new world.rings NewRing)) (new_here queue e.1)
@@ -141,12 +142,12 @@ module _ (world : Joined) (h : IsJoined world) (client : ClientId) (agent : Agen
           ];
     }
 
-  opened_by : (owing : Owed) → due world.core Opening ≡ owing → IsJoined (After owing)
+  opened_by : (owing : Owed) → due world.core Opening ≡ owing → IsJoinedBehind first prior (After owing)
   opened_by (refuses why) is = h
   opened_by (answers told) is =
       let owed_is = opening_owed (beginning world.core) world.core.entries client agent (asked_size size producers) (answers told) (λ w e. cc) (due_answers world.core Opening told is) in
       absurd (let never : enters (outcome.Opened (record { 0 = length (openings (beginning world.core) world.core.entries) + 1 })) [] ≡ answers told = owed_is.1 in cc)
   opened_by (enters told effects) is = made told effects is
 
-  pub opening_kept : IsJoined (After (due world.core Opening))
+  pub opening_kept : IsJoinedBehind first prior (After (due world.core Opening))
   opening_kept = opened_by (due world.core Opening) refl

@@ -1,8 +1,8 @@
 -- What is refused changes nothing.
-use Rattle.std.proofs.Common.{◌≡◌, ℕ, List, Option, Some, None, Err, inl, inr, refl, ◌∙◌}
+use Rattle.std.proofs.Common.{◌≡◌, ℕ, List, Option, Some, None, Result, Ok, Err, inl, inr, refl, ◌∙◌}
 use Rattle.aql_packet.specs.declared.ids.QueueId.{QueueId}
 use Rattle.core_model.specs.declared.event.Event.{Event}
-use Rattle.core_model.specs.declared.event.Event.TheVariants.{Reload}
+use Rattle.core_model.specs.declared.event.Event.TheVariants.{OpenQueue, Reload}
 use Rattle.core_model.specs.declared.outcome.Outcome.TheVariants as outcome
 use Rattle.core_model.specs.Owed.{Owed, refuses, answers, enters}
 use Rattle.core_model.specs.Legal.{due}
@@ -13,9 +13,13 @@ use Rattle.ring_core.specs.Rule.{processor_of}
 use Rattle.world.specs.declared.request.Request.{Request}
 use Rattle.world.specs.declared.request.Request.TheVariants as request
 use Rattle.world.specs.declared.reply.Refusal.{Refusal}
-use Rattle.world.specs.States.{Joined, ring_of}
+use Rattle.core_model.specs.History.{Part as Handed}
+use Rattle.core_model.specs.Rotation.{Rotates}
+use Rattle.core_model.specs.declared.refusal.Refusal as cores
+use Rattle.world.proofs.Kept.{unrotated}
+use Rattle.world.specs.States.{Joined, joined, ring_of}
 use Rattle.world.specs.Calls.{event_of}
-use Rattle.world.specs.Dues.{Due, IsServed, due_collected, due_event, due_opening, due_step, due_take, due_taken, due_where, hindrance, is_decided, owed_to}
+use Rattle.world.specs.Dues.{Due, IsServed, Meets, asked_size, due_collected, due_event, due_opening, due_query, due_step, due_take, due_taken, due_where, hindrance, is_decided, rotated_reply}
 
 -- a reply that is a refusal leaves the world
 abbrev Refuses : Joined → Due → Type 0
@@ -53,15 +57,25 @@ take_refused : (old : Joined) (queue : QueueId) (o : Option Machine) → Refuses
 take_refused old queue None why is = refl
 take_refused old queue (Some ring) why is = collected_refused old queue (read_index ring) (collected_packet (processor_of ring.parts)) why is
 
-refused : (old : Joined) (asked : Request) → Refuses old (owed_to old asked)
-refused old (request.Step queue step) why is = step_refused old queue step (ring_of old queue) why is
-refused old (request.Take queue) why is = take_refused old queue (ring_of old queue) why is
-refused old (request.OpenQueue client agent size producers) why is = opening_refused old size producers _ _ why is
-refused old (request.Call call) why is = event_refused old (event_of call) (due old.core (event_of call)) why is
-refused old (request.Query query) why is = refl
-refused old (request.Reload policy) why is = event_refused old (Reload policy.rows) (due old.core (Reload policy.rows)) why is
+-- what meets what it is owed leaves the world where its reply is a refusal
+meets_refused : (old new : Joined) (owed : Due) (why : Refusal) → Refuses old owed → Meets old owed (Err why) new → new ≡ old
+meets_refused old new owed why stays (inl served) = served.1 ∙ stays why served.0
+meets_refused old new owed why stays (inr lacked) = lacked.2
+
+rotation_refused : (old new : Joined) (why : Refusal) (made : Result Handed cores.Refusal) → Err why ≡ rotated_reply made → Rotates old.core made new.core → new.rings ≡ old.rings → new ≡ old
+rotation_refused old new why (Ok part) told is rings = absurd (cc)
+rotation_refused old new why (Err wanted) told is rings = λ i. joined (unrotated old.core new.core wanted is i) (rings i)
 
 pub refused_stays : (old new : Joined) (asked : Request) (why : Refusal) → IsServed old asked (Err why) new → new ≡ old
-refused_stays old new asked why (inl (same, inl served)) = served.1 ∙ refused old asked why served.0
-refused_stays old new asked why (inl (same, inr lacked)) = lacked.2
-refused_stays old new asked why (inr others) = others.2
+refused_stays old new (request.Step queue step) why is = meets_refused old new (due_step old queue step (ring_of old queue)) why (step_refused old queue step (ring_of old queue)) is
+refused_stays old new (request.Take queue) why is = meets_refused old new (due_take old queue (ring_of old queue)) why (take_refused old queue (ring_of old queue)) is
+refused_stays old new (request.OpenQueue client agent size producers) why is =
+    let event : Event = OpenQueue client agent (asked_size size producers) in
+    meets_refused old new (due_opening old size producers event (due old.core event)) why (opening_refused old size producers event (due old.core event)) is
+refused_stays old new (request.Call call) why is =
+    meets_refused old new (due_event old (event_of call) (due old.core (event_of call))) why (event_refused old (event_of call) (due old.core (event_of call))) is
+refused_stays old new (request.Query query) why is = meets_refused old new (due_query old query) why (λ refusal told. refl) is
+refused_stays old new (request.Reload policy) why (inl is) =
+    meets_refused old new (due_event old (Reload policy.rows) (due old.core (Reload policy.rows))) why (event_refused old (Reload policy.rows) (due old.core (Reload policy.rows))) is.1
+refused_stays old new (request.Reload policy) why (inr others) = others.2
+refused_stays old new request.Rotate why is = rotation_refused old new why is.0 is.1 is.2 is.3

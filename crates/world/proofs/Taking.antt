@@ -5,6 +5,7 @@ use Rattle.std.specs.List.{list_all}
 use Rattle.std.proofs.lemmas.Bool.{eq-eqb}
 use Rattle.std.proofs.lemmas.Bool.Decides.{eqb_tells, leb_tells}
 use Rattle.aql_packet.specs.declared.ids.QueueId.{QueueId}
+use Rattle.policy.specs.Policy.{Declared}
 use Rattle.core_model.specs.declared.event.Event.{Event}
 use Rattle.core_model.specs.declared.entry.Entry.{Entry}
 use Rattle.core_model.specs.declared.entry.Effect.{Effect}
@@ -24,10 +25,10 @@ use Rattle.ring_core.proofs.Publication.{collected_is}
 use Rattle.world.specs.Bytes.{bytes_of}
 use Rattle.world.specs.States.{Joined, ring_of, with_core}
 use Rattle.world.specs.Dues.{taking}
-use Rattle.world.specs.InStep.{IsInStep, IsJoined, IsPublished, Stands, published, takes, whole_of}
+use Rattle.world.specs.InStep.{IsInStep, IsJoinedBehind, IsPublished, Stands, published, takes}
 use Rattle.executor.proofs.Maps.{get_append_left}
 use Rattle.core_model.proofs.Turns.{slice_get-last}
-use Rattle.world.proofs.Entering.{due_enters, legal_entered, sizes_behind, takes_behind}
+use Rattle.world.proofs.Entering.{due_enters, sizes_behind, takes_behind, whole_entered}
 use Rattle.world.proofs.Joining.{same_queue, stands_along}
 
 -- the words of a packet that is collected
@@ -38,7 +39,7 @@ collected_whole q words = by_test (list_all is_some q.collected) refl
     by_test true is e = (is, cc)
     by_test false is e = absurd (cc)
 
-module _ (world : Joined) (h : IsJoined world) (queue : QueueId) (ring : Machine) (found : ring_of world queue ≡ Some ring) (words : List ℕ) (whole : collected_packet (processor_of ring.parts) ≡ Some words) where
+module _ (first : Declared) (prior : List Entry) (world : Joined) (h : IsJoinedBehind first prior world) (queue : QueueId) (ring : Machine) (found : ring_of world queue ≡ Some ring) (words : List ℕ) (whole : collected_packet (processor_of ring.parts) ≡ Some words) where
   abbrev Taking : Event
   Taking = taking queue (read_index ring) words
 
@@ -46,7 +47,7 @@ module _ (world : Joined) (h : IsJoined world) (queue : QueueId) (ring : Machine
   After owing = with_core world (history_after world.core Taking owing)
 
   abbrev All : List Entry
-  All = whole_of world.core h.legal
+  All = prior ++ world.core.entries
 
   here : IsRing ring × IsInStep world.core All queue ring
   here = subst (Stands world.core All queue) found (h.each queue)
@@ -66,7 +67,7 @@ module _ (world : Joined) (h : IsJoined world) (queue : QueueId) (ring : Machine
     TheEntry = entry_of Taking outcome effects
 
     abbrev NewAll : List Entry
-    NewAll = h.legal.prior ++ (world.core.entries ++ TheEntry ∷ [])
+    NewAll = prior ++ (world.core.entries ++ TheEntry ∷ [])
 
     is_next : read_index ring ≡ next_id (beginning world.core) world.core.entries queue
     is_next = (take-decided (beginning world.core) world.core.entries outcome effects queue (record { 0 = read_index ring }) (bytes_of words) (due_enters world.core Taking outcome effects owing)).id_is_next
@@ -79,7 +80,7 @@ module _ (world : Joined) (h : IsJoined world) (queue : QueueId) (ring : Machine
 
     takes_longer : takes NewAll queue ≡ takes All queue ++ bytes_of words ∷ []
     takes_longer =
-        takes_behind h.legal.prior world.core.entries TheEntry queue
+        takes_behind prior world.core.entries TheEntry queue
         ∙ ap (λ b. elim (if b then Some (bytes_of words) else None) [ None ↦ takes All queue | Some x ↦ takes All queue ++ x ∷ [] ]) (eq-eqb queue.0 queue.0 refl)
 
     whole_more : (id : ℕ) → id < next_id (beginning New) New.entries queue → IsPublished ring id × (slice_get (takes NewAll queue) id ≡ Some (published ring id))
@@ -119,14 +120,15 @@ module _ (world : Joined) (h : IsJoined world) (queue : QueueId) (ring : Machine
         let differs : (queue.0 == other.0) ≡ false = elim (eqb_tells queue.0 other.0) [ inl e ↦ absurd (apart (sym e.1)) | inr e ↦ e.0 ] in
         stands_along world.core New All NewAll other (ring_of world other)
         (next_id-more (beginning world.core) world.core.entries TheEntry other ∙ ap (λ b. if b then next_id (beginning world.core) world.core.entries other + 1 else next_id (beginning world.core) world.core.entries other) differs)
-        (takes_behind h.legal.prior world.core.entries TheEntry other ∙ ap (λ b. elim (if b then Some (bytes_of words) else None) [ None ↦ takes All other | Some x ↦ takes All other ++ x ∷ [] ]) differs)
+        (takes_behind prior world.core.entries TheEntry other ∙ ap (λ b. elim (if b then Some (bytes_of words) else None) [ None ↦ takes All other | Some x ↦ takes All other ++ x ∷ [] ]) differs)
         (h.each other)
 
-    taken : IsJoined (After (enters outcome effects))
+    taken : IsJoinedBehind first prior (After (enters outcome effects))
     taken = record {
-      legal = legal_entered world.core Taking outcome effects h.legal owing;
+      start_is = h.start_is;
+      whole = whole_entered world.core Taking outcome effects first prior h.start_is h.whole owing;
       count = h.count ∙ ap length (sym (openings-more (beginning world.core) world.core.entries TheEntry));
-      sizes = h.sizes ∙ sym (sizes_behind h.legal.prior world.core.entries TheEntry);
+      sizes = h.sizes ∙ sym (sizes_behind prior world.core.entries TheEntry);
       each = λ other.
           elim (eqb_tells other.0 queue.0) [
             | inl e ↦
@@ -136,10 +138,10 @@ module _ (world : Joined) (h : IsJoined world) (queue : QueueId) (ring : Machine
           ];
     }
 
-  taken_by : (owing : Owed) → due world.core Taking ≡ owing → IsJoined (After owing)
+  taken_by : (owing : Owed) → due world.core Taking ≡ owing → IsJoinedBehind first prior (After owing)
   taken_by (refuses why) is = h
   taken_by (answers outcome) is = h
   taken_by (enters outcome effects) is = taken outcome effects is
 
-  pub take_kept : IsJoined (After (due world.core Taking))
+  pub take_kept : IsJoinedBehind first prior (After (due world.core Taking))
   take_kept = taken_by (due world.core Taking) refl

@@ -1,7 +1,10 @@
 -- What each request of the world is owed: its reply, and the world after it.
-use Rattle.std.specs.Prelude.{◌≡◌, ℕ, ◌==◌, ◌&&◌, ◌⊎◌, ⊤, Bool, true, false, nat_lt, List, [], ◌∷◌, ◌++◌, slice_get, Option, Some, None, Result, Ok, Err, if◌then◌else◌}
+use Rattle.std.specs.Prelude.{◌≡◌, ℕ, ◌==◌, ◌&&◌, ◌⊎◌, Bool, true, false, nat_lt, List, [], ◌∷◌, ◌++◌, slice_get, Option, Some, None, Result, Ok, Err, if◌then◌else◌}
 use Rattle.aql_packet.specs.declared.ids.QueueId.{QueueId}
+use Rattle.std.specs.List.{flat_map}
 use Rattle.policy.specs.Declaring.{DeclaresAs}
+use Rattle.policy.specs.Policy.{Declared}
+use Rattle.core_model.specs.declared.entry.Entry.{Entry}
 use Rattle.core_model.specs.declared.event.Event.{Event}
 use Rattle.core_model.specs.declared.event.Event.TheVariants.{OpenQueue, Reload, Take}
 use Rattle.core_model.specs.declared.event.Query.{Query}
@@ -11,6 +14,8 @@ use Rattle.core_model.specs.declared.refusal.Refusal as cores
 use Rattle.core_model.specs.declared.refusal.Refusal.TheVariants as why
 use Rattle.core_model.specs.declared.answer.Answer.TheVariants as told
 use Rattle.core_model.specs.History.{beginning, History}
+use Rattle.core_model.specs.History.{Part as Handed}
+use Rattle.core_model.specs.Rotation.{Rotates}
 use Rattle.core_model.specs.Queues.{next_id}
 use Rattle.core_model.specs.Owed.{Owed}
 use Rattle.core_model.specs.Legal.{as_reply, due, history_after, may_lack_memory, query_may_lack_memory, reply_of}
@@ -163,17 +168,7 @@ due_opening world size producers event owing = record {
   may_lack_memory = may_lack_memory event owing;
 }
 
--- ---- any request
-
--- what a request is owed; the handing in of a policy, where it declares the same as the one that the world was opened over (own)
-abbrev pub owed_to : Joined → Request → Due
-owed_to world (request.Step queue step) = due_step world queue step (ring_of world queue)
-owed_to world (request.Take queue) = due_take world queue (ring_of world queue)
-owed_to world (request.OpenQueue client agent size producers) =
-    due_opening world size producers (OpenQueue client agent (asked_size size producers)) (due world.core (OpenQueue client agent (asked_size size producers)))
-owed_to world (request.Call call) = due_event world (event_of call) (due world.core (event_of call))
-owed_to world (request.Query query) = due_query world query
-owed_to world (request.Reload policy) = due_event world (Reload policy.rows) (due world.core (Reload policy.rows))
+-- ---- policies that are handed in
 
 -- a request got what it is owed; or memory was wanted and not to be had, and all is as before (own)
 abbrev pub Meets : Joined → Due → Reply → Joined → Type 0
@@ -181,20 +176,37 @@ Meets old owed reply new =
     ((reply ≡ owed.reply) × (new ≡ owed.after))
     ⊎ ((owed.may_lack_memory ≡ true) × (reply ≡ Err (refusal.Core why.OutOfMemory)) × (new ≡ old))
 
--- a policy that is handed in declares the same clients and objects; of any other request there is nothing to say (own)
-abbrev pub DeclaresTheSame : Joined → Request → Type 0
-DeclaresTheSame world (request.Step queue step) = ⊤
-DeclaresTheSame world (request.Take queue) = ⊤
-DeclaresTheSame world (request.OpenQueue client agent size producers) = ⊤
-DeclaresTheSame world (request.Call call) = ⊤
-DeclaresTheSame world (request.Query query) = ⊤
-DeclaresTheSame world (request.Reload policy) = DeclaresAs (beginning world.core).policy policy
+-- a policy that declares the same clients and objects as the one that the world was opened over got what its rows are owed; any other was
+-- refused before all else (own)
+abbrev pub Reloads : Joined → Declared → Reply → Joined → Type 0
+Reloads old policy reply new =
+    (DeclaresAs (beginning old.core).policy policy × Meets old (due_event old (Reload policy.rows) (due old.core (Reload policy.rows))) reply new)
+    ⊎ ((DeclaresAs (beginning old.core).policy policy → ⊥) × (reply ≡ Err (refusal.Core why.OtherObjects)) × (new ≡ old))
 
--- a request got what it is owed, if need be; a policy that declares other clients or objects is refused before all else (own)
+-- ---- rotations
+
+-- the reply to a rotation that came to this
+abbrev pub rotated_reply : Result Handed cores.Refusal → Reply
+rotated_reply (Ok part) = Ok (answer.Rotated part)
+rotated_reply (Err why) = Err (refusal.Core why)
+
+-- the core's audit was handed out, or that was refused; no ring tells of it. Which part it is, is told by what it says of grants, so it is
+-- no function of the history (own)
+abbrev pub RotatesTo : Joined → Reply → Joined → Type 0
+RotatesTo old reply new = (made : Result Handed cores.Refusal) × (reply ≡ rotated_reply made) × Rotates old.core made new.core × (new.rings ≡ old.rings)
+
+-- ---- any request
+
+-- a request was served: it got what it is owed, if need be (own)
 abbrev pub IsServed : Joined → Request → Reply → Joined → Type 0
-IsServed old asked reply new =
-    (DeclaresTheSame old asked × Meets old (owed_to old asked) reply new)
-    ⊎ ((DeclaresTheSame old asked → ⊥) × (reply ≡ Err (refusal.Core why.OtherObjects)) × (new ≡ old))
+IsServed old (request.Step queue step) reply new = Meets old (due_step old queue step (ring_of old queue)) reply new
+IsServed old (request.Take queue) reply new = Meets old (due_take old queue (ring_of old queue)) reply new
+IsServed old (request.OpenQueue client agent size producers) reply new =
+    Meets old (due_opening old size producers (OpenQueue client agent (asked_size size producers)) (due old.core (OpenQueue client agent (asked_size size producers)))) reply new
+IsServed old (request.Call call) reply new = Meets old (due_event old (event_of call) (due old.core (event_of call))) reply new
+IsServed old (request.Query query) reply new = Meets old (due_query old query) reply new
+IsServed old (request.Reload policy) reply new = Reloads old policy reply new
+IsServed old request.Rotate reply new = RotatesTo old reply new
 
 -- these replies answer these requests in turn, and lead from one world to the other (own)
 abbrev pub AreReplies : Joined → List Request → List Reply → Joined → Type 0
@@ -202,3 +214,13 @@ AreReplies old [] [] new = new ≡ old
 AreReplies old (asked ∷ requests) (reply ∷ replies) new = (mid : Joined) × IsServed old asked reply mid × AreReplies mid requests replies new
 AreReplies old [] (reply ∷ replies) new = ⊥
 AreReplies old (asked ∷ requests) [] new = ⊥
+
+-- the entries that a reply hands out: those of its part (own)
+abbrev pub handed : Reply → List Entry
+handed (Ok (answer.Rotated part)) = part.entries
+handed (Ok _) = []
+handed (Err why) = []
+
+-- those that replies hand out, in order (own)
+abbrev pub handed_out : List Reply → List Entry
+handed_out replies = flat_map handed replies

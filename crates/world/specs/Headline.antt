@@ -1,5 +1,5 @@
 -- The headline: what holds after any list of requests, in any interleaving.
-use Rattle.std.specs.Prelude.{◌≡◌, ◌⊎◌, ℕ, ℤ, true, false, List, [], ◌∷◌, length, map, Some, Ok, Err, All}
+use Rattle.std.specs.Prelude.{◌≡◌, ◌⊎◌, ℕ, ℤ, true, false, List, [], ◌∷◌, ◌++◌, length, map, Some, Ok, Err, All}
 use Rattle.aql_packet.specs.declared.ids.Address.{Address}
 use Rattle.aql_packet.specs.declared.ids.AgentHandle.{AgentHandle}
 use Rattle.aql_packet.specs.declared.ids.ClientId.{ClientId}
@@ -33,10 +33,12 @@ use Rattle.core_model.specs.declared.outcome.Polled.TheVariants as polled
 use Rattle.core_model.specs.declared.outcome.Taken.TheVariants as taken
 use Rattle.core_model.specs.declared.outcome.Worked.TheVariants as worked
 use Rattle.core_model.specs.declared.refusal.Refusal.TheVariants as refusal
-use Rattle.core_model.specs.History.{beginning, Start}
+use Rattle.core_model.specs.History.{beginning, opening_state, Start}
+use Rattle.core_model.specs.States.{state_after}
 use Rattle.core_model.specs.Grants.{in_force}
 use Rattle.core_model.specs.Memory.{memory_from, signals}
-use Rattle.core_model.specs.Queues.{Opening, openings}
+use Rattle.core_model.specs.Queues.{openings}
+use Rattle.core_model.specs.declared.origin.Opening.{Opening}
 use Rattle.core_model.specs.Flight.{in_flight, progress}
 use Rattle.core_model.specs.Holds.{own_rights}
 use Rattle.core_model.specs.View.{GivenAtLaunch, given_at_launch}
@@ -149,18 +151,20 @@ pub record CallsWithoutTheirRightAreDenied (start : Start) (entries : List Entry
   pub test : (client : ClientId) (signal : SignalHandle) (condition : Condition) (value : ℤ) → knows_client (rules_of start.policy) client ≡ true
       → in_force start entries client (object.Signal signal) right.Wait ≡ false → query_answer start entries (query.TestSignal client signal condition value) ≡ Err (refusal.Denied right.Wait)
 
--- the headline, of a world (own)
-pub record Headline (world : Joined) : Type 0 where
-  -- the history is legal, from an opening on
-  pub legal : IsWhole (beginning world.core) world.core.entries
-  pub launches : EachLaunchWasGranted (beginning world.core) world.core.entries
-  pub denials : EachDenialNamesItsRule (beginning world.core) world.core.entries
-  pub faults : EachFaultReleasesAlone world.core.entries
-  pub writes : EachWriteWasGranted (beginning world.core) world.core.entries
-  pub changes : EachChangeWasGranted (beginning world.core) world.core.entries
-  pub group_reads : EachGroupReadWasGranted (beginning world.core) world.core.entries
-  pub group_means : EachGroupCameToItsMeaning (beginning world.core) world.core.entries
-  pub group_depends : GroupsDependOnWhatTheyRead (beginning world.core)
+-- the headline, of a world whose history is the rest of a whole one, which begins at an opening over this policy, and of which these entries
+-- come before: what was handed out (own)
+pub record Headline (policy : Declared) (prior : List Entry) (world : Joined) : Type 0 where
+  -- the whole history is legal, from the opening on, and the world's own begins from the state behind the entries before
+  pub legal : IsWhole (opening_state policy world.core.kernels) (prior ++ world.core.entries)
+  pub start_is : beginning world.core ≡ state_after (opening_state policy world.core.kernels) prior
+  pub launches : EachLaunchWasGranted (opening_state policy world.core.kernels) (prior ++ world.core.entries)
+  pub denials : EachDenialNamesItsRule (opening_state policy world.core.kernels) (prior ++ world.core.entries)
+  pub faults : EachFaultReleasesAlone (prior ++ world.core.entries)
+  pub writes : EachWriteWasGranted (opening_state policy world.core.kernels) (prior ++ world.core.entries)
+  pub changes : EachChangeWasGranted (opening_state policy world.core.kernels) (prior ++ world.core.entries)
+  pub group_reads : EachGroupReadWasGranted (opening_state policy world.core.kernels) (prior ++ world.core.entries)
+  pub group_means : EachGroupCameToItsMeaning (opening_state policy world.core.kernels) (prior ++ world.core.entries)
+  pub group_depends : GroupsDependOnWhatTheyRead (opening_state policy world.core.kernels)
   pub reads : EachReadIsGranted (beginning world.core) world.core.entries
   pub looks : EachLookIsGranted (beginning world.core) world.core.entries
   pub tests : EachTestIsGranted (beginning world.core) world.core.entries
@@ -169,6 +173,6 @@ pub record Headline (world : Joined) : Type 0 where
   pub denied : CallsWithoutTheirRightAreDenied (beginning world.core) world.core.entries
   -- each queue that was opened has a ring, of the size that was asked for
   pub ring_count : length world.rings ≡ length (openings (beginning world.core) world.core.entries)
-  pub ring_sizes : map (λ ring. ring.size) world.rings ≡ sizes world.core.entries
+  pub ring_sizes : map (λ ring. ring.size) world.rings ≡ sizes (prior ++ world.core.entries)
   -- what was launched and denied of each queue is a beginning of what was published in its ring, whole, each once, in the order of ids
-  pub in_step : (queue : QueueId) (ring : Machine) → ring_of world queue ≡ Some ring → IsInStep world.core world.core.entries queue ring
+  pub in_step : (queue : QueueId) (ring : Machine) → ring_of world queue ≡ Some ring → IsInStep world.core (prior ++ world.core.entries) queue ring

@@ -5,9 +5,11 @@ use Rattle.aql_packet.specs.declared.ids.QueueId.{QueueId}
 use Rattle.core_model.specs.declared.event.Event.{Event}
 use Rattle.core_model.specs.declared.event.Event.TheVariants.{OpenQueue, Take}
 use Rattle.core_model.specs.declared.entry.Entry.{Entry}
-use Rattle.core_model.specs.History.{beginning, History}
+use Rattle.core_model.specs.History.{beginning, History, opening_state}
+use Rattle.core_model.specs.States.{state_after}
 use Rattle.core_model.specs.Queues.{next_id, openings}
-use Rattle.core_model.specs.Legal.{IsLegal}
+use Rattle.core_model.specs.Legal.{IsWhole}
+use Rattle.policy.specs.Policy.{Declared}
 use Rattle.ring_core.specs.Words.{packet_of}
 use Rattle.ring_core.specs.Tickets.{is_published}
 use Rattle.ring_core.specs.Machine.{Machine, read_index}
@@ -61,14 +63,18 @@ abbrev pub Stands : History → List Entry → QueueId → Option Machine → Ty
 Stands core all queue None = IsUntouched core all queue
 Stands core all queue (Some ring) = IsRing ring × IsInStep core all queue ring
 
--- the entries of a whole history that leads to the start of a legal one, and its own since (own)
-abbrev pub whole_of : (core : History) → IsLegal (beginning core) core.entries → List Entry
-whole_of core legal = legal.prior ++ core.entries
-
--- the world between any two steps; what rings and history share is said of the whole history (own)
-pub record IsJoined (world : Joined) : Type 0 where
-  pub legal : IsLegal (beginning world.core) world.core.entries
+-- the world between any two steps: its history is the rest of a whole one, which begins at an opening over this policy, and of which these
+-- entries come before; what rings and history share is said of the whole (own)
+pub record IsJoinedBehind (first : Declared) (prior : List Entry) (world : Joined) : Type 0 where
+  pub start_is : beginning world.core ≡ state_after (opening_state first world.core.kernels) prior
+  pub whole : IsWhole (opening_state first world.core.kernels) (prior ++ world.core.entries)
   -- a ring for each opening, of its size
   pub count : length world.rings ≡ length (openings (beginning world.core) world.core.entries)
-  pub sizes : map (λ ring. ring.size) world.rings ≡ sizes (whole_of world.core legal)
-  pub each : (queue : QueueId) → Stands world.core (whole_of world.core legal) queue (ring_of world queue)
+  pub sizes : map (λ ring. ring.size) world.rings ≡ sizes (prior ++ world.core.entries)
+  pub each : (queue : QueueId) → Stands world.core (prior ++ world.core.entries) queue (ring_of world queue)
+
+-- it is so, over some policy and behind some entries (own)
+pub record IsJoined (world : Joined) : Type 0 where
+  pub first : Declared
+  pub prior : List Entry
+  pub behind : IsJoinedBehind first prior world

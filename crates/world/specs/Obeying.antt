@@ -14,6 +14,8 @@ use Rattle.core_model.specs.declared.outcome.Taken.TheVariants as taken
 use Rattle.core_model.specs.declared.refusal.Refusal as cores
 use Rattle.core_model.specs.declared.refusal.Refusal.TheVariants as why
 use Rattle.core_model.specs.History.{History}
+use Rattle.core_model.specs.History.{Part as Handed}
+use Rattle.core_model.specs.Rotation.{Rotates}
 use Rattle.policy.specs.Results.{map_ok}
 use Rattle.core_model.specs.Legal.{MeetsOrLacks, due, may_lack_memory}
 use Rattle.core_model.specs.Queries.{AnswerOrRefusal}
@@ -28,7 +30,7 @@ use Rattle.world.specs.declared.reply.Answer.TheVariants as answer
 use Rattle.world.specs.declared.reply.Refusal.TheVariants as refusal
 use Rattle.world.specs.declared.queue_ring.Next.{Next}
 use Rattle.world.specs.Calls.{event_of}
-use Rattle.world.specs.Dues.{Reply, asked_size, of_core, taking}
+use Rattle.world.specs.Dues.{Reply, asked_size, of_core, rotated_reply, taking}
 use Rattle.world.specs.Making.{MakesAt, with_queue_ring}
 
 -- a queue has a ring
@@ -105,6 +107,10 @@ Opens client agent size producers core old reply core' new =
 abbrev pub Asks : Asked → History → Reply → History → Type 0
 Asks wanted core reply core' = (replied : AnswerOrRefusal) × cores_law.IsServed core wanted replied core' × (reply ≡ of_core replied)
 
+-- the core's audit was handed out, and told so
+abbrev pub HandsOut : History → Reply → History → Type 0
+HandsOut core reply core' = (made : Result Handed cores.Refusal) × Rotates core made core' × (reply ≡ rotated_reply made)
+
 -- any request
 abbrev pub Obeys : Request → History → List QueueRing → Reply → History → List QueueRing → Type 0
 Obeys (request.Step queue step) core old reply core' new = MakesAt (numbered old queue.0) queue step old reply new × (core' ≡ core)
@@ -113,3 +119,4 @@ Obeys (request.OpenQueue client agent size producers) core old reply core' new =
 Obeys (request.Call call) core old reply core' new = Asks (asked.Event (event_of call)) core reply core' × (new ≡ old)
 Obeys (request.Query query) core old reply core' new = Asks (asked.Query query) core reply core' × (new ≡ old)
 Obeys (request.Reload policy) core old reply core' new = Asks (asked.Reload policy) core reply core' × (new ≡ old)
+Obeys request.Rotate core old reply core' new = HandsOut core reply core' × (new ≡ old)

@@ -1,13 +1,14 @@
 //! The headline, as a law of all lists of requests.
 
 ghost use Rattle.std.specs.Prelude.{◌≡◌, ℕ, List, Err};
+ghost use Rattle.policy.specs.Policy.{Declared, region_lengths};
+ghost use Rattle.core_model.specs.declared.entry.Entry.{Entry};
 ghost use Rattle.kernel_check.specs.Programs.{Program};
 ghost use Rattle.world.specs.declared.reply.Refusal.{Refusal};
 ghost use Rattle.world.specs.declared.request.Request.{Request};
-ghost use Rattle.world.specs.Dues.{AreReplies, IsServed, Reply};
-ghost use Rattle.core_model.specs.History.{beginning};
+ghost use Rattle.world.specs.Dues.{AreReplies, IsServed, Reply, handed_out};
 ghost use Rattle.world.specs.Headline.{Headline, IsBegun};
-ghost use Rattle.world.specs.InStep.{IsJoined};
+ghost use Rattle.world.specs.InStep.{IsJoinedBehind};
 ghost use Rattle.world.specs.States.{Joined};
 
 use core_model::{
@@ -24,17 +25,18 @@ use policy::{Kind, Policy};
 /// is one that a packet or a call of that client asked for and a grant in force allowed, at launch for a
 /// packet; each denial changes nothing and names the packet and the first rule that failed; a group that
 /// faults leaves nothing; and what was launched or denied of each queue is a beginning of what was published in
-/// its ring, whole, each once, in order.
+/// its ring, whole, each once, in order. The history is that of all parts that replies handed out, in order, and
+/// then of the audit.
 pub fn the_headline(policy: &Policy)
     ensures { (kernels : List Program) (capacity : ℕ) (requests : List Request) (replies : List Reply) (opened world : Joined) →
-        IsBegun opened policy.now kernels capacity → AreReplies opened requests replies world → Headline world }
+        IsBegun opened policy.now kernels capacity → AreReplies opened requests replies world → Headline policy.now (handed_out replies) world }
 {
     headline_of(policy);
 }
 
-// The headline holds of each world in step whose history begins at an opening over a policy.
+// The headline holds of each world in step over a policy with the same regions.
 pub(crate) fn headline_of(policy: &Policy)
-    ensures { (world : Joined) → (beginning world.core).policy ≡ policy.now → (beginning world.core).before ≡ 0 → IsJoined world → Headline world }
+    ensures { (first : Declared) (prior : List Entry) (world : Joined) → region_lengths first ≡ region_lengths policy.now → IsJoinedBehind first prior world → Headline first prior world }
 {
     policy.object_count(Kind::Region);
     each_launch_was_granted();

@@ -1,7 +1,7 @@
 //! What the world answers.
 
 use aql_packet::PacketId;
-use core_model::Taken;
+use core_model::{Part, Taken};
 use ring_core::Seen;
 
 /// What a request that isn't refused is answered.
@@ -15,6 +15,8 @@ pub enum Answer {
     Taken { packet: PacketId, taken: Taken },
     /// What the core answers.
     Core(core_model::Answer),
+    /// The audit so far, with what it began from and what it ends in.
+    Rotated(Part),
 }
 
 /// Why a request was refused. After every refusal all is as before.

@@ -83,6 +83,8 @@ pub enum Request {
     Query(Query),
     /// An administrator hands in a policy, whose rows on rights are to be in force from then on.
     Reload(Policy),
+    /// The audit so far is to be handed out, as a part, and another begun.
+    Rotate,
 }
 
 impl Call {

@@ -8,7 +8,7 @@ ghost use Rattle.aql_packet.specs.Ring.{is_ring_size};
 ghost use Rattle.ring_core.specs.Machine.{is_producer_count, opened};
 ghost use Rattle.world.specs.declared.reply.Answer.TheVariants as answer;
 ghost use Rattle.world.specs.Dues.{asked_size};
-ghost use Rattle.world.specs.Obeying.{Asks, IsNext, MayOpen, Obeys, Opens, TakesAt};
+ghost use Rattle.world.specs.Obeying.{Asks, HandsOut, IsNext, MayOpen, Obeys, Opens, TakesAt};
 
 use crate::bytes::bytes_of;
 use crate::queue_ring::{Next, QueueRing};
@@ -59,6 +59,17 @@ pub(crate) fn obey(
         Request::Call(call) => ask(alloc, core, core_model::Request::Event(call.into_event())),
         Request::Query(query) => ask(alloc, core, core_model::Request::Query(query)),
         Request::Reload(policy) => ask(alloc, core, core_model::Request::Reload(policy)),
+        Request::Rotate => rotate(alloc, core),
+    }
+}
+
+// Has the core hand out its audit.
+fn rotate(alloc: Global, core: &mut AccessCore) -> Reply
+    ensures { HandsOut core.old.history result core.new.history }
+{
+    match core.rotate(alloc) {
+        Ok(part) => Ok(Answer::Rotated(part)),
+        Err(why) => Err(Refusal::Core(why)),
     }
 }
 

@@ -1,13 +1,14 @@
 //! The core with the ring of each queue, served request by request.
 
-ghost use Rattle.std.specs.Prelude.{◌≡◌, ◌≤◌, [], IfOk, OnErr, length};
+ghost use Rattle.std.specs.Prelude.{◌≡◌, ◌≤◌, List, [], IfOk, OnErr, length};
+ghost use Rattle.policy.specs.Policy.{Declared};
+ghost use Rattle.core_model.specs.declared.entry.Entry.{Entry};
 ghost use Rattle.world.specs.Dues.{AreReplies, IsServed};
 ghost use Rattle.world.specs.Headline.{Headline};
 ghost use Rattle.world.specs.InStep.{IsJoined};
 ghost use Rattle.world.specs.Starting.{Begins};
 ghost use Rattle.std.specs.Option.{option_copied};
 ghost use Rattle.world.specs.States.{ring_of, slots_of};
-ghost use Rattle.core_model.specs.History.{beginning};
 
 use crate::laws::headline_of;
 use crate::queue_ring::QueueRing;
@@ -42,16 +43,13 @@ impl Model for World {
 
     ghost Value = { Joined };
 
-    ghost use Rattle.std.specs.Prelude.{◌≡◌};
-    ghost use Rattle.core_model.specs.History.{beginning};
     ghost use Rattle.world.specs.InStep.{IsJoined};
     ghost use Rattle.world.specs.Making.{AreDecided, rings_of};
 
     ghost view = { λ world. joined world.core.history (rings_of world.rings.items) };
 
-    // The rings and the history are in step, and the history begins at an opening.
-    ghost invariant = { λ world. IsJoined (joined world.core.history (rings_of world.rings.items)) × AreDecided world.core.history world.rings.items
-        × ((beginning world.core.history).before ≡ 0) };
+    // The rings and the history are in step.
+    ghost invariant = { λ world. IsJoined (joined world.core.history (rings_of world.rings.items)) × AreDecided world.core.history world.rings.items };
 }
 
 impl World {
@@ -74,7 +72,7 @@ impl World {
 
     /// The policy that it was opened over.
     pub fn policy(&self) -> &Policy
-        ensures { result.now ≡ (beginning self.now.core).policy }
+        ensures { result.now ≡ self.now.core.origin.policy }
     {
         self.core.policy()
     }
@@ -108,7 +106,7 @@ impl World {
 
     /// Does nothing but say to callers what holds of each world, at any moment: the headline, as `the_headline` tells it.
     pub fn headline(&self)
-        ensures { Headline self.now }
+        ensures { (first : Declared) × (prior : List Entry) × Headline first prior self.now }
     {
         let _ = &self.rings;
         headline_of(self.core.policy());

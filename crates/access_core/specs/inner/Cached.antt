@@ -10,8 +10,9 @@ use Rattle.policy.specs.Policy.{numbered, rules_of, region_lengths}
 use Rattle.regions.specs.Memory.{byte_at, lengths_of, lies_in_region}
 use Rattle.sequences.specs.Room.{Roomy}
 use Rattle.core_model.specs.declared.entry.Entry.{Entry}
-use Rattle.core_model.specs.declared.limits.TheConstants.{MOST_ENTRIES, QUEUES}
-use Rattle.core_model.specs.History.{History, Origin, Start, begin, beginning, opening_origin}
+use Rattle.core_model.specs.declared.limits.TheConstants.{MOST_BEFORE, MOST_ENTRIES, QUEUES}
+use Rattle.core_model.specs.History.{History, Start, begin, beginning}
+use Rattle.core_model.specs.declared.origin.Origin.{Origin}
 use Rattle.core_model.specs.Grants.{in_force}
 use Rattle.core_model.specs.Policies.{policy_at}
 use Rattle.core_model.specs.Memory.{memory_at, signals}
@@ -35,7 +36,7 @@ use Rattle.access_core.specs.inner.LiesInRegions.{lies_in_regions}
 
 -- what the history begins from, as data, and the answers that it gives
 abbrev pub origin_of : Inside → Origin
-origin_of a = opening_origin a.policy
+origin_of a = a.start
 
 abbrev pub start_of : Inside → Start
 start_of a = begin (map program_of a.kernels.items) (origin_of a)
@@ -89,8 +90,8 @@ pub record IsCached (a : Inside) : Type 0 where
   pub entries : All (λ kernel. has_entry kernel ≡ true) a.kernels.items
   pub segments : a.segments.items ≡ map segments_of (map program_of a.kernels.items)
   -- the regions' lengths, and each byte in them
-  pub lengths : lengths_of a.memory ≡ region_lengths a.policy
-  pub memory : (x : ℕ) → lies_in_region (region_lengths a.policy) x ≡ true → byte_at a.memory x ≡ Some (memory_at (start_of a) a.audit.items x)
+  pub lengths : lengths_of a.memory ≡ region_lengths a.start.policy
+  pub memory : (x : ℕ) → lies_in_region (region_lengths a.start.policy) x ≡ true → byte_at a.memory x ≡ Some (memory_at (start_of a) a.audit.items x)
   -- the signals' values
   pub values : a.signals ≡ signals (start_of a) a.audit.items
   -- the queues
@@ -100,10 +101,12 @@ pub record IsCached (a : Inside) : Type 0 where
   pub few_queues : length a.queues.items ≤ QUEUES
   -- how many packets are in flight, each with all its ranges within regions
   pub flying : a.flying ≡ length (flight (start_of a) a.audit.items)
-  pub within : All (λ f. lies_in_regions (region_lengths a.policy) f.packet ≡ true) (flight (start_of a) a.audit.items)
+  pub within : All (λ f. lies_in_regions (region_lengths a.start.policy) f.packet ≡ true) (flight (start_of a) a.audit.items)
   -- room for an entry of each packet in flight, and memory for as many entries as there may be
   pub room : length a.audit.items + a.flying ≤ a.capacity
   pub places : a.capacity ≡ length a.audit.items + a.audit.room
   pub few : a.capacity ≤ MOST_ENTRIES
+  -- no more entries came before than may
+  pub before : a.start.before ≤ MOST_BEFORE
   -- the audit is a legal history
   pub legal : IsLegal (start_of a) a.audit.items

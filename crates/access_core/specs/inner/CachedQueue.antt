@@ -7,7 +7,8 @@ use Rattle.core_model.specs.declared.entry.Entry.{Entry}
 use Rattle.core_model.specs.declared.flight.InFlight.{InFlight}
 use Rattle.core_model.specs.declared.limits.TheConstants.{SLOTS}
 use Rattle.core_model.specs.History.{beginning, Start, History}
-use Rattle.core_model.specs.Queues.{Opening, next_id, errors, is_stopped, owner}
+use Rattle.core_model.specs.Queues.{next_id, errors, is_stopped, owner}
+use Rattle.core_model.specs.declared.origin.Opening.{Opening}
 use Rattle.core_model.specs.Flight.{flight_of, progress}
 use Rattle.packet_processor.specs.declared.places.Place.{Place}
 use Rattle.access_core.specs.declared.queue.Queue.{Queue}

@@ -8,7 +8,8 @@ use Rattle.core_model.specs.declared.outcome.Outcome.TheVariants as outcome
 use Rattle.core_model.specs.declared.outcome.Taken.TheVariants.{Launched, Denied, Waiting}
 use Rattle.core_model.specs.History.{beginning, History}
 use Rattle.policy.specs.Policy.{region_lengths}
-use Rattle.core_model.specs.Queues.{Opening, owner, is_down}
+use Rattle.core_model.specs.Queues.{owner, is_down}
+use Rattle.core_model.specs.declared.origin.Opening.{Opening}
 use Rattle.core_model.specs.Flight.{flight_of}
 use Rattle.core_model.specs.Owed.{answers, enters, error_without_place}
 use Rattle.core_model.specs.Legal.{due}

@@ -12,7 +12,8 @@ use Rattle.core_model.specs.declared.refusal.Refusal.{Refusal}
 use Rattle.core_model.specs.History.{beginning, History}
 use Rattle.aql_packet.specs.declared.packet.Packet.TheVariants as packet
 use Rattle.core_model.specs.LaunchRules.{has_sizes}
-use Rattle.core_model.specs.Queues.{Opening, owner}
+use Rattle.core_model.specs.Queues.{owner}
+use Rattle.core_model.specs.declared.origin.Opening.{Opening}
 use Rattle.core_model.specs.Flight.{in_flight, progress}
 use Rattle.policy.specs.Policy.{region_lengths}
 use Rattle.core_model.specs.Memory.{byte_after, signals}

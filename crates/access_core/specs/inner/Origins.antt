@@ -4,14 +4,14 @@ use Rattle.std.specs.List.{filter_map}
 use Rattle.aql_packet.specs.declared.ids.PacketId.{PacketId}
 use Rattle.aql_packet.specs.declared.ids.QueueId.{QueueId}
 use Rattle.policy.specs.Policy.{numbered}
-use Rattle.core_model.specs.History.{Origin, PacketOrigin, QueueOrigin}
-use Rattle.grants.specs.Ledger.{rules_in}
+use Rattle.core_model.specs.declared.origin.Origin.{Origin}
+use Rattle.core_model.specs.declared.origin.PacketOrigin.{PacketOrigin}
+use Rattle.core_model.specs.declared.origin.QueueOrigin.{QueueOrigin}
 use Rattle.packet_processor.specs.Queueing.{is_place_of}
 use Rattle.packet_processor.specs.declared.places.Place.{Place}
 use Rattle.access_core.specs.declared.access.AccessCore.TheInside.{Inside}
 use Rattle.access_core.specs.declared.argument_blocks.ArgumentBlock.{ArgumentBlock}
 use Rattle.access_core.specs.declared.queue.Queue.{Queue}
-use Rattle.access_core.specs.inner.Cached.{origin_of}
 use Rattle.access_core.specs.inner.CachedQueue.{cached_opening}
 
 -- of a queue: its opening, next id and errors, and whether it was stopped
@@ -24,21 +24,25 @@ sought_in None id = None
 sought_in (Some q) id = find (is_place_of id) q.places
 
 -- of a packet in flight: what its argument block has, and its place in its queue
-abbrev pub packet_origin : List Queue → ArgumentBlock → Option PacketOrigin
-packet_origin queues block = option_map (λ place. record {
+abbrev pub told_origin : ArgumentBlock → Place → PacketOrigin
+told_origin block place = record {
   flying = record { queue = block.queue; id = block.packet; packet = place.packet };
   progress = place.progress;
   arguments = block.bytes;
-}) (sought_in (numbered queues block.queue.0) block.packet)
+}
+
+-- the same, of a packet that is in flight
+abbrev pub packet_origin : List Queue → ArgumentBlock → Option PacketOrigin
+packet_origin queues block = option_map (told_origin block) (sought_in (numbered queues block.queue.0) block.packet)
 
 -- all of it; argument blocks lie in the order of launches
 abbrev pub origin_behind : Inside → Origin
 origin_behind a = record {
-  policy = record a.policy { rows = (rules_in a.grants).rows };
+  policy = a.start.policy;
   grants = a.grants;
   memory = a.memory;
   signals = a.signals;
   queues = map queue_origin a.queues.items;
   packets = filter_map (packet_origin a.queues.items) a.blocks.items;
-  before = (origin_of a).before + length a.audit.items;
+  before = a.start.before + length a.audit.items;
 }

@@ -18,7 +18,8 @@ use Rattle.executor.specs.declared.fault.RunFault.TheVariants.{Fault, OutOfMemor
 use Rattle.packet_processor.specs.declared.places.Place.{Place}
 use Rattle.regions.specs.Memory.{region_length}
 pub use Rattle.core_model.specs.Owed.{fault_owed}
-use Rattle.core_model.specs.Queues.{Opening, owner}
+use Rattle.core_model.specs.Queues.{owner}
+use Rattle.core_model.specs.declared.origin.Opening.{Opening}
 
 -- a packet in flight, of a queue of this client
 pub record IsHolder (history : History) (queue : QueueId) (id : PacketId) (client : ClientId) : Type 0 where
@@ -53,7 +54,7 @@ abbrev pub next_result : History → QueueId → PacketId → Place → KernelDi
 next_result history queue id place d =
     group_result (group_input (beginning history) history.entries (given_at_launch (beginning history) history.entries queue id) d place.progress.groups_run)
 
--- a group leaves nothing for this: an item broke the rule; where memory was wanted nothing is said
+-- a group leaves nothing for this: an item broke a rule; where memory was wanted nothing is said
 abbrev pub FaultsAs : GroupResult → RunFault → Type 0
 FaultsAs came OutOfMemory = Unit {0}
-FaultsAs came (Fault f) = came ≡ broke_rule f.item f.line f.rule
+FaultsAs came (Fault f) = came ≡ broke_rule f

@@ -101,7 +101,7 @@ impl AccessCore {
     ) -> Worked
         requires found { IsInPlace self.old.history queue packet place }
         requires owed { owed (beginning self.old.history) self.old.history.entries (Event.RunNext queue packet)
-            ≡ fault_owed (group_error queue packet group fault.item fault.line fault.rule) }
+            ≡ fault_owed (group_error queue packet group fault) }
         ensures met { Meets (Event.RunNext queue packet) self.old.history self.new.history (Ok (Outcome.Worked result)) }
         ensures places { self.new.places ≡ self.old.places }
     {
@@ -113,6 +113,7 @@ impl AccessCore {
                 group,
                 item: fault.item,
                 line: fault.line,
+                address: fault.address,
             }),
         };
         self.flying -= fail_packet(&mut self.queues, queue, packet, error);

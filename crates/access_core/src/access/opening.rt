@@ -4,16 +4,17 @@ ghost use Rattle.std.specs.Prelude.{◌≡◌, ◌+◌, ◌<◌, All, IfOk, IfSo
 ghost use Rattle.policy.specs.Policy.{initial_values, region_lengths, row_of};
 ghost use Rattle.aql_packet.specs.Memory.{are_region_lengths};
 ghost use Rattle.regions.specs.Memory.{zeros};
+ghost use Rattle.core_model.specs.History.{IsOpeningOrigin};
 ghost use Rattle.core_model.specs.Kernels.{segments_of};
 ghost use Rattle.core_model.specs.Legal.{IsOpening};
-ghost use Rattle.access_core.specs.inner.Untouched.{IsUntouched};
+ghost use Rattle.access_core.specs.inner.Untouched.{IsFirst, IsUntouched};
 ghost use Rattle.access_core.specs.Opening.{first_missing, has_entry, is_capacity, open_fault, Opens, program_of};
 
 use crate::access::{AccessCore, OpenFault};
 use crate::argument_blocks::ArgumentBlocks;
 use crate::kernel::Kernel;
 use aql_packet::{KernelObject, RegionHandle, SignalHandle};
-use core_model::{Entry, KernelSegments, MOST_ENTRIES};
+use core_model::{Entry, KernelSegments, MOST_ENTRIES, Origin};
 use grants::Grants;
 use policy::{Kind, Policy};
 use regions::Regions;
@@ -21,13 +22,22 @@ use sequences::{Reserved, Sequence};
 use signals::Signals;
 use std::alloc::{AllocError, Global};
 
+/// What calls change beside queues and packets.
+#[derive(Drop)]
+struct State {
+    grants: Grants,
+    memory: Regions,
+    signals: Signals,
+}
+
 /// What a core gets memory for when it is opened.
 #[derive(Drop)]
 struct Parts {
     segments: Vec<KernelSegments>,
-    grants: Grants,
-    memory: Regions,
-    signals: Signals,
+    /// What its history begins from.
+    start: State,
+    /// The same, to be changed.
+    state: State,
     audit: Reserved<Entry>,
 }
 
@@ -94,16 +104,28 @@ fn get_parts(
     ensures { IfOk result (IsUntouched policy.now kernels.now capacity) }
 {
     let segments = segments(alloc, kernels)?;
-    let grants = Grants::new(alloc, policy)?;
-    let memory = zeroed(alloc, policy)?;
-    let signals = begun(alloc, policy)?;
+    let start = first_state(alloc, policy)?;
+    let state = first_state(alloc, policy)?;
     let audit = Reserved::with_room(alloc, capacity)?;
     Ok(Parts {
         segments,
+        start,
+        state,
+        audit,
+    })
+}
+
+// What is in force, in memory and in signals where nothing has happened.
+fn first_state(alloc: Global, policy: &Policy) -> Result<State, AllocError>
+    ensures { IfOk result (IsFirst policy.now) }
+{
+    let grants = Grants::new(alloc, policy)?;
+    let memory = zeroed(alloc, policy)?;
+    let signals = begun(alloc, policy)?;
+    Ok(State {
         grants,
         memory,
         signals,
-        audit,
     })
 }
 
@@ -198,6 +220,27 @@ fn value_behind(policy: &Policy, before: usize) -> i64
         .unwrap_or(0)
 }
 
+// What a history begins from in which nothing has happened.
+fn opening_origin(alloc: Global, policy: Policy, state: State) -> Origin
+    requires { IsFirst policy state }
+    ensures { IsOpeningOrigin policy result }
+{
+    let State {
+        grants,
+        memory,
+        signals,
+    } = state;
+    Origin {
+        policy,
+        grants,
+        memory,
+        signals,
+        queues: Sequence::new(alloc),
+        packets: Sequence::new(alloc),
+        before: 0,
+    }
+}
+
 // A core in which nothing has happened.
 #[tactic(none)]
 fn blank(
@@ -214,13 +257,17 @@ fn blank(
 {
     let Parts {
         segments,
+        start,
+        state,
+        audit,
+    } = parts;
+    let State {
         grants,
         memory,
         signals,
-        audit,
-    } = parts;
+    } = state;
     AccessCore {
-        policy,
+        start: opening_origin(alloc, policy, start),
         kernels,
         segments,
         grants,

@@ -2,7 +2,7 @@
 
 ghost use Rattle.core_model.specs.History.{beginning};
 ghost use Rattle.std.specs.Prelude.{◌≡◌, ◌≤◌, length};
-ghost use Rattle.core_model.specs.declared.limits.TheConstants.{MOST_ENTRIES};
+ghost use Rattle.core_model.specs.declared.limits.TheConstants.{MOST_BEFORE, MOST_ENTRIES};
 ghost use Rattle.core_model.specs.declared.answer.Answer.TheVariants as answer;
 ghost use Rattle.policy.specs.Results.{map_ok};
 ghost use Rattle.core_model.specs.Legal.{IsLegal, Replies, RepliesOrLacks};
@@ -13,7 +13,7 @@ ghost use Rattle.core_model.specs.Room.{HasRoom};
 use crate::access::AccessCore;
 use crate::tables::TableSizes;
 use aql_packet::{Address, ClientId, QueueId, SignalHandle};
-use core_model::{Entry, MOST_HOST_BYTES, Query, Range, Refusal};
+use core_model::{Entry, MOST_HOST_BYTES, Origin, Query, Range, Refusal};
 use policy::{Object, Policy, PolicyRows, Right, Rights};
 use queue_error::QueueError;
 use regions::region_of;
@@ -23,11 +23,18 @@ use std::alloc::Global;
 
 impl AccessCore {
     /// The policy that the core was opened with: all that it declares stays, and its rows on rights are in
-    /// force until others are.
+    /// force until others are (`rows`).
     pub fn policy(&self) -> &Policy
-        ensures { result.now ≡ (beginning self.now.history).policy }
+        ensures { result.now ≡ self.now.history.origin.policy }
     {
-        &self.policy
+        &self.start.policy
+    }
+
+    /// What its history began from: the opening, or where the last rotation left off.
+    pub fn start(&self) -> &Origin
+        ensures { result.now ≡ self.now.history.origin }
+    {
+        &self.start
     }
 
     /// The rows on rights in force: those of the policy that was put in force last.
@@ -52,6 +59,14 @@ impl AccessCore {
         ensures legal { IsLegal (beginning self.now.history) self.now.history.entries }
     {
         self.audit.as_slice()
+    }
+
+    /// How many entries came before the audit's, 2^62 at the most: rotations handed them out.
+    pub fn entries_before(&self) -> u64
+        ensures before { result ≡ (beginning self.now.history).before }
+        ensures few { result ≤ MOST_BEFORE }
+    {
+        self.start.before
     }
 
     /// How long these tables of the core are, as its history says: calls that take no memory make none of them

@@ -1,6 +1,8 @@
 //! Another policy is put in force.
 
-ghost use Rattle.std.specs.Prelude.{◌≡◌, IfErr, IfOk, Ok, []};
+ghost use Rattle.std.specs.Prelude.{◌≡◌, ◌↔◌, IfErr, IfOk, Ok, [], true};
+ghost use Rattle.policy.specs.Declaring.{DeclaresAs};
+ghost use Rattle.core_model.specs.History.{beginning};
 ghost use Rattle.core_model.specs.Legal.{Meets, MeetsOrLacks, ReloadMeetsOrLacks, as_accepted, due};
 ghost use Rattle.core_model.specs.Owed.{enters, refuses};
 ghost use Rattle.access_core.specs.Reloads.{as_reloaded};
@@ -21,7 +23,7 @@ impl AccessCore {
         ensures back { IfErr result (λ refused. refused.1 ≡ policy) }
         ensures places { self.new.places ≡ self.old.places }
     {
-        if !self.policy.declares_as(&policy) {
+        if !self.declares_as(&policy) {
             return Err((Refusal::OtherObjects, policy));
         }
         if let Err(why) = self.may_reload(policy.rows()) {
@@ -35,6 +37,13 @@ impl AccessCore {
             }
             Err(_) => Err((Refusal::OutOfMemory, policy)),
         }
+    }
+
+    // Whether a policy declares the same clients and objects as the core's.
+    fn declares_as(&self, policy: &Policy) -> bool
+        ensures { result ≡ true ↔ DeclaresAs (beginning self.now.history).policy policy.now }
+    {
+        self.start.policy.declares_as(policy)
     }
 
     // The same by the rows alone.

@@ -169,7 +169,10 @@ impl AccessCore {
             Query::List { client } => self.list(alloc, client).map(Answer::Listing),
             Query::Errors { queue } => self.errors(alloc, queue).map(Answer::Errors),
             Query::Audit => match copy_entries(alloc, self.audit()) {
-                Ok(entries) => Ok(Answer::Audit(entries)),
+                Ok(entries) => Ok(Answer::Audit {
+                    before: self.entries_before(),
+                    entries,
+                }),
                 Err(_) => Err(Refusal::OutOfMemory),
             },
         }

@@ -1,5 +1,5 @@
 -- What is got and what is there before rings are settled.
-use Rattle.std.specs.Prelude.{◌≡◌, ℕ, ◌≤◌, List, [], ◌∷◌, length, All, Option, Some, None, ⊤, vec_capacity}
+use Rattle.std.specs.Prelude.{◌≡◌, ◌≤◌, List, [], ◌∷◌, length, All, Option, Some, None, ⊤, vec_capacity}
 use Rattle.atomic_table.specs.Seated.{TableId}
 use Rattle.client_threads.specs.declared.client_end.ClientEnd.{ClientEnd}
 use Rattle.client_threads.specs.declared.settling.QueueRoom.{QueueRoom}

@@ -16,4 +16,4 @@ ItemRuns a p n from before to now = (earlier rest : List Standing) → AreStoppe
 abbrev pub ItemFails : Surroundings → Program → ℕ → Standing → Contents → RunFault → Type 0
 ItemFails a p n from before fault.OutOfMemory = Unit {0}
 ItemFails a p n from before (fault.Fault f) = (earlier rest : List Standing) → AreStopped earlier → length earlier ≡ n
-    → Leads a p (running (earlier ++ from ∷ rest) before) (faulted f.item f.line f.rule)
+    → Leads a p (running (earlier ++ from ∷ rest) before) (faulted f)

@@ -1,5 +1,5 @@
 -- How what the code answers of a turn stands to what the turn is (own).
-use Rattle.std.specs.Prelude.{◌≡◌, ℕ, ◌+◌, ◌≤◌}
+use Rattle.std.specs.Prelude.{◌≡◌, ℕ, ◌+◌, ◌≤◌, Some}
 use Rattle.executor.specs.Items.{Contents}
 use Rattle.executor.specs.Meaning.{Act, goes_on, arrives, ends, broke}
 use Rattle.executor.specs.declared.act.Outcome.{Outcome}
@@ -14,7 +14,7 @@ abbrev pub Acts : Act → Outcome → Item → Contents → Type 0
 Acts a outcome.GoesOn item m = a ≡ goes_on item m
 Acts a outcome.Arrived item m = a ≡ arrives item m
 Acts a outcome.Ended item m = a ≡ ends m
-Acts a (outcome.Broke rule) item m = a ≡ broke rule
+Acts a (outcome.Broke rule address) item m = a ≡ broke rule (Some address)
 Acts a outcome.OutOfMemory item m = Unit {0}
 
 -- a step reads no byte behind the argument block

@@ -9,4 +9,6 @@ returns-clause-only c =
     λ bytes others. one_spelling c.bytes_of.result bytes c.args.packet.now lays others
 
 pub returns-clause-back : goal.returns-clause-back
-returns-clause-back c = laid_is_decoded c.bytes_of.result c.args.packet.now c.bytes_of.ensures
+returns-clause-back c =
+    let lays : PacketOf c.bytes_of.result c.args.packet.now = search rules in
+    laid_is_decoded c.bytes_of.result c.args.packet.now lays

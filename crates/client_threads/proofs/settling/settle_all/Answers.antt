@@ -7,11 +7,11 @@ use Rattle.client_threads.specs.inner.Rooms.{AreRoomy}
 use Rattle.client_threads.proofs.Readiness.{all_ready}
 use Rattle.client_threads.proofs.settling.settle_all.Goals as goal
 
-pub settle_rings-rings-requires-clause-ready : goal.settle_rings-rings-requires-clause-ready
-settle_rings-rings-requires-clause-ready c =
+pub settle_in_rooms-requires-clause-ready : goal.settle_in_rooms-requires-clause-ready
+settle_in_rooms-requires-clause-ready c =
     let rings = map seen c.broker.inside.desks.items in
     let ends : All (λ end. IsEndOf rings end) c.args.ends.items = rw (← c.broker.view_is) at c.requires.ends in
     let lanes : All (λ lane. IsLaneOf rings lane) c.args.lanes.items = rw (← c.broker.view_is) at c.requires.lanes in
-    let roomy : AreRoomy c.args.ends.items rings c.in-Ok.rooms.items = search rules in
+    let roomy : AreRoomy c.args.ends.items rings c.in-Ok.rooms.0.items = search rules in
     let complete : has_all_passes rings c.args.ends.items c.args.lanes.items ≡ true = search rules in
-    all_ready rings c.args.ends.items c.args.lanes.items ends lanes c.in-Ok.rooms.items c.broker.invariant roomy complete
+    all_ready rings c.args.ends.items c.args.lanes.items ends lanes c.in-Ok.rooms.0.items c.broker.invariant roomy complete

@@ -1,4 +1,4 @@
-use Rattle.std.proofs.Common.{◌≡◌, ◌+◌, ◌≤◌, length, map, vec_capacity}
+use Rattle.std.proofs.Common.{◌+◌, ◌≤◌, length, map, vec_capacity}
 use Rattle.client_threads.specs.Desks.{seen}
 use Rattle.client_threads.proofs.Readiness.{Going}
 use Rattle.client_threads.proofs.settling.settle_rings.Given as goal

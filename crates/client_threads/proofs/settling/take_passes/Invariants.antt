@@ -1,4 +1,4 @@
-use Rattle.std.proofs.Common.{◌≡◌, ◌-◌, ◌≤◌, length, vec_capacity}
+use Rattle.std.proofs.Common.{◌-◌, ◌≤◌, length, vec_capacity}
 use Rattle.client_threads.specs.Settling.{passes_of}
 use Rattle.client_threads.proofs.Ends.{Moving}
 use Rattle.client_threads.proofs.settling.take_passes.Given as goal

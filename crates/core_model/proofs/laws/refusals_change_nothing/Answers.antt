@@ -1,4 +1,4 @@
-use Rattle.core_model.proofs.Served.{refused-stays}
+use Rattle.core_model.proofs.ServedLaw.{refused-stays}
 use Rattle.core_model.proofs.laws.refusals_change_nothing.Goals as goal
 
 pub returns : goal.returns

@@ -1,4 +1,4 @@
-use Rattle.core_model.proofs.Served.{event-goes_on, list-goes_on}
+use Rattle.core_model.proofs.ServedLaw.{event-goes_on, list-goes_on}
 use Rattle.core_model.proofs.States.{legal-beginning}
 use Rattle.core_model.proofs.laws.serving_keeps_a_history_legal.Goals as goal
 

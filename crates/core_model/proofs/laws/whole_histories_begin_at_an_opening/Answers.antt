@@ -2,7 +2,7 @@ use Rattle.core_model.proofs.States.{begin-opening, legal-whole, whole-legal}
 use Rattle.core_model.proofs.laws.whole_histories_begin_at_an_opening.Goals as goal
 
 pub returns-clause-opened : goal.returns-clause-opened
-returns-clause-opened c = λ policy kernels. begin-opening policy kernels
+returns-clause-opened c = begin-opening
 
 pub returns-clause-legal : goal.returns-clause-legal
 returns-clause-legal c = λ start entries whole. whole-legal start entries whole

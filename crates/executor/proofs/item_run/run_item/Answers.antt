@@ -1,4 +1,4 @@
-use Rattle.std.proofs.Common.{◌≡◌, ◌<◌, ◌≤◌, ◌∷◌, ◌++◌, length, arith, subst, sym, ap}
+use Rattle.std.proofs.Common.{◌≡◌, None, Some, ◌<◌, ◌≤◌, ◌∷◌, ◌++◌, length, arith, subst, sym, ap}
 use Rattle.executor.specs.Group.{ready, running, context_of_item}
 use Rattle.executor.specs.Items.{Surroundings}
 use Rattle.executor.specs.inner.Held.{contents, surroundings}
@@ -63,13 +63,13 @@ returns-in-Broke-clause-err c =
     let m = contents c.turns.memory in
     let from = ready c.args.stopped.now.item c.args.stopped.now.executed in
     let few : c.turns.executed < 65536 = omega arith in
-    let is : turn (context_of_item a n) p.steps i c.turns.executed m ≡ broke c.in-Broke.rule =
-    subst (λ (s : Surroundings). turn s p.steps i c.turns.executed m ≡ broke c.in-Broke.rule)
+    let is : turn (context_of_item a n) p.steps i c.turns.executed m ≡ broke c.in-Broke.rule (Some c.in-Broke.address) =
+    subst (λ (s : Surroundings). turn s p.steps i c.turns.executed m ≡ broke c.in-Broke.rule (Some c.in-Broke.address))
     c.context_of_item-own.ensures.surroundings (c.in-Broke.ensures c.turns.executed few) in
     subst (λ (f : RunFault). ItemFails a p n from (contents c.args.memory.now) f) (sym c.fault.ensures)
     (λ earlier rest are many.
     breaks_now a p n earlier rest are many (running (earlier ++ from ∷ rest) (contents c.args.memory.now)) i c.turns.executed m
-    (c.turns.invariant earlier rest are many) c.in-Broke.rule is)
+    (c.turns.invariant earlier rest are many) c.in-Broke.rule (Some c.in-Broke.address) is)
 
 pub returns-then-item-steps-clause-err : goal.returns-then-item-steps-clause-err
 returns-then-item-steps-clause-err c =
@@ -84,7 +84,7 @@ returns-then-item-steps-clause-err c =
     subst (λ (f : RunFault). ItemFails a p n from (contents c.args.memory.now) f) (sym c.fault-then-item-steps.ensures)
     (λ earlier rest are many.
     breaks_now a p n earlier rest are many (running (earlier ++ from ∷ rest) (contents c.args.memory.now)) i c.turns.executed m
-    (c.turns.invariant earlier rest are many) A5 (spent (context_of_item a n) p.steps i c.turns.executed m there all))
+    (c.turns.invariant earlier rest are many) A5 None (spent (context_of_item a n) p.steps i c.turns.executed m there all))
 
 pub returns-clause-ok : goal.returns-clause-ok
 returns-clause-ok c =

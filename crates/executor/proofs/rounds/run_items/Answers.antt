@@ -1,4 +1,4 @@
-use Rattle.std.proofs.Common.{◌≡◌, ◌+◌, ◌-◌, ◌<◌, ◌++◌, ◌∙◌, List, length, slice_index, ap, arith, subst, sym}
+use Rattle.std.proofs.Common.{◌≡◌, None, ◌+◌, ◌-◌, ◌<◌, ◌++◌, ◌∙◌, List, length, slice_index, ap, arith, subst, sym}
 use Rattle.std.specs.List.{list_all}
 use Rattle.std.specs.Prelude.{drop, map, take}
 use Rattle.queue_error.specs.declared.rule.Rule.TheVariants.{A6}
@@ -28,7 +28,7 @@ returns-then-not-wait_together-clause-err c =
     let w = c.in-Some.waiter in
     let xs = c.rounds.stopped.items in
     subst (λ (f : RunFault). Fails a p begin f) (sym c.fault.ensures)
-    (subst (λ k. Leads a p begin (faulted w.number (slice_index p.lines k) A6)) (sym c.saturating_sub-barrier.ensures)
+    (subst (λ k. Leads a p begin (faulted (record { item = w.number; line = slice_index p.lines k; rule = A6; address = None }))) (sym c.saturating_sub-barrier.ensures)
     (is_apart a p c.args.count (contents c.args.memory.now) gone xs (contents c.rounds.memory) c.rounds.invariant.1 w
     (ap (λ (ys : List StoppedItem). least_waiting 0 (after gone (map standing ys))) (sym c.as_slice.ensures.value) ∙ (sym c.least_waiting.ensures ∙ c.in-Some.is))
     (ap (λ (ys : List StoppedItem). list_all (waits_before w.next) (after gone (map standing ys))) (sym c.as_slice-in-rounds.ensures.value)

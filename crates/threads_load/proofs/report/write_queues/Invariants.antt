@@ -7,5 +7,5 @@ use Rattle.threads_load.proofs.report.write_queues.Given as goal
 abbrev pub invariant-loop-planned : goal.invariant-loop-planned
 invariant-loop-planned l =
     (l.number ≡ l.planned-index + 1)
-    × (string_bytes l.out ++ text_of_queues (beginning l.core.history) l.core.history.entries l.number (drop l.planned-index l.plan)
-    ≡ string_bytes l.fn.out ++ text_of_queues (beginning l.core.history) l.core.history.entries 1 l.plan)
+    × (string_bytes l.out ++ text_of_queues (beginning l.core.history) (l.handed_out ++ l.core.history.entries) l.number (drop l.planned-index l.plan)
+    ≡ string_bytes l.fn.out ++ text_of_queues (beginning l.core.history) (l.handed_out ++ l.core.history.entries) 1 l.plan)

@@ -1,34 +1,34 @@
--- The laws of legal histories, for a history that begins at an opening.
+-- The laws of whole histories, for the one that a world's goes on from.
 use Rattle.std.proofs.Common.{◌≡◌, List, ◌++◌, true, ap, inl, inr, subst, ◌∙◌}
 use Rattle.aql_packet.specs.Memory.{are_region_lengths}
-use Rattle.policy.specs.Policy.{Declared, region_lengths}
+use Rattle.policy.specs.Policy.{region_lengths}
 use Rattle.core_model.specs.Queues.{error_of}
 use Rattle.core_model.specs.declared.entry.Entry.{Entry}
 use Rattle.core_model.specs.Legal.{IsWhole}
-use Rattle.core_model.proofs.States.{legal-whole, none-prior}
-use Rattle.world.specs.InStep.{IsInStep, Stands, sizes, whole_of}
+use Rattle.world.specs.InStep.{Stands}
 use Rattle.world.proofs.laws.headline_of.Goals as goal
-use Rattle.core_model.specs.History.{beginning}
+use Rattle.core_model.specs.History.{Start, beginning, opening_state}
 
 pub returns : goal.returns
-returns c = λ world over none h.
-    let legal : IsWhole (beginning world.core) world.core.entries = legal-whole (beginning world.core) world.core.entries h.legal none in
-    let all : whole_of world.core h.legal ≡ world.core.entries = ap (λ (prior : List Entry). prior ++ world.core.entries) (none-prior (beginning world.core) world.core.entries h.legal none) in
-    let lengths : are_region_lengths (region_lengths (beginning world.core).policy) ≡ true =
-    ap (λ (policy : Declared). are_region_lengths (region_lengths policy)) over ∙ c.object_count.ensures.limits.regions in
+returns c = λ first prior world over h.
+    let start : Start = opening_state first world.core.kernels in
+    let all : List Entry = prior ++ world.core.entries in
+    let legal : IsWhole start all = h.whole in
+    let lengths : are_region_lengths (region_lengths first) ≡ true = ap are_region_lengths over ∙ c.object_count.ensures.limits.regions in
     record {
       legal = legal;
-      launches = λ before queue id bytes effects place. c.each_launch_was_granted.ensures (beginning world.core) world.core.entries before queue id bytes effects legal place;
-      denials = λ before queue id bytes error effects place. c.denials_name_the_first_rule.ensures (beginning world.core) world.core.entries before queue id bytes error effects legal place;
+      start_is = h.start_is;
+      launches = λ before queue id bytes effects place. c.each_launch_was_granted.ensures start all before queue id bytes effects legal place;
+      denials = λ before queue id bytes error effects place. c.denials_name_the_first_rule.ensures start all before queue id bytes error effects legal place;
       faults = λ before entry error place told. (
-        c.faults_release_alone.ensures.names (beginning world.core) world.core.entries before entry error legal place (elim told [ inl e ↦ ap error_of e | inr e ↦ ap error_of e ]),
-        c.faults_release_alone.ensures.releases (beginning world.core) world.core.entries before entry error legal place told,
+        c.faults_release_alone.ensures.names start all before entry error legal place (elim told [ inl e ↦ ap error_of e | inr e ↦ ap error_of e ]),
+        c.faults_release_alone.ensures.releases start all before entry error legal place told,
       );
-      writes = λ before entry place. c.each_write_was_granted.ensures (beginning world.core) world.core.entries before entry lengths legal place;
-      changes = λ before entry place. c.each_signal_change_was_granted.ensures (beginning world.core) world.core.entries before entry legal place;
-      group_reads = λ before queue id told effects place. c.each_read_of_a_group_was_granted.ensures.reads (beginning world.core) world.core.entries before queue id told effects legal place;
-      group_means = λ before queue id told effects flying place found. c.each_read_of_a_group_was_granted.ensures.means (beginning world.core) world.core.entries before queue id told effects flying legal place found;
-      group_depends = λ one other queue id own p so_far same. c.groups_depend_on_what_they_read.ensures (beginning world.core) one other queue id own p so_far same;
+      writes = λ before entry place. c.each_write_was_granted.ensures start all before entry lengths legal place;
+      changes = λ before entry place. c.each_signal_change_was_granted.ensures start all before entry legal place;
+      group_reads = λ before queue id told effects place. c.each_read_of_a_group_was_granted.ensures.reads start all before queue id told effects legal place;
+      group_means = λ before queue id told effects flying place found. c.each_read_of_a_group_was_granted.ensures.means start all before queue id told effects flying legal place found;
+      group_depends = λ one other queue id own p so_far same. c.groups_depend_on_what_they_read.ensures start one other queue id own p so_far same;
       reads = λ client address size told is. c.each_read_of_a_client_is_granted.ensures (beginning world.core) world.core.entries client address size told is;
       looks = λ client signal told is. c.each_look_at_a_signal_is_granted.ensures.load (beginning world.core) world.core.entries client signal told is;
       tests = λ client signal condition value told is. c.each_look_at_a_signal_is_granted.ensures.test (beginning world.core) world.core.entries client signal condition value told is;
@@ -42,6 +42,6 @@ returns c = λ world over none h.
         test = λ client signal condition value known none. c.calls_without_their_right_are_denied.ensures.test (beginning world.core) world.core.entries client signal condition value known none;
       };
       ring_count = h.count;
-      ring_sizes = h.sizes ∙ ap sizes all;
-      in_step = λ queue ring found. subst (λ (es : List Entry). IsInStep world.core es queue ring) all (subst (Stands world.core (whole_of world.core h.legal) queue) found (h.each queue)).1;
+      ring_sizes = h.sizes;
+      in_step = λ queue ring found. (subst (Stands world.core all queue) found (h.each queue)).1;
     }

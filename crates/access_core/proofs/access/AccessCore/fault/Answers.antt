@@ -31,7 +31,7 @@ overflow_sub-self c =
 pub invariant_of-self : goal.invariant_of-self
 invariant_of-self c =
     let a = c.self.inside in
-    let error = group_error c.args.queue c.args.packet c.args.group c.args.fault.item c.args.fault.line c.args.fault.rule in
+    let error = group_error c.args.queue c.args.packet c.args.group c.args.fault in
     let is = fault-releases c.args.queue c.args.packet error in
     let found = place-inside a _ (seen c.self.view_is) c.args.queue c.args.packet c.args.place c.requires.found in
     let at = is-open a c.self.invariant c.args.queue found.opening found.owner_is in
@@ -51,7 +51,7 @@ invariant_of-self c =
 
 pub returns-clause-met : goal.returns-clause-met
 returns-clause-met c =
-    let error = group_error c.args.queue c.args.packet c.args.group c.args.fault.item c.args.fault.line c.args.fault.rule in
+    let error = group_error c.args.queue c.args.packet c.args.group c.args.fault in
     met-entry c.self.inside _ (seen c.self.view_is) (RunNext c.args.queue c.args.packet) (outcome.Worked (Faulted error)) (effect.Release c.args.queue c.args.packet ∷ []) _
     (fault-due c.self.inside c.self.invariant _ (seen c.self.view_is) c.args.queue c.args.packet c.args.place c.requires.found error c.requires.owed)
     (rw c.one-effects.ensures at c.enter.ensures.items)
@@ -59,7 +59,7 @@ returns-clause-met c =
 pub returns-clause-places : goal.returns-clause-places
 returns-clause-places c =
     let a = c.self.inside in
-    let error = group_error c.args.queue c.args.packet c.args.group c.args.fault.item c.args.fault.line c.args.fault.rule in
+    let error = group_error c.args.queue c.args.packet c.args.group c.args.fault in
     let found = place-inside a _ (seen c.self.view_is) c.args.queue c.args.packet c.args.place c.requires.found in
     let can = can-fail a c.self.invariant c.args.queue c.args.packet (is-open a c.self.invariant c.args.queue found.opening found.owner_is) found.flying found.found in
     places-kept a _ c.self.view_is c.fail_packet.new.queues c.release.new.self c.release-2.new.self c.enter.new.audit _ c.fail_packet.ensures.capacity

@@ -41,7 +41,7 @@ invariant_of-self-2 c =
     subst (λ h. owner (beginning h) h.entries c.args.queue ≡ Some (opening_of c.args.launching)) (sym (seen c.self.view_is)) c.requires.4 in
     let launches : launched_by (Take c.args.queue c.args.packet c.args.bytes.now) (outcome.Taken Launched) ≡ Some (record { queue = c.args.queue; id = c.args.packet; packet = p }) =
     ap (option_map (λ (x : Packet). record { queue = c.args.queue; id = c.args.packet; packet = x })) c.requires.1 in
-    let within : lies_in_regions (region_lengths a.policy) p ≡ true = subst (λ h. lies_in_regions (region_lengths (beginning h).policy) p ≡ true) (sym (seen c.self.view_is)) c.requires.2 in
+    let within : lies_in_regions (region_lengths a.start.policy) p ≡ true = subst (λ h. lies_in_regions (region_lengths (beginning h).policy) p ≡ true) (sym (seen c.self.view_is)) c.requires.2 in
     IsCached-more a _ (Take c.args.queue c.args.packet c.args.bytes.now) (outcome.Taken Launched) [] c.self.invariant
     (record {
       same = ((refl, refl, refl), refl);

@@ -36,7 +36,7 @@ pub lay_changes-requires : goal.lay_changes-requires
 lay_changes-requires c =
     let a = c.self.inside in
     rw (c.as_slice.ensures.value ∙ c.in_ok-changes.ensures, c.self.invariant.lengths)
-    (runs-within (region_lengths a.policy) c.args.runs
+    (runs-within (region_lengths a.start.policy) c.args.runs
     (subst (λ (h : History). All (λ (run : WrittenRange). is_within (region_lengths (beginning h).policy) run.address (length run.bytes) ≡ true) c.args.runs)
     (sym (seen c.self.view_is)) c.requires.written))
 

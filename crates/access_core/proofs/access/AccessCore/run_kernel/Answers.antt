@@ -36,11 +36,11 @@ fault-requires-clause-owed c =
     let group = c.args.place.progress.groups_run in
     let left : nat_le c.group_count-count.result group ≡ false = search rules in
     let ran : nat_le (group_count (packet.Kernel d)) group ≡ false = rw (← c.group_count-count.ensures) left in
-    let came : next_result h c.args.queue c.args.packet c.args.place d ≡ broke_rule c.in-Err-Fault.fault.item c.in-Err-Fault.fault.line c.in-Err-Fault.fault.rule =
+    let came : next_result h c.args.queue c.args.packet c.args.place d ≡ broke_rule c.in-Err-Fault.fault =
     subst (FaultsAs (next_result h c.args.queue c.args.packet c.args.place d)) c.in-Err-Fault.field-0-is c.in-Err-Fault.ensures.fault in
     kernel-owed h c.args.queue c.args.packet c.args.place c.requires.found d c.requires.packet_is false ran
     ∙ ap (group_owed c.args.queue c.args.packet d group) came
-    ∙ ap (λ (f : ItemFault). fault_owed (group_error c.args.queue c.args.packet group f.item f.line f.rule)) (sym c.in-Err-Fault.fault-is)
+    ∙ ap (λ (f : ItemFault). fault_owed (group_error c.args.queue c.args.packet group f)) (sym c.in-Err-Fault.fault-is)
 
 pub returns-in-Err-OutOfMemory-clause-met : goal.returns-in-Err-OutOfMemory-clause-met
 returns-in-Err-OutOfMemory-clause-met c =

@@ -1,4 +1,4 @@
-//! Packets that a lane served.
+//! Packets that were taken of a queue.
 
 use aql_packet::PacketId;
 

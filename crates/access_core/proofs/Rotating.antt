@@ -1,0 +1,85 @@
+-- What is kept beside an audit that is rotated: the fields stay, and tell the same of the state behind it.
+use Rattle.std.proofs.Common.{◌≡◌, ℕ, ◌+◌, ◌≤◌, List, [], length, map, sym, ◌∙◌, ap, subst, true, false, Some, arith}
+use Rattle.std.specs.Prelude.{All}
+use Rattle.std.specs.List.{filter_map}
+use Rattle.sequences.specs.Room.{Roomy}
+use Rattle.core_model.specs.declared.entry.Entry.{Entry}
+use Rattle.core_model.specs.declared.flight.InFlight.{InFlight}
+use Rattle.core_model.specs.declared.limits.TheConstants.{MOST_BEFORE}
+use Rattle.core_model.specs.History.{begin, effects_of}
+use Rattle.core_model.specs.declared.origin.Origin.{Origin}
+use Rattle.core_model.specs.Grants.{in_force}
+use Rattle.core_model.specs.Policies.{policy_at, rows_at}
+use Rattle.core_model.specs.Memory.{memory_at, signals}
+use Rattle.core_model.specs.Queues.{openings, next_id, errors, is_stopped}
+use Rattle.core_model.specs.Flight.{flight, progress}
+use Rattle.core_model.specs.Holds.{arguments, held}
+use Rattle.core_model.specs.Legal.{IsLegal}
+use Rattle.core_model.specs.Rotation.{lies_too_far}
+use Rattle.core_model.specs.States.{state_after}
+use Rattle.core_model.proofs.States.{rotate-legal, same-begin}
+use Rattle.grants.specs.Ledger as ledger
+use Rattle.grants.specs.Ledger.{IsCopy, Ledger}
+use Rattle.access_core.specs.inner.Origins.{origin_behind, packet_origin, queue_origin}
+use Rattle.access_core.proofs.Rotated.{rotated}
+use Rattle.access_core.proofs.Terms.{AreBlocksOf, IsCached, Inside, Start, are_region_lengths, block_of, byte_at, cached_opening, cached_view, history_of, lies_in_region, lies_in_regions, ltb-false, numbered, program_of, queue_at}
+use Rattle.access_core.proofs.Terms.{region_lengths, rules_in, rules_of, start_of}
+
+module _ (a : Inside) (kept : IsCached a) where
+  -- copies of the fields give the answers of the state behind the audit
+  pub copied-behind : (o : Origin) → o.policy ≡ a.start.policy → IsCopy a.grants o.grants → o.memory ≡ a.memory → o.signals ≡ a.signals → o.queues ≡ map queue_origin a.queues.items
+      → o.packets ≡ filter_map (packet_origin a.queues.items) a.blocks.items → o.before ≡ a.start.before + length a.audit.items
+      → are_region_lengths (region_lengths a.start.policy) ≡ true → begin (map program_of a.kernels.items) o ≡ state_after (start_of a) a.audit.items
+  copied-behind o policy grants memory signals queues packets before fit =
+      same-begin (map program_of a.kernels.items) o (origin_behind a) (record {
+        policy = λ i. record (policy i) { rows = (rules_in (grants i)).rows };
+        granted = λ client on right. ap (λ (l : Ledger). ledger.in_force l client on right) grants;
+        held = λ queue id client on right. ap (λ (l : Ledger). ledger.holds l queue id client on right) grants;
+        memory = memory;
+        signals = signals;
+        queues = queues;
+        packets = packets;
+        before = before;
+      })
+      ∙ rotated a kept fit
+
+  -- and it has no more entries before it than may be
+  pub few-behind : (o : Origin) → lies_too_far (history_of a) ≡ false → begin (map program_of a.kernels.items) o ≡ state_after (start_of a) a.audit.items → o.before ≤ MOST_BEFORE
+  few-behind o near is =
+      let count : o.before ≡ a.start.before + length a.audit.items = ap (λ (now : Start). now.before) is in
+      omega (arith, count, ltb-false MOST_BEFORE (a.start.before + length a.audit.items) near)
+
+  -- with an origin that gives those answers, and an empty audit, the fields are again what the history says
+  pub IsCached-rotated : (next : Origin) (audit : Roomy Entry) → begin (map program_of a.kernels.items) next ≡ state_after (start_of a) a.audit.items → audit.items ≡ []
+      → audit.room ≡ a.capacity → next.before ≤ MOST_BEFORE → IsCached (record a { start = next; audit = audit })
+  unfolding rows_at in_force memory_at effects_of signals openings next_id errors is_stopped flight progress held arguments
+  IsCached-rotated next audit is empty room few =
+      let begun : Start = begin (map program_of a.kernels.items) next in
+      let here : (x : Start → List Entry → Type 0) → x (state_after (start_of a) a.audit.items) [] → x begun audit.items =
+      λ x has. subst (x begun) (sym empty) (subst (λ (now : Start). x now []) (sym is) has) in
+      let lengths : region_lengths next.policy ≡ region_lengths a.start.policy = ap (λ (now : Start). region_lengths now.policy) is in
+      let none : length audit.items ≡ 0 = ap length empty in
+      record {
+        granted = λ client on right. here (λ now es. ledger.in_force a.grants client on right ≡ in_force now es client on right) (kept.granted client on right);
+        rules = here (λ now es. rules_in a.grants ≡ rules_of (policy_at now es)) kept.rules;
+        held = λ queue id client on right. here (λ now es. ledger.holds a.grants queue id client on right ≡ held now es queue id client on right) (kept.held queue id client on right);
+        blocks_are = here (λ now es. AreBlocksOf (flight now es) a.blocks.items) kept.blocks_are;
+        arguments = λ queue id. here (λ now es. block_of a.blocks.items queue id ≡ arguments now es queue id) (kept.arguments queue id);
+        entries = kept.entries;
+        segments = kept.segments;
+        lengths = kept.lengths ∙ sym lengths;
+        memory = λ x lies. here (λ now es. byte_at a.memory x ≡ Some (memory_at now es x)) (kept.memory x (ap (λ ls. lies_in_region ls x) (sym lengths) ∙ lies));
+        values = here (λ now es. a.signals ≡ signals now es) kept.values;
+        openings = here (λ now es. map cached_opening a.queues.items ≡ openings now es) kept.openings;
+        queues = λ queue. here (λ now es. cached_view (numbered a.queues.items queue.0) ≡ queue_at now es queue) (kept.queues queue);
+        sound = kept.sound;
+        few_queues = kept.few_queues;
+        flying = here (λ now es. a.flying ≡ length (flight now es)) kept.flying;
+        within = here (λ now es. All (λ (f : InFlight). lies_in_regions (region_lengths next.policy) f.packet ≡ true) (flight now es))
+            (subst (λ ls. All (λ (f : InFlight). lies_in_regions ls f.packet ≡ true) (flight (start_of a) a.audit.items)) (sym lengths) kept.within);
+        room = let before = kept.room in omega (arith, none, before);
+        places = omega (arith, none, room);
+        few = kept.few;
+        before = few;
+        legal = here IsLegal (rotate-legal (start_of a) a.audit.items kept.legal);
+      }

@@ -1,0 +1,31 @@
+-- Copies of the fields give the answers of the state behind the audit.
+use Rattle.std.proofs.Common.{◌≡◌, ◌+◌, ◌∙◌, ℕ, map, sym, ap, subst, true}
+use Rattle.std.specs.List.{filter_map}
+use Rattle.core_model.specs.declared.origin.Origin.{Origin}
+use Rattle.core_model.specs.History.{History, begin, beginning}
+use Rattle.core_model.specs.States.{state_after}
+use Rattle.access_core.specs.inner.Origins.{packet_origin, queue_origin}
+use Rattle.access_core.proofs.Rotating.{copied-behind}
+use Rattle.access_core.proofs.Seen.{seen}
+use Rattle.access_core.proofs.Terms.{are_region_lengths, region_lengths}
+use Rattle.access_core.proofs.access.AccessCore.origin_behind.Goals as goal
+
+pub returns : goal.returns
+returns c =
+    let a = c.self.inside in
+    let o : Origin = record {
+      policy = c.in_ok-copy.field-0;
+      grants = c.in_ok-copy-2.field-0;
+      memory = c.in_ok-copy-3.field-0;
+      signals = c.in_ok-copy-4.field-0;
+      queues = c.in_ok-queue_origins.field-0;
+      packets = c.in_ok-packet_origins.field-0;
+      before = a.start.before + c.len.result;
+    } in
+    let fit : are_region_lengths (region_lengths a.start.policy) ≡ true =
+    subst (λ (h : History). are_region_lengths (region_lengths (beginning h).policy) ≡ true) (sym (seen c.self.view_is)) c.regions_fit.ensures in
+    subst (λ (h : History). begin h.kernels o ≡ state_after (beginning h) h.entries) (seen c.self.view_is)
+    (copied-behind a c.self.invariant o c.in_ok-copy.ensures c.in_ok-copy-2.ensures c.in_ok-copy-3.ensures c.in_ok-copy-4.ensures
+    (c.in_ok-queue_origins.ensures ∙ ap (map queue_origin) c.as_slice.ensures.value)
+    (c.in_ok-packet_origins.ensures ∙ (λ i. filter_map (packet_origin (c.as_slice-2.ensures.value i)) (c.as_slice-3.ensures i)))
+    (ap (λ (n : ℕ). a.start.before + n) c.len.ensures) fit)

@@ -1,0 +1,142 @@
+//! The audit is rotated: its entries so far are handed out, and the history goes on from the state behind them.
+
+ghost use Rattle.std.specs.Prelude.{◌≡◌, false, map, IfOk};
+ghost use Rattle.std.specs.List.{filter_map};
+ghost use Rattle.std.specs.Option.{option_copied};
+ghost use Rattle.policy.specs.Policy.{numbered};
+ghost use Rattle.core_model.specs.History.{begin, beginning};
+ghost use Rattle.core_model.specs.Rotation.{Rotates, lies_too_far};
+ghost use Rattle.core_model.specs.States.{state_after};
+ghost use Rattle.access_core.specs.inner.Origins.{packet_origin, queue_origin, sought_in, told_origin};
+
+use crate::access::AccessCore;
+use crate::access::lookups::queue_of;
+use crate::argument_blocks::ArgumentBlock;
+use crate::queue::Queue;
+use aql_packet::{PacketId, QueueId};
+use core_model::{
+    InFlight, MOST_BEFORE, Opening, Origin, PacketOrigin, Part, QueueOrigin, Refusal,
+};
+use packet_processor::Place;
+use sequences::{Reserved, Sequence};
+use std::alloc::{AllocError, Global};
+use std::mem::replace;
+
+impl AccessCore {
+    /// Hands out the history so far, as a part: what it began from, its entries, and the state behind them. From
+    /// that state it goes on, with an empty audit of the same capacity. No entry tells of it, numbers of entries
+    /// go on, and no packet, right or signal changes. Refused in this order: more than 2^62 entries would lie
+    /// before the new start; memory for the state, twice, and for the audit isn't to be had.
+    pub fn rotate(&mut self, alloc: Global) -> Result<Part, Refusal>
+        ensures rotated { Rotates self.old.history result self.new.history }
+        ensures places { self.new.places ≡ self.old.places }
+    {
+        if self.lies_too_far() {
+            return Err(Refusal::AuditFull);
+        }
+        let end = self.origin_behind(alloc)?;
+        let next = end.copy(alloc)?;
+        let empty = Reserved::with_room(alloc, self.capacity)?;
+        let start = replace(&mut self.start, next);
+        let entries = replace(&mut self.audit, empty);
+        Ok(Part::new(start, entries, end))
+    }
+
+    // Whether more entries would lie before the next start than may.
+    fn lies_too_far(&self) -> bool
+        ensures { result ≡ lies_too_far self.now.history }
+    {
+        self.start.before + self.audit.len() as u64 > MOST_BEFORE
+    }
+
+    // What the history goes on from behind the audit, as data.
+    fn origin_behind(&self, alloc: Global) -> Result<Origin, AllocError>
+        requires { lies_too_far self.now.history ≡ false }
+        ensures { IfOk result (λ origin.
+            (begin self.now.history.kernels origin ≡ state_after (beginning self.now.history) self.now.history.entries)) }
+    {
+        self.regions_fit();
+        Ok(Origin {
+            policy: self.start.policy.copy(alloc)?,
+            grants: self.grants.copy(alloc)?,
+            memory: self.memory.copy(alloc)?,
+            signals: self.signals.copy(alloc)?,
+            queues: queue_origins(alloc, self.queues.as_slice())?,
+            packets: packet_origins(alloc, self.queues.as_slice(), self.blocks.as_slice())?,
+            before: self.start.before + self.audit.len() as u64,
+        })
+    }
+}
+
+// What is kept of a queue, as data.
+fn queue_origin(alloc: Global, queue: &Queue) -> Result<QueueOrigin, AllocError>
+    ensures { IfOk result (λ origin. origin ≡ queue_origin queue.now) }
+{
+    let errors = Vec::from_slice(alloc, queue.errors.as_slice())?;
+    Ok(QueueOrigin {
+        opening: Opening {
+            client: queue.client,
+            agent: queue.agent,
+        },
+        next: queue.next,
+        stopped: queue.stopped,
+        errors: Sequence::from_vec(errors),
+    })
+}
+
+// What is kept of all queues.
+fn queue_origins(alloc: Global, queues: &[Queue]) -> Result<Sequence<QueueOrigin>, AllocError>
+    ensures { IfOk result (λ origins. origins ≡ map queue_origin queues.now) }
+{
+    let mut origins = Sequence::new(alloc);
+    for queue in queues {
+        origins.push(queue_origin(alloc, queue)?)?;
+    }
+    Ok(origins)
+}
+
+// The place of a packet in its queue, if it is in flight.
+fn place_in(queues: &[Queue], queue: QueueId, packet: PacketId) -> Option<&Place>
+    ensures { option_copied result ≡ sought_in (numbered queues.now queue.0) packet }
+{
+    match queue_of(queues, queue) {
+        Some(kept) => kept.places.get(packet),
+        None => None,
+    }
+}
+
+// What is kept of a packet in flight, as data, by its argument block and its place.
+fn packet_origin(
+    alloc: Global,
+    block: &ArgumentBlock,
+    place: &Place,
+) -> Result<PacketOrigin, AllocError>
+    ensures { IfOk result (λ origin. origin ≡ told_origin block.now place.now) }
+{
+    Ok(PacketOrigin {
+        flying: InFlight {
+            queue: block.queue,
+            id: block.packet,
+            packet: place.packet,
+        },
+        progress: place.progress,
+        arguments: block.bytes.copy(alloc)?,
+    })
+}
+
+// What is kept of all packets in flight, in the order of their launches, which is that of their argument blocks.
+fn packet_origins(
+    alloc: Global,
+    queues: &[Queue],
+    blocks: &[ArgumentBlock],
+) -> Result<Sequence<PacketOrigin>, AllocError>
+    ensures { IfOk result (λ origins. origins ≡ filter_map (packet_origin queues.now) blocks.now) }
+{
+    let mut origins = Sequence::new(alloc);
+    for block in blocks {
+        if let Some(place) = place_in(queues, block.queue, block.packet) {
+            origins.push(packet_origin(alloc, block, place)?)?;
+        }
+    }
+    Ok(origins)
+}

@@ -1,5 +1,0 @@
-use Rattle.client_threads.proofs.Differences.{Reached}
-use Rattle.client_threads.proofs.mismatch.first_difference.Given as goal
-
-abbrev pub invariant-loop-entry : goal.invariant-loop-entry
-invariant-loop-entry l = Reached l.entries l.queue.0 l.entry-index l.served l.left l.place

@@ -1,0 +1,178 @@
+//! What a history begins from, as data.
+
+ghost use Rattle.std.specs.Prelude.{◌≡◌, ◌↔◌, IfOk, true};
+ghost use Rattle.core_model.specs.History.{policy_in};
+ghost use Rattle.core_model.specs.Legal.{SameOrigin};
+
+use crate::flight::{InFlight, Progress};
+use aql_packet::{AgentHandle, ClientId};
+use grants::Grants;
+use policy::{Policy, PolicyRows};
+use queue_error::QueueError;
+use regions::Regions;
+use sequences::Sequence;
+use signals::Signals;
+use std::alloc::{AllocError, Global};
+
+/// A queue's opening.
+#[derive(Clone, Copy, Debug, PartialEq, Eq)]
+pub struct Opening {
+    /// Whose the queue is.
+    pub client: ClientId,
+    /// The agent that runs its packets.
+    pub agent: AgentHandle,
+}
+
+/// A queue, as a history begins with it.
+#[derive(Debug, Drop, PartialEq, Eq)]
+pub struct QueueOrigin {
+    pub opening: Opening,
+    /// The id of its next packet.
+    pub next: u64,
+    /// Whether it was stopped.
+    pub stopped: bool,
+    /// Its errors, in order.
+    pub errors: Sequence<QueueError>,
+}
+
+/// A packet in flight, as a history begins with it.
+#[derive(Debug, Drop, PartialEq, Eq)]
+pub struct PacketOrigin {
+    pub flying: InFlight,
+    /// How far it has come.
+    pub progress: Progress,
+    /// Its argument block, as it was at its launch.
+    pub arguments: Sequence<u8>,
+}
+
+/// What a history begins from. A rotation makes one of what the core keeps.
+#[derive(Drop)]
+pub struct Origin {
+    /// The policy that the core was opened with: what it declares stays.
+    pub policy: Policy,
+    /// What is in force, by which rows on rights, and what packets in flight hold.
+    pub grants: Grants,
+    /// The bytes of each region.
+    pub memory: Regions,
+    /// The values of the signals.
+    pub signals: Signals,
+    /// The queues, of which the first is queue 1.
+    pub queues: Sequence<QueueOrigin>,
+    /// The packets in flight, in the order of their launches.
+    pub packets: Sequence<PacketOrigin>,
+    /// How many entries came before.
+    pub before: u64,
+}
+
+impl QueueOrigin {
+    /// The same queue once more, with errors of its own.
+    pub fn copy(&self, alloc: Global) -> Result<QueueOrigin, AllocError>
+        ensures { IfOk result (λ copy. copy ≡ self.now) }
+    {
+        Ok(QueueOrigin {
+            opening: self.opening,
+            next: self.next,
+            stopped: self.stopped,
+            errors: self.errors.copy(alloc)?,
+        })
+    }
+}
+
+impl PacketOrigin {
+    /// The same packet once more, with arguments of its own.
+    pub fn copy(&self, alloc: Global) -> Result<PacketOrigin, AllocError>
+        ensures { IfOk result (λ copy. copy ≡ self.now) }
+    {
+        Ok(PacketOrigin {
+            flying: self.flying,
+            progress: self.progress,
+            arguments: self.arguments.copy(alloc)?,
+        })
+    }
+}
+
+impl Origin {
+    /// The same to begin from, in memory of its own.
+    pub fn copy(&self, alloc: Global) -> Result<Origin, AllocError>
+        ensures { IfOk result (λ copy. SameOrigin copy self.now) }
+    {
+        Ok(Origin {
+            policy: self.policy.copy(alloc)?,
+            grants: self.grants.copy(alloc)?,
+            memory: self.memory.copy(alloc)?,
+            signals: self.signals.copy(alloc)?,
+            queues: copy_queues(alloc, self.queues.as_slice())?,
+            packets: copy_packets(alloc, self.packets.as_slice())?,
+            before: self.before,
+        })
+    }
+
+    /// Whether another is the same to begin from: the same policy in force, the same in force and held, and all
+    /// else equal. Room for further holds, and the order in which holds came, don't count. It takes no memory.
+    pub fn is_same(&self, other: &Origin) -> bool
+        ensures { result ≡ true ↔ SameOrigin self.now other.now }
+    {
+        is_same_policy(self, other)
+            & self.grants.is_same(&other.grants)
+            & self.memory.is_same(&other.memory)
+            & self.signals.is_same(&other.signals)
+            & are_same_queues(self.queues.as_slice(), other.queues.as_slice())
+            & are_same_packets(self.packets.as_slice(), other.packets.as_slice())
+            & (self.before == other.before)
+    }
+}
+
+// Whether the same policy is in force: of one version, with the same declared, and with the same rows.
+fn is_same_policy(one: &Origin, other: &Origin) -> bool
+    ensures { result ≡ true ↔ policy_in one.now ≡ policy_in other.now }
+{
+    one.policy.declares_as(&other.policy)
+        & (one.policy.version() == other.policy.version())
+        & is_same_rows(one.grants.rows(), other.grants.rows())
+}
+
+// Whether rows on rights are the same, in the same order.
+fn is_same_rows(one: &PolicyRows, other: &PolicyRows) -> bool
+    ensures { result ≡ true ↔ one.now ≡ other.now }
+{
+    *one == *other
+}
+
+// Whether queues are the same.
+fn are_same_queues(queues: &[QueueOrigin], others: &[QueueOrigin]) -> bool
+    ensures { result ≡ true ↔ queues.now ≡ others.now }
+{
+    queues == others
+}
+
+// Whether packets are the same, in the same order, and have come as far.
+fn are_same_packets(packets: &[PacketOrigin], others: &[PacketOrigin]) -> bool
+    ensures { result ≡ true ↔ packets.now ≡ others.now }
+{
+    packets == others
+}
+
+// The same queues once more.
+fn copy_queues(alloc: Global, queues: &[QueueOrigin]) -> Result<Sequence<QueueOrigin>, AllocError>
+    ensures { IfOk result (λ copy. copy ≡ queues.now) }
+{
+    let mut copies = Sequence::new(alloc);
+    for queue in queues {
+        copies.push(queue.copy(alloc)?)?;
+    }
+    Ok(copies)
+}
+
+// The same packets once more.
+fn copy_packets(
+    alloc: Global,
+    packets: &[PacketOrigin],
+) -> Result<Sequence<PacketOrigin>, AllocError>
+    ensures { IfOk result (λ copy. copy ≡ packets.now) }
+{
+    let mut copies = Sequence::new(alloc);
+    for packet in packets {
+        copies.push(packet.copy(alloc)?)?;
+    }
+    Ok(copies)
+}
