@@ -6,7 +6,7 @@ use Rattle.core_model.specs.Policies.{policy_at}
 use Rattle.access_core.proofs.Calls.{due-by}
 use Rattle.access_core.proofs.HeldRights.{is_holder-history}
 use Rattle.access_core.proofs.Least.{passes, least-none, least-first}
-use Rattle.access_core.proofs.Terms.{ClientId, Grant, History, InFlight, Inside, IsCached, IsFirstTo, Object, PacketId, QueueId, Revoke, RevokeAnswers, Rights}
+use Rattle.access_core.proofs.Terms.{Call, ClientId, Grant, History, InFlight, Inside, IsCached, IsFirstTo, Object, PacketId, QueueId, Revoke, RevokeAnswers, Rights}
 use Rattle.access_core.proofs.Terms.{Rules, are_allowed, due, enters, flight, grant_due, history_of, holds_one_of, is_full}
 use Rattle.access_core.proofs.Terms.{is_holder, knows_object, knows_client, refusal_of, refuse_unless, refuses, rules_in, rules_of, start_of}
 use Rattle.policy.specs.Rules as rules_kept
@@ -27,7 +27,7 @@ module _ (a : Inside) (kept : IsCached a) (client : ClientId) (on : Object) (rig
   due-is = ap (λ (rules : Rules). due_of (knows_client rules client) (knows_object rules on) (rules_kept.are_allowed rules client on rights)) rules_is
 
   -- what grants say is due is what is owed
-  pub grant-refused : (r : Why) → Err r ≡ grant_due a.grants client on rights → owed (start_of a) a.audit.items (Grant client on rights) ≡ refuses (refusal_of r)
+  pub grant-refused : (r : Why) → Err r ≡ grant_due a.grants client on rights → owed (start_of a) a.audit.items (Call (Grant client on rights)) ≡ refuses (refusal_of r)
   unfolding owed
   grant-refused r due = by_tests (knows_client (rules_of (policy_at (start_of a) a.audit.items)) client) (knows_object (rules_of (policy_at (start_of a) a.audit.items)) on) (are_allowed (rules_of (policy_at (start_of a) a.audit.items)) client on rights) (due ∙ due-is)
     where
@@ -36,7 +36,7 @@ module _ (a : Inside) (kept : IsCached a) (client : ClientId) (on : Object) (rig
           ≡ refuses (refusal_of r)
       by_tests c o s h4 = grind arith
 
-  grant-owed : Ok tt ≡ grant_due a.grants client on rights → owed (start_of a) a.audit.items (Grant client on rights) ≡ enters outcome.Accepted []
+  grant-owed : Ok tt ≡ grant_due a.grants client on rights → owed (start_of a) a.audit.items (Call (Grant client on rights)) ≡ enters outcome.Accepted []
   unfolding owed
   grant-owed due = by_tests (knows_client (rules_of (policy_at (start_of a) a.audit.items)) client) (knows_object (rules_of (policy_at (start_of a) a.audit.items)) on) (are_allowed (rules_of (policy_at (start_of a) a.audit.items)) client on rights) (due ∙ due-is)
     where
@@ -47,8 +47,8 @@ module _ (a : Inside) (kept : IsCached a) (client : ClientId) (on : Object) (rig
 
   -- so it is due its entry, where there is room
   pub grant-due : (old : History) → history_of a ≡ old → Ok tt ≡ grant_due a.grants client on rights → (full : Bool) → is_full old ≡ full
-      → due old (Grant client on rights) ≡ (if full then refuses refusal.AuditFull else enters outcome.Accepted [])
-  grant-due old seen_as may full is = due-by a old seen_as (Grant client on rights) _ (grant-owed may) ∙ ap (λ b. if b then refuses refusal.AuditFull else enters outcome.Accepted []) is
+      → due old (Call (Grant client on rights)) ≡ (if full then refuses refusal.AuditFull else enters outcome.Accepted [])
+  grant-due old seen_as may full is = due-by a old seen_as (Call (Grant client on rights)) _ (grant-owed may) ∙ ap (λ b. if b then refuses refusal.AuditFull else enters outcome.Accepted []) is
 
   -- whether a packet in flight holds, by the history
   abbrev holding : InFlight → Bool
@@ -63,17 +63,17 @@ module _ (a : Inside) (kept : IsCached a) (client : ClientId) (on : Object) (rig
   first-test (Some first) is = (sym (same_test first.0 first.1) ∙ is.0, λ queue id passing. is.1 queue id (same_test queue id ∙ passing))
 
   -- a revocation that grants let pass is owed its entry
-  revoke-owed : RevokeAnswers a.grants client on rights (Ok tt) → owed (start_of a) a.audit.items (Revoke client on rights) ≡ enters outcome.Accepted []
+  revoke-owed : RevokeAnswers a.grants client on rights (Ok tt) → owed (start_of a) a.audit.items (Call (Revoke client on rights)) ≡ enters outcome.Accepted []
   unfolding owed
   revoke-owed answers = grind (arith, least-none holding (flight (start_of a) a.audit.items) (first-test None answers.2))
 
   pub revoke-due : (old : History) → history_of a ≡ old → RevokeAnswers a.grants client on rights (Ok tt) → (full : Bool) → is_full old ≡ full
-      → due old (Revoke client on rights) ≡ (if full then refuses refusal.AuditFull else enters outcome.Accepted [])
-  revoke-due old seen_as may full is = due-by a old seen_as (Revoke client on rights) _ (revoke-owed may)
+      → due old (Call (Revoke client on rights)) ≡ (if full then refuses refusal.AuditFull else enters outcome.Accepted [])
+  revoke-due old seen_as may full is = due-by a old seen_as (Call (Revoke client on rights)) _ (revoke-owed may)
       ∙ ap (λ b. if b then refuses refusal.AuditFull else enters outcome.Accepted []) is
 
   -- one that grants refuse is owed the refusal
-  pub revoke-refused : (r : Why) → RevokeAnswers a.grants client on rights (Err r) → owed (start_of a) a.audit.items (Revoke client on rights) ≡ refuses (refusal_of r)
+  pub revoke-refused : (r : Why) → RevokeAnswers a.grants client on rights (Err r) → owed (start_of a) a.audit.items (Call (Revoke client on rights)) ≡ refuses (refusal_of r)
   unfolding owed
   revoke-refused why.UnknownClient answers = grind arith
   revoke-refused why.UnknownObject answers = grind arith

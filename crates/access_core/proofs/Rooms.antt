@@ -7,7 +7,7 @@ use Rattle.core_model.specs.Owed.{barrier_in}
 use Rattle.core_model.specs.Room.{FindsRoom, HasRoom}
 use Rattle.core_model.proofs.Room.{never-owed, stop-finds}
 use Rattle.core_model.specs.declared.refusal.Refusal.TheVariants as refusal
-use Rattle.access_core.proofs.Terms.{Event, History, Inside, IsCached, Outcome, Owed, PacketId, QueueId, Refusal, Stop, answers, due, enters, history_of, owed, refuses}
+use Rattle.access_core.proofs.Terms.{Call, Event, History, Inside, IsCached, Outcome, Owed, PacketId, QueueId, Refusal, Stop, answers, due, enters, history_of, owed, refuses}
 
 pub roomy : (a : Inside) → IsCached a → HasRoom (history_of a)
 roomy a kept = let flying = kept.flying in omega (arith, flying, kept.room)

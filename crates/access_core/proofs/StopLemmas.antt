@@ -1,7 +1,7 @@
 -- Stops of queues: what is owed by what is kept, and the room that is left.
 use Rattle.std.proofs.Common.{filter, ◌≡◌, ℕ, ◌-◌, ◌≤◌, List, [], ◌∷◌, length, map, refl, sym, ◌∙◌, ap, subst, Bool, true, false, Option, Some, None, arith, ℤ, ◌==◌}
 use Rattle.std.proofs.Common.{IfNone, IfSome, find, fold, is_some, not, option_map, if◌then◌else◌}
-use Rattle.access_core.proofs.Terms.{ArgumentBlock, Effect, History, InFlight, Inside, IsCached, IsSound, Ledger, Outcome, PacketId, Place, Queue, QueueId, QueueView, Releases, Stop}
+use Rattle.access_core.proofs.Terms.{ArgumentBlock, Call, Effect, History, InFlight, Inside, IsCached, IsSound, Ledger, Outcome, PacketId, Place, Queue, QueueId, QueueView, Releases, Stop}
 use Rattle.access_core.proofs.Terms.{byte_after, cached_opening, due, enters, entry_of, flight_of, freed_by, history_of, is_barrier, is_block, is_full, is_place_of, lacks_room}
 use Rattle.access_core.proofs.Terms.{numbered, queue_at, refuses, release_of, signals_after, start_of, with_queue, with_stop, without_one}
 use Rattle.core_model.specs.Owed.{owed}
@@ -42,7 +42,7 @@ found-by_id test (p ∷ ps) id found = first (test p) (is_place_of id p) refl fo
 abbrev pub stopped : Option PacketId → QueueView → QueueView
 stopped barrier v = record v { stopped = true; places = without_one barrier v.places }
 
-is_release : (queue : QueueId) (id : PacketId) → IsRelease queue id (Stop queue) outcome.Accepted (effect.Release queue id ∷ [])
+is_release : (queue : QueueId) (id : PacketId) → IsRelease queue id (Call (Stop queue)) outcome.Accepted (effect.Release queue id ∷ [])
 is_release queue id = record { launches = refl; progress = λ q i so_far. refl; drops = λ q i. grind arith; releases = λ fs. refl }
 
 -- a release changes neither memory nor signals
@@ -54,7 +54,7 @@ values-released queue barrier values = grind arith
 
 module _ (a : Inside) (kept : IsCached a) (queue : QueueId) where
   -- no queue has the number
-  pub stop-unknown : numbered a.queues.items queue.0 ≡ None → owed (start_of a) a.audit.items (Stop queue) ≡ refuses refusal.UnknownQueue
+  pub stop-unknown : numbered a.queues.items queue.0 ≡ None → owed (start_of a) a.audit.items (Call (Stop queue)) ≡ refuses refusal.UnknownQueue
   unfolding owed
   stop-unknown none = rw (owner-kept a queue kept, none) refl
 
@@ -64,7 +64,7 @@ module _ (a : Inside) (kept : IsCached a) (queue : QueueId) where
 
   -- the queue is kept
   pub stop-known : (q : Queue) → numbered a.queues.items queue.0 ≡ Some q →
-      owed (start_of a) a.audit.items (Stop queue) ≡ (if q.stopped then refuses refusal.QueueDown
+      owed (start_of a) a.audit.items (Call (Stop queue)) ≡ (if q.stopped then refuses refusal.QueueDown
       else enters outcome.Accepted (release_of queue (option_map (λ (p : Place). p.id) (find (λ (p : Place). is_barrier p.packet) q.places))))
   unfolding owed
   stop-known q some = grind (arith, owner-kept, barrier-is)
@@ -73,7 +73,7 @@ module _ (a : Inside) (kept : IsCached a) (queue : QueueId) where
   open-at q some = is-open a kept queue (cached_opening q) (owner-kept a queue kept ∙ ap (option_map cached_opening) some)
 
   -- a queue whose stop is entered is kept
-  pub stop-open : (told : Outcome) (effects : List Effect) → owed (start_of a) a.audit.items (Stop queue) ≡ enters told effects → IsOpen a queue
+  pub stop-open : (told : Outcome) (effects : List Effect) → owed (start_of a) a.audit.items (Call (Stop queue)) ≡ enters told effects → IsOpen a queue
   stop-open told effects owing = grind (arith, stop-unknown, open-at)
 
   module _ (at : IsOpen a queue) where
@@ -85,18 +85,18 @@ module _ (a : Inside) (kept : IsCached a) (queue : QueueId) where
 
     -- how the queues move along
     pub queues-stopped : (barrier : Option PacketId) → QueuesAfter a (with_queue a.queues.items queue (with_stop barrier)) (a.flying - freed_by barrier a.queues.items queue)
-        (Stop queue) outcome.Accepted (release_of queue barrier)
+        (Call (Stop queue)) outcome.Accepted (release_of queue barrier)
     queues-stopped None =
-        let same = flight-unlaunched (start_of a) a.audit.items (Stop queue) outcome.Accepted [] refl in
+        let same = flight-unlaunched (start_of a) a.audit.items (Call (Stop queue)) outcome.Accepted [] refl in
         let count = ap length same in
         queues-after a kept queue at (with_stop None) (stopped None) _ _ _ _ refl refl (record { room = at.sound.room; free = at.sound.free; below = at.sound.below }) refl
-        (λ m. queue_at-more (start_of a) a.audit.items (Stop queue) outcome.Accepted [] m _ same ∙ pick (queue.0 == m.0) (queue_at (start_of a) a.audit.items m))
-        (omega (arith, count, freed-none, kept.flying)) (none-launched (Stop queue) outcome.Accepted refl (start_of a))
+        (λ m. queue_at-more (start_of a) a.audit.items (Call (Stop queue)) outcome.Accepted [] m _ same ∙ pick (queue.0 == m.0) (queue_at (start_of a) a.audit.items m))
+        (omega (arith, count, freed-none, kept.flying)) (none-launched (Call (Stop queue)) outcome.Accepted refl (start_of a))
       where
         pick : (b : Bool) (v : QueueView) → record v { stopped = (if b then true else v.stopped) } ≡ (if b then stopped None v else v)
         pick b v = grind arith
     queues-stopped (Some id) =
-        queues-released a kept queue id (Stop queue) outcome.Accepted (effect.Release queue id ∷ []) (is_release queue id) refl at (with_stop (Some id))
+        queues-released a kept queue id (Call (Stop queue)) outcome.Accepted (effect.Release queue id ∷ []) (is_release queue id) refl at (with_stop (Some id))
         (stopped (Some id)) refl sound refl (λ m v. grind arith)
       where
         sound : IsSound (with_stop (Some id) at.q)
@@ -105,29 +105,29 @@ module _ (a : Inside) (kept : IsCached a) (queue : QueueId) where
   -- how the grants do
   pub grants-stopped : (barrier : Option PacketId) (new : Ledger) (blocks : List ArgumentBlock) → IfSome barrier (λ id. Releases a.grants new queue id)
       → IfSome barrier (λ id. blocks ≡ filter (λ b. not (is_block queue id b)) a.blocks.items)
-      → IfNone barrier (new ≡ a.grants) → IfNone barrier (blocks ≡ a.blocks.items) → GrantsAfter a new blocks (Stop queue) outcome.Accepted (release_of queue barrier)
+      → IfNone barrier (new ≡ a.grants) → IfNone barrier (blocks ≡ a.blocks.items) → GrantsAfter a new blocks (Call (Stop queue)) outcome.Accepted (release_of queue barrier)
   grants-stopped None new blocks released dropped same same_blocks =
-      rw (same, same_blocks) (grants-still a kept (Stop queue) outcome.Accepted [] refl (λ q i. refl) (λ client on right b. refl) (λ rows. refl)
-      (flight-unlaunched (start_of a) a.audit.items (Stop queue) outcome.Accepted [] refl))
+      rw (same, same_blocks) (grants-still a kept (Call (Stop queue)) outcome.Accepted [] refl (λ q i. refl) (λ client on right b. refl) (λ rows. refl)
+      (flight-unlaunched (start_of a) a.audit.items (Call (Stop queue)) outcome.Accepted [] refl))
   grants-stopped (Some id) new blocks released dropped same same_blocks =
       grind (
         arith,
-        grants-released a kept (Stop queue) outcome.Accepted (effect.Release queue id ∷ []) refl (λ client on right b. refl) (λ rows. refl) new blocks queue id (is_release queue id).drops
+        grants-released a kept (Call (Stop queue)) outcome.Accepted (effect.Release queue id ∷ []) refl (λ client on right b. refl) (λ rows. refl) new blocks queue id (is_release queue id).drops
             (flight-released (start_of a) a.audit.items _ _ _ queue id (is_release queue id)) released dropped,
       )
 
   -- a stop is due its entry where a barrier packet leaves flight for it, or the audit has room
   pub may-stop : (q : Queue) (barrier : Option PacketId) (none : Bool) (old : History) → history_of a ≡ old → numbered a.queues.items queue.0 ≡ Some q → q.stopped ≡ false
       → barrier ≡ option_map (λ (p : Place). p.id) (find (λ (p : Place). is_barrier p.packet) q.places)
-      → is_some barrier ≡ not none → (none ≡ true → is_full old ≡ false) → due old (Stop queue) ≡ enters outcome.Accepted (release_of queue barrier)
+      → is_some barrier ≡ not none → (none ≡ true → is_full old ≡ false) → due old (Call (Stop queue)) ≡ enters outcome.Accepted (release_of queue barrier)
   may-stop q barrier none old seen_as some goes is which =
-      subst (λ h. (none ≡ true → is_full h ≡ false) → due h (Stop queue) ≡ enters outcome.Accepted (release_of queue barrier)) seen_as
-      (λ room. due-by a (history_of a) refl (Stop queue) (enters outcome.Accepted (release_of queue barrier)) (stop-known q some ∙ (rw (goes, is) refl))
+      subst (λ h. (none ≡ true → is_full h ≡ false) → due h (Call (Stop queue)) ≡ enters outcome.Accepted (release_of queue barrier)) seen_as
+      (λ room. due-by a (history_of a) refl (Call (Stop queue)) (enters outcome.Accepted (release_of queue barrier)) (stop-known q some ∙ (rw (goes, is) refl))
       ∙ (rw (left barrier none is which room) refl))
     where
       left : (o : Option PacketId) (b : Bool) → o ≡ option_map (λ (p : Place). p.id) (find (λ (p : Place). is_barrier p.packet) q.places) → is_some o ≡ not b
           → (b ≡ true → is_full (history_of a) ≡ false) →
-          lacks_room (history_of a) (entry_of (Stop queue) outcome.Accepted (release_of queue o)) ≡ false
+          lacks_room (history_of a) (entry_of (Call (Stop queue)) outcome.Accepted (release_of queue o)) ≡ false
       left None true is which room = room refl
       left None false is which room = absurd cc
       left (Some id) b is which room = grind (
@@ -142,5 +142,5 @@ module _ (a : Inside) (kept : IsCached a) (queue : QueueId) where
   -- a stop without a barrier packet is refused where the audit has none
   pub stop-full : (q : Queue) (barrier : Option PacketId) (old : History) → history_of a ≡ old → numbered a.queues.items queue.0 ≡ Some q → q.stopped ≡ false
       → barrier ≡ option_map (λ (p : Place). p.id) (find (λ (p : Place). is_barrier p.packet) q.places) → is_some barrier ≡ false → is_full old ≡ true
-      → due old (Stop queue) ≡ refuses refusal.AuditFull
+      → due old (Call (Stop queue)) ≡ refuses refusal.AuditFull
   stop-full q barrier old h4 h5 h6 h7 h8 h9 = grind (arith, stop-known q)

@@ -3,7 +3,7 @@ use Rattle.access_core.proofs.Terms.{list_any, releases, same_packet}
 use Rattle.core_model.specs.History.{beginning}
 use Rattle.std.proofs.Common.{◌≡◌, ℕ, ◌+◌, ◌-◌, ◌<◌, ◌≤◌, List, [], ◌∷◌, ◌++◌, length, refl, sym, subst, ◌∙◌, ap, Bool, true, false, Some, None, arith}
 use Rattle.std.proofs.Common.{get_or, length-append, ℤ, filter, find, fold, not, ◌==◌, if◌then◌else◌, ◌&&◌, option_map, map}
-use Rattle.access_core.proofs.Terms.{All-filter, All-map, B1, CanFail, Effect, Event, Failed, Faulted, Finish, History, InFlight, Inside, IsCached, IsInPlace, IsSound, Outcome, Owed}
+use Rattle.access_core.proofs.Terms.{All-filter, All-map, B1, Call, CanFail, Effect, Event, Failed, Faulted, Finish, History, InFlight, Inside, IsCached, IsInPlace, IsSound, Outcome, Owed}
 use Rattle.access_core.proofs.Terms.{Packet}
 use Rattle.access_core.proofs.Terms.{PacketId, Place, Poll, Progress, Queue, QueueError, QueueId, QueueView, RefusedAt, RunNext, SignalHandle, byte_after, cached_opening}
 use Rattle.access_core.proofs.Terms.{cached_view, completion_of, completion_signal, due, enters, error_without_place, finish_owed, flight, flight_after_effect, for_packet, found-all}
@@ -194,13 +194,13 @@ queues-advanced a kept queue at id g event told effects is none so_far new =
 
 -- ---- a packet leaves flight, for which its own entry always finds room
 
-pub finish-releases : (values : List ℤ) (queue : QueueId) (id : PacketId) (p : Packet) → IsRelease queue id (Finish queue id) outcome.Accepted (completion_of values queue id p)
+pub finish-releases : (values : List ℤ) (queue : QueueId) (id : PacketId) (p : Packet) → IsRelease queue id (Call (Finish queue id)) outcome.Accepted (completion_of values queue id p)
 finish-releases values queue id p = record { launches = refl; progress = λ q i so_far. refl; drops = λ q i. drops-completed values (completion_signal p) queue id q i; releases = λ fs. flight-completed values (completion_signal p) queue id fs }
 
-pub failure-releases : (queue : QueueId) (id : PacketId) → IsRelease queue id (Poll queue id) (outcome.Polled (Failed (error_without_place queue id.0 B1))) (effect.Release queue id ∷ [])
+pub failure-releases : (queue : QueueId) (id : PacketId) → IsRelease queue id (Call (Poll queue id)) (outcome.Polled (Failed (error_without_place queue id.0 B1))) (effect.Release queue id ∷ [])
 failure-releases queue id = record { launches = refl; progress = λ q i so_far. refl; drops = λ q i. grind arith; releases = λ fs. refl }
 
-pub fault-releases : (queue : QueueId) (id : PacketId) (error : QueueError) → IsRelease queue id (RunNext queue id) (outcome.Worked (Faulted error)) (effect.Release queue id ∷ [])
+pub fault-releases : (queue : QueueId) (id : PacketId) (error : QueueError) → IsRelease queue id (Call (RunNext queue id)) (outcome.Worked (Faulted error)) (effect.Release queue id ∷ [])
 fault-releases queue id error = record { launches = refl; progress = λ q i so_far. refl; drops = λ q i. grind arith; releases = λ fs. refl }
 
 pub release-due : (a : Inside) → IsCached a → (old : History) → history_of a ≡ old → (queue : QueueId) (id : PacketId) (place : Place) → IsInPlace old queue id place

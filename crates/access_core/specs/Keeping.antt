@@ -2,7 +2,7 @@
 use Rattle.std.specs.Prelude.{◌≡◌, false}
 use Rattle.core_model.specs.Legal.{due, may_lack_memory}
 use Rattle.core_model.specs.declared.event.Event.{Event}
-use Rattle.core_model.specs.declared.event.Event.TheVariants.{OpenQueue, Take}
+use Rattle.core_model.specs.declared.event.Event.TheVariants.{Open, Take}
 use Rattle.core_model.specs.declared.event.Request.{Request}
 use Rattle.core_model.specs.declared.event.Request.TheVariants as request
 use Rattle.access_core.specs.Cores.{Core}
@@ -13,7 +13,7 @@ KeepsPlaces event old new = may_lack_memory event (due old.history event) ≡ fa
 
 -- an opening and a take keep the places so; every other event leaves all of them, even where it may want memory
 abbrev pub MadeInPlace : Event → Core → Core → Type 0
-MadeInPlace (OpenQueue client agent size) old new = KeepsPlaces (OpenQueue client agent size) old new
+MadeInPlace (Open client agent size) old new = KeepsPlaces (Open client agent size) old new
 MadeInPlace (Take queue packet bytes) old new = KeepsPlaces (Take queue packet bytes) old new
 MadeInPlace _ old new = new.places ≡ old.places
 

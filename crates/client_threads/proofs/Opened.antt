@@ -12,7 +12,7 @@ use Rattle.policy.specs.declared.object.Object.TheVariants as object
 use Rattle.policy.specs.declared.rights.Right.TheVariants as right
 use Rattle.policy.specs.Results.{map_ok}
 use Rattle.core_model.specs.declared.event.Event.{Event}
-use Rattle.core_model.specs.declared.event.Event.TheVariants.{OpenQueue}
+use Rattle.core_model.specs.declared.event.Event.TheVariants.{Open}
 use Rattle.core_model.specs.declared.entry.Effect.{Effect}
 use Rattle.core_model.specs.declared.limits.TheConstants.{QUEUES}
 use Rattle.core_model.specs.declared.outcome.Outcome.{Outcome}
@@ -49,7 +49,7 @@ pub record Fits (size queues : ℕ) : Type 0 where
 
 module _ (h : History) (client : ClientId) (agent : AgentHandle) (size : ℕ) where
   abbrev event : Event
-  event = OpenQueue client agent size
+  event = Open client agent size
 
   abbrev queues : ℕ
   queues = length (openings (beginning h) h.entries)
@@ -128,7 +128,7 @@ other_beside true why ne = refl
 
 module _ (rings : List QueueRing) (h : History) (client : ClientId) (agent : AgentHandle) (size : ℕ) where
   abbrev Asked : Event
-  Asked = OpenQueue client agent size
+  Asked = Open client agent size
 
   -- a queue that could be opened has a ring already
   pub taken_number : (queue : QueueId) → due h Asked ≡ enters (outcome.Opened queue) [] → has_ring_of queue.0 rings ≡ true → due_opening rings h Asked ≡ refuses refusal.TooMany

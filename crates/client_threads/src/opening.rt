@@ -44,7 +44,7 @@ impl Broker {
         producers: u64,
     ) -> Result<Opened, Refusal>
         ensures due { (before after : History) × IsLegal (beginning before) before.entries
-            × MeetsOrLacksOpening self.old (Event.OpenQueue client agent (judged_size size producers)) before after (map_ok (λ o. o.0) result) }
+            × MeetsOrLacksOpening self.old (Event.Open client agent (judged_size size producers)) before after (map_ok (λ o. o.0) result) }
         ensures opened { IfOk result (λ o. IsOpened self.old size producers o.0 o.1.items o.2 self.new) }
         ensures refused { IfErr result (λ _. self.new ≡ self.old) }
     {
@@ -91,8 +91,8 @@ fn may_open(
     agent: AgentHandle,
     size: u64,
 ) -> Result<QueueId, Refusal>
-    ensures may { IfOk result (IsOpenable (map seen desks.now) core.now.history (Event.OpenQueue client agent size)) }
-    ensures why { IfErr result (λ why. due_opening (map seen desks.now) core.now.history (Event.OpenQueue client agent size) ≡ refuses why) }
+    ensures may { IfOk result (IsOpenable (map seen desks.now) core.now.history (Event.Open client agent size)) }
+    ensures why { IfErr result (λ why. due_opening (map seen desks.now) core.now.history (Event.Open client agent size) ≡ refuses why) }
 {
     match core.may_open(client, agent, size) {
         Ok(queue) => {
@@ -203,9 +203,9 @@ fn enter_queue(
     size: u64,
     made: Beside,
 ) -> Result<Opened, Refusal>
-    requires openable { IsOpenable (map seen desks.old.items) core.old.history (Event.OpenQueue client agent size) made.desk.queue }
+    requires openable { IsOpenable (map seen desks.old.items) core.old.history (Event.Open client agent size) made.desk.queue }
     requires room { vec_len desks.old < vec_capacity desks.old }
-    ensures due { MeetsOrLacksOpening (map seen desks.old.items) (Event.OpenQueue client agent size) core.old.history core.new.history (map_ok (λ o. o.0) result) }
+    ensures due { MeetsOrLacksOpening (map seen desks.old.items) (Event.Open client agent size) core.old.history core.new.history (map_ok (λ o. o.0) result) }
     ensures entered { IfOk result (λ o. HasEntered made (map seen desks.old.items) (map seen desks.new.items) o.0 o.1.items o.2) }
     ensures refused { IfErr result (λ _. desks.new.items ≡ desks.old.items) }
 {
@@ -232,7 +232,7 @@ fn open_beside(
     producers: u64,
 ) -> Result<Opened, Refusal>
     requires apart { AreApart (map seen desks.old.items) }
-    ensures due { MeetsOrLacksOpening (map seen desks.old.items) (Event.OpenQueue client agent (judged_size size producers)) core.old.history core.new.history (map_ok (λ o. o.0) result) }
+    ensures due { MeetsOrLacksOpening (map seen desks.old.items) (Event.Open client agent (judged_size size producers)) core.old.history core.new.history (map_ok (λ o. o.0) result) }
     ensures opened { IfOk result (λ o. IsOpened (map seen desks.old.items) size producers o.0 o.1.items o.2 (map seen desks.new.items)) }
     ensures refused { IfErr result (λ _. map seen desks.new.items ≡ map seen desks.old.items) }
     ensures apart { AreApart (map seen desks.new.items) }

@@ -18,7 +18,8 @@ use Rattle.core_model.specs.declared.entry.Effect.{Effect}
 use Rattle.core_model.specs.declared.entry.Effect.TheVariants.{Write, Signal, Release}
 use Rattle.core_model.specs.declared.entry.Entry.{Entry}
 use Rattle.core_model.specs.declared.event.Event.{Event}
-use Rattle.core_model.specs.declared.event.Event.TheVariants.{Grant, Revoke, OpenQueue, Stop, Take, RunNext, Poll, Finish, HostWrite, ChangeSignal, Reload}
+use Rattle.core_model.specs.declared.event.Event.TheVariants.{Open, Take, Reload, Call}
+use Rattle.core_model.specs.declared.call.Call.TheVariants.{Grant, Revoke, Stop, RunNext, Poll, Finish, HostWrite, ChangeSignal}
 use Rattle.core_model.specs.declared.flight.InFlight.{InFlight}
 use Rattle.core_model.specs.declared.flight.Progress.{Progress}
 use Rattle.core_model.specs.declared.flight.TheConstants.{LAUNCH_PROGRESS}
@@ -147,7 +148,7 @@ module _ (start : Start) (queue : QueueId) (id : PacketId) where
   taken-stays q i bytes (outcome.Polled polled) p none = none
   taken-stays q i bytes (outcome.Changed old) p none = none
 
-  run-stays : (q : QueueId) (i : PacketId) (told : Outcome) (p : Progress) → same_packet q i queue id ≡ false → progress_by queue id p (RunNext q i) told ≡ p
+  run-stays : (q : QueueId) (i : PacketId) (told : Outcome) (p : Progress) → same_packet q i queue id ≡ false → progress_by queue id p (Call (RunNext q i)) told ≡ p
   run-stays q i outcome.Accepted p other = refl
   run-stays q i (outcome.Opened opened) p other = refl
   run-stays q i (outcome.Taken became) p other = refl
@@ -157,7 +158,7 @@ module _ (start : Start) (queue : QueueId) (id : PacketId) where
   run-stays q i (outcome.Polled polled) p other = refl
   run-stays q i (outcome.Changed old) p other = refl
 
-  poll-stays : (q : QueueId) (i : PacketId) (told : Outcome) (p : Progress) → same_packet q i queue id ≡ false → progress_by queue id p (Poll q i) told ≡ p
+  poll-stays : (q : QueueId) (i : PacketId) (told : Outcome) (p : Progress) → same_packet q i queue id ≡ false → progress_by queue id p (Call (Poll q i)) told ≡ p
   poll-stays q i outcome.Accepted p other = refl
   poll-stays q i (outcome.Opened opened) p other = refl
   poll-stays q i (outcome.Taken became) p other = refl
@@ -169,22 +170,22 @@ module _ (start : Start) (queue : QueueId) (id : PacketId) where
 
   stays : (es : List Entry) (event : Event) (told : Outcome) (effects : List Effect) → owed start es event ≡ enters told effects → flies es ≡ false → (p : Progress) → p ≡ LAUNCH_PROGRESS
       → progress_by queue id p event told ≡ LAUNCH_PROGRESS
-  stays es (Grant client on rights) told effects owing none p is = is
-  stays es (Revoke client on rights) told effects owing none p is = is
-  stays es (OpenQueue client agent size) told effects owing none p is = is
-  stays es (Stop q) told effects owing none p is = is
+  stays es (Call (Grant client on rights)) told effects owing none p is = is
+  stays es (Call (Revoke client on rights)) told effects owing none p is = is
+  stays es (Open client agent size) told effects owing none p is = is
+  stays es (Call (Stop q)) told effects owing none p is = is
   stays es (Take q i bytes) told effects owing none p is = taken-stays q i bytes told p is
-  stays es (RunNext q i) told effects owing none p is =
+  stays es (Call (RunNext q i)) told effects owing none p is =
       let ran = run-entered start es told effects q i owing in
       run-stays q i told p (other-found es q i ran.flying ran.found none) ∙ is
-  stays es (Poll q i) told effects owing none p is = by_poll (poll-entered start es told effects q i owing)
+  stays es (Call (Poll q i)) told effects owing none p is = by_poll (poll-entered start es told effects q i owing)
     where
-      by_poll : HasSeen start es told effects q i ⊎ HasFailed start es told effects q i → progress_by queue id p (Poll q i) told ≡ LAUNCH_PROGRESS
+      by_poll : HasSeen start es told effects q i ⊎ HasFailed start es told effects q i → progress_by queue id p (Call (Poll q i)) told ≡ LAUNCH_PROGRESS
       by_poll (inl seen) = poll-stays q i told p (other-found es q i seen.flying seen.found none) ∙ is
       by_poll (inr failed) = poll-stays q i told p (other-found es q i failed.flying failed.found none) ∙ is
-  stays es (Finish q i) told effects owing none p is = is
-  stays es (HostWrite client address bytes) told effects owing none p is = is
-  stays es (ChangeSignal client signal operation) told effects owing none p is = is
+  stays es (Call (Finish q i)) told effects owing none p is = is
+  stays es (Call (HostWrite client address bytes)) told effects owing none p is = is
+  stays es (Call (ChangeSignal client signal operation)) told effects owing none p is = is
   stays es (Reload rows) told effects owing none p is = is
 
   abbrev IsAtLaunch : List Entry → Type 0

@@ -28,7 +28,8 @@ use Rattle.queue_error.specs.declared.error.QueueError.{QueueError}
 use Rattle.queue_error.specs.declared.rule.Rule.{Rule}
 use Rattle.queue_error.specs.declared.rule.Rule.TheVariants.{B1}
 use Rattle.core_model.specs.declared.event.Event.{Event}
-use Rattle.core_model.specs.declared.event.Event.TheVariants.{Grant, Revoke, OpenQueue, Stop, Take, RunNext, Poll, Finish, HostWrite, ChangeSignal, Reload}
+use Rattle.core_model.specs.declared.event.Event.TheVariants.{Open, Take, Reload, Call}
+use Rattle.core_model.specs.declared.call.Call.TheVariants.{Grant, Revoke, Stop, RunNext, Poll, Finish, HostWrite, ChangeSignal}
 use Rattle.core_model.specs.declared.outcome.Outcome.{Outcome}
 use Rattle.core_model.specs.declared.outcome.Outcome.TheVariants as outcome
 use Rattle.core_model.specs.declared.outcome.Taken.TheVariants as taken
@@ -182,35 +183,35 @@ module _ (start : Start) (es : List Entry) (legal : IsWhole start es) where
 
   -- the changes of an event, given what holds of each kind of change
   module _ (P : Event → Outcome → Effect → Type 0)
-      (ran : (told : Outcome) (queue : QueueId) (id : PacketId) (s : InFlightSince start es queue id) (d : AgentDispatch) → s.flying.packet ≡ packet.Agent d → (progress start es queue id).groups_run < group_count s.flying.packet → All (P (RunNext queue id) told) (agent_writes start es d))
+      (ran : (told : Outcome) (queue : QueueId) (id : PacketId) (s : InFlightSince start es queue id) (d : AgentDispatch) → s.flying.packet ≡ packet.Agent d → (progress start es queue id).groups_run < group_count s.flying.packet → All (P (Call (RunNext queue id)) told) (agent_writes start es d))
       (kernel_ran : (told : Outcome) (queue : QueueId) (id : PacketId) (s : InFlightSince start es queue id) → AllInForce start s.launch.before s.launch.opening.client (own_rights start es queue id) →
       (d : KernelDispatch) → s.flying.packet ≡ packet.Kernel d → (progress start es queue id).groups_run < group_count s.flying.packet → (runs : List WrittenRange) →
-      group_result (group_input start es (given_at_launch start es queue id) d (progress start es queue id).groups_run) ≡ wrote runs → All (P (RunNext queue id) told) (map write_of_run runs))
+      group_result (group_input start es (given_at_launch start es queue id) d (progress start es queue id).groups_run) ≡ wrote runs → All (P (Call (RunNext queue id)) told) (map write_of_run runs))
       (completed_so : (told : Outcome) (queue : QueueId) (id : PacketId) (s : InFlightSince start es queue id) (v : ℤ) → ((completion_signal s.flying.packet).0 == 0) ≡ false → value_of (signals start es) (completion_signal s.flying.packet).0 ≡ Some v →
-      P (Finish queue id) told (effect.Signal (completion_signal s.flying.packet) v (applied (Subtract (pos 1)) v)))
+      P (Call (Finish queue id)) told (effect.Signal (completion_signal s.flying.packet) v (applied (Subtract (pos 1)) v)))
       (released : (event : Event) (told : Outcome) (queue : QueueId) (id : PacketId) → ReleaseIsDue start es event told (effect.Release queue id) → P event told (effect.Release queue id))
-      (written : (told : Outcome) (client : ClientId) (address : Address) (bytes : List ℕ) → 0 < length bytes → MayReach start es client right.Write address.0 (length bytes) → P (HostWrite client address bytes) told (effect.Write address bytes))
+      (written : (told : Outcome) (client : ClientId) (address : Address) (bytes : List ℕ) → 0 < length bytes → MayReach start es client right.Write address.0 (length bytes) → P (Call (HostWrite client address bytes)) told (effect.Write address bytes))
       (changed : (told : Outcome) (client : ClientId) (signal : SignalHandle) (operation : SignalOp) (old : ℤ) → value_of (signals start es) signal.0 ≡ Some old → in_force start es client (object.Signal signal) right.Change ≡ true →
-      P (ChangeSignal client signal operation) told (effect.Signal signal old (applied operation old)))
+      P (Call (ChangeSignal client signal operation)) told (effect.Signal signal old (applied operation old)))
     where
       quietly : (event : Event) (told : Outcome) (effects : List Effect) → IsQuiet start es told effects → All (P event told) effects
       quietly event told effects quiet = subst (All (P event told)) (sym quiet.effects_are) (All-nil (P event told))
 
-      stopped : (queue : QueueId) → All (P (Stop queue) outcome.Accepted) (release_of queue (barrier_in (flight_of start es queue)))
-      stopped queue = release-all (P (Stop queue) outcome.Accepted) queue (find (λ f. is_barrier f.packet) (flight_of start es queue)) (λ f found.
+      stopped : (queue : QueueId) → All (P (Call (Stop queue)) outcome.Accepted) (release_of queue (barrier_in (flight_of start es queue)))
+      stopped queue = release-all (P (Call (Stop queue)) outcome.Accepted) queue (find (λ f. is_barrier f.packet) (flight_of start es queue)) (λ f found.
           let barrier : is_barrier f.packet ≡ true = found-passes (λ f. is_barrier f.packet) (flight_of start es queue) f found in
           let own : (f.queue.0 == queue.0) ≡ true = found-all (λ g. (g.queue.0 == queue.0) ≡ true) (λ f. is_barrier f.packet) (flight_of start es queue) f (filter-passes (λ g. g.queue.0 == queue.0) (flight start es)) found in
           let queue_is : f.queue ≡ queue = ap (λ n. record { 0 = n }) (eqb-true _ _ own) in
           let there : Contains (flight start es) f = found-all (Contains (flight start es)) (λ f. is_barrier f.packet) (flight_of start es queue) f (All-filter (λ g. g.queue.0 == queue.0) (Contains (flight start es)) (flight start es) (All-contains_itself (flight start es))) found in
-          released (Stop queue) outcome.Accepted queue f.id (f, there, queue_is, refl, (sym (eqb-true _ _ own), barrier)))
+          released (Call (Stop queue)) outcome.Accepted queue f.id (f, there, queue_is, refl, (sym (eqb-true _ _ own), barrier)))
 
-      finished : (queue : QueueId) (id : PacketId) (flying : InFlight) → in_flight start es queue id ≡ Some flying → All (P (Finish queue id) outcome.Accepted) (signal_decrement (signals start es) (completion_signal flying.packet) ++ effect.Release queue id ∷ [])
+      finished : (queue : QueueId) (id : PacketId) (flying : InFlight) → in_flight start es queue id ≡ Some flying → All (P (Call (Finish queue id)) outcome.Accepted) (signal_decrement (signals start es) (completion_signal flying.packet) ++ effect.Release queue id ∷ [])
       finished queue id flying found =
           let since = flying-since start es legal queue id flying found in
           let s = since.0 in
-          subst (λ f. All (P (Finish queue id) outcome.Accepted) (signal_decrement (signals start es) (completion_signal f.packet) ++ effect.Release queue id ∷ [])) since.1
-          (completed-all (P (Finish queue id) outcome.Accepted) (signals start es) (completion_signal s.flying.packet) queue id (completed_so outcome.Accepted queue id s)
-          (released (Finish queue id) outcome.Accepted queue id (named-release (Finish queue id) outcome.Accepted queue id (λ f q i. (q, i)) flying found)))
+          subst (λ f. All (P (Call (Finish queue id)) outcome.Accepted) (signal_decrement (signals start es) (completion_signal f.packet) ++ effect.Release queue id ∷ [])) since.1
+          (completed-all (P (Call (Finish queue id)) outcome.Accepted) (signals start es) (completion_signal s.flying.packet) queue id (completed_so outcome.Accepted queue id s)
+          (released (Call (Finish queue id)) outcome.Accepted queue id (named-release (Call (Finish queue id)) outcome.Accepted queue id (λ f q i. (q, i)) flying found)))
 
       abbrev failing : QueueId → PacketId → Outcome
       failing queue id = outcome.Polled (polled_as.Failed (error_without_place queue id.0 B1))
@@ -220,20 +221,20 @@ module _ (start : Start) (es : List Entry) (legal : IsWhole start es) where
           (s : InFlightSince start es queue id) → AllInForce start s.launch.before s.launch.opening.client (own_rights start es queue id) →
           (d : KernelDispatch) → s.flying.packet ≡ packet.Kernel d → (progress start es queue id).groups_run < group_count s.flying.packet →
           (result : GroupResult) → group_result (group_input start es (given_at_launch start es queue id) d (progress start es queue id).groups_run) ≡ result →
-          GroupWrote start es told effects queue id d (progress start es queue id).groups_run result ⊎ GroupFaulted start es told effects queue id d (progress start es queue id).groups_run result → All (P (RunNext queue id) told) effects
+          GroupWrote start es told effects queue id d (progress start es queue id).groups_run result ⊎ GroupFaulted start es told effects queue id d (progress start es queue id).groups_run result → All (P (Call (RunNext queue id)) told) effects
       kernel-changes told effects queue id flying found s granted d is left result is_result (inl ended) =
-          subst (All (P (RunNext queue id) told)) (sym ended.effects_are) (kernel_ran told queue id s granted d is left ended.runs (is_result ∙ ended.result_is))
+          subst (All (P (Call (RunNext queue id)) told)) (sym ended.effects_are) (kernel_ran told queue id s granted d is left ended.runs (is_result ∙ ended.result_is))
       kernel-changes told effects queue id flying found s granted d is left result is_result (inr fault) =
-          subst (All (P (RunNext queue id) told)) (sym fault.effects_are) (all-one (P (RunNext queue id) told) (effect.Release queue id)
-          (subst (λ o. P (RunNext queue id) o (effect.Release queue id)) (sym fault.outcome_is)
-          (released (RunNext queue id) (outcome.Worked (worked.Faulted (group_error queue id (progress start es queue id).groups_run fault.why))) queue id
-          (named-release (RunNext queue id) (outcome.Worked (worked.Faulted (group_error queue id (progress start es queue id).groups_run fault.why))) queue id (λ f q i. (q, i)) flying found))))
+          subst (All (P (Call (RunNext queue id)) told)) (sym fault.effects_are) (all-one (P (Call (RunNext queue id)) told) (effect.Release queue id)
+          (subst (λ o. P (Call (RunNext queue id)) o (effect.Release queue id)) (sym fault.outcome_is)
+          (released (Call (RunNext queue id)) (outcome.Worked (worked.Faulted (group_error queue id (progress start es queue id).groups_run fault.why))) queue id
+          (named-release (Call (RunNext queue id)) (outcome.Worked (worked.Faulted (group_error queue id (progress start es queue id).groups_run fault.why))) queue id (λ f q i. (q, i)) flying found))))
 
       group-changes : (told : Outcome) (effects : List Effect) (queue : QueueId) (id : PacketId) (flying : InFlight) → in_flight start es queue id ≡ Some flying →
           (since : (s : InFlightSince start es queue id) × (s.flying ≡ flying) × AllInForce start s.launch.before s.launch.opening.client (own_rights start es queue id)) →
-          GroupRan start es told effects flying.packet (progress start es queue id) ⊎ KernelRan start es told effects queue id (given_at_launch start es queue id) flying.packet (progress start es queue id) → All (P (RunNext queue id) told) effects
+          GroupRan start es told effects flying.packet (progress start es queue id) ⊎ KernelRan start es told effects queue id (given_at_launch start es queue id) flying.packet (progress start es queue id) → All (P (Call (RunNext queue id)) told) effects
       group-changes told effects queue id flying found since (inl group) =
-          subst (All (P (RunNext queue id) told)) (sym group.effects_are)
+          subst (All (P (Call (RunNext queue id)) told)) (sym group.effects_are)
           (ran told queue id since.0 group.dispatch (ap (λ f. f.packet) since.1 ∙ group.is_agent) (subst (λ f. (progress start es queue id).groups_run < group_count f.packet) (sym since.1) group.is_left))
       group-changes told effects queue id flying found since (inr group) =
           kernel-changes told effects queue id flying found since.0 since.2 group.dispatch (ap (λ f. f.packet) since.1 ∙ group.is_kernel) (subst (λ f. (progress start es queue id).groups_run < group_count f.packet) (sym since.1) group.is_left)
@@ -241,36 +242,36 @@ module _ (start : Start) (es : List Entry) (legal : IsWhole start es) where
           (kernel-ended start es told effects queue id group.dispatch (progress start es queue id).groups_run _ group.owed_is)
 
       pub each-change : (event : Event) (told : Outcome) (effects : List Effect) → owed start es event ≡ enters told effects → All (P event told) effects
-      each-change (Grant client on rights) told effects owing = quietly _ told effects (grant-effects start es told effects client on rights owing).0
-      each-change (Revoke client on rights) told effects owing = quietly _ told effects (revoke-effects start es told effects client on rights owing).is_quiet
-      each-change (OpenQueue client agent size) told effects owing = quietly _ told effects (open-effects start es told effects client agent size owing).is_quiet
-      each-change (Stop queue) told effects owing =
+      each-change (Call (Grant client on rights)) told effects owing = quietly _ told effects (grant-effects start es told effects client on rights owing).0
+      each-change (Call (Revoke client on rights)) told effects owing = quietly _ told effects (revoke-effects start es told effects client on rights owing).is_quiet
+      each-change (Open client agent size) told effects owing = quietly _ told effects (open-effects start es told effects client agent size owing).is_quiet
+      each-change (Call (Stop queue)) told effects owing =
           let stop = stop-effects start es told effects queue owing in
-          subst (λ o. All (P (Stop queue) o) effects) (sym stop.outcome_is) (subst (All (P (Stop queue) outcome.Accepted)) (sym stop.effects_are) (stopped queue))
+          subst (λ o. All (P (Call (Stop queue)) o) effects) (sym stop.outcome_is) (subst (All (P (Call (Stop queue)) outcome.Accepted)) (sym stop.effects_are) (stopped queue))
       each-change (Take queue id bytes) told effects owing = subst (All (P (Take queue id bytes) told)) (sym (take-decided start es told effects queue id bytes owing).effects_are) (All-nil _)
-      each-change (RunNext queue id) told effects owing =
+      each-change (Call (RunNext queue id)) told effects owing =
           let has_run = run-entered start es told effects queue id owing in
           let since = flying-since start es legal queue id has_run.flying has_run.found in
           group-changes told effects queue id has_run.flying has_run.found since has_run.group
-      each-change (Poll queue id) told effects owing =
-          poll-all (P (Poll queue id) told) start es told effects queue id (λ f found is. subst (λ o. P (Poll queue id) o (effect.Release queue id)) (sym is)
-          (released (Poll queue id) (failing queue id) queue id (named-release (Poll queue id) (failing queue id) queue id (λ f q i. (q, i)) f found))) (poll-entered start es told effects queue id owing)
-      each-change (Finish queue id) told effects owing =
+      each-change (Call (Poll queue id)) told effects owing =
+          poll-all (P (Call (Poll queue id)) told) start es told effects queue id (λ f found is. subst (λ o. P (Call (Poll queue id)) o (effect.Release queue id)) (sym is)
+          (released (Call (Poll queue id)) (failing queue id) queue id (named-release (Call (Poll queue id)) (failing queue id) queue id (λ f q i. (q, i)) f found))) (poll-entered start es told effects queue id owing)
+      each-change (Call (Finish queue id)) told effects owing =
           let done = finish-entered start es told effects queue id owing in
-          subst (λ o. All (P (Finish queue id) o) effects) (sym done.outcome_is) (subst (All (P (Finish queue id) outcome.Accepted)) (sym done.effects_are) (finished queue id done.flying done.found))
-      each-change (HostWrite client address bytes) told effects owing =
+          subst (λ o. All (P (Call (Finish queue id)) o) effects) (sym done.outcome_is) (subst (All (P (Call (Finish queue id)) outcome.Accepted)) (sym done.effects_are) (finished queue id done.flying done.found))
+      each-change (Call (HostWrite client address bytes)) told effects owing =
           let w = write-entered start es told effects client address bytes owing in
-          subst (All (P (HostWrite client address bytes) told)) (sym w.effects_are) (all-one (P (HostWrite client address bytes) told) (effect.Write address bytes) (written told client address bytes w.some (record { lies_whole = w.whole; granted = w.granted })))
+          subst (All (P (Call (HostWrite client address bytes)) told)) (sym w.effects_are) (all-one (P (Call (HostWrite client address bytes)) told) (effect.Write address bytes) (written told client address bytes w.some (record { lies_whole = w.whole; granted = w.granted })))
       each-change (Reload rows) told effects owing = quietly _ told effects (reload-effects start es told effects rows owing).is_quiet
-      each-change (ChangeSignal client signal operation) told effects owing =
+      each-change (Call (ChangeSignal client signal operation)) told effects owing =
           let c = change-entered start es told effects client signal operation owing in
-          subst (All (P (ChangeSignal client signal operation) told)) (sym c.effects_are) (all-one (P (ChangeSignal client signal operation) told) (effect.Signal signal c.old (applied operation c.old)) (changed told client signal operation c.old c.was c.granted))
+          subst (All (P (Call (ChangeSignal client signal operation)) told)) (sym c.effects_are) (all-one (P (Call (ChangeSignal client signal operation)) told) (effect.Signal signal c.old (applied operation c.old)) (changed told client signal operation c.old c.was c.granted))
 
   -- ---- writes, changes of signals, releases
 
-  group-writes : (queue : QueueId) (id : PacketId) (s : InFlightSince start es queue id) (d : AgentDispatch) → s.flying.packet ≡ packet.Agent d → (progress start es queue id).groups_run < group_count s.flying.packet → All (WriteIsGranted start es (RunNext queue id)) (agent_writes start es d)
+  group-writes : (queue : QueueId) (id : PacketId) (s : InFlightSince start es queue id) (d : AgentDispatch) → s.flying.packet ≡ packet.Agent d → (progress start es queue id).groups_run < group_count s.flying.packet → All (WriteIsGranted start es (Call (RunNext queue id))) (agent_writes start es d)
   group-writes queue id s d is left =
-      agent-met (WriteIsGranted start es (RunNext queue id)) (MayReachRange start s.launch.before s.launch.opening.client right.Write)
+      agent-met (WriteIsGranted start es (Call (RunNext queue id))) (MayReachRange start s.launch.before s.launch.opening.client right.Write)
       (λ target bytes long some may. (some, inr (record { queue = queue; id = id; event_is = refl; packet = s; is_left = left; allowed = reached target bytes long some may })))
       start es d (subst (λ p. All (MayReachRange start s.launch.before s.launch.opening.client right.Write) (writes_of p)) (s.packet_is ∙ is) s.launch.allowed.rights.writes)
     where
@@ -281,10 +282,10 @@ module _ (start : Start) (es : List Entry) (legal : IsWhole start es) where
   -- a kernel's group writes where its packet holds WRITE, which was in force at its launch
   kernel-writes : are_region_lengths (region_lengths start.policy) ≡ true → (queue : QueueId) (id : PacketId) (s : InFlightSince start es queue id) →
       AllInForce start s.launch.before s.launch.opening.client (own_rights start es queue id) → (d : KernelDispatch) → (progress start es queue id).groups_run < group_count s.flying.packet → (runs : List WrittenRange) →
-      group_result (group_input start es (given_at_launch start es queue id) d (progress start es queue id).groups_run) ≡ wrote runs → All (WriteIsGranted start es (RunNext queue id)) (map write_of_run runs)
+      group_result (group_input start es (given_at_launch start es queue id) d (progress start es queue id).groups_run) ≡ wrote runs → All (WriteIsGranted start es (Call (RunNext queue id))) (map write_of_run runs)
   kernel-writes fit queue id s granted d left runs is =
-      All-map (WriteIsGranted start es (RunNext queue id)) write_of_run runs
-      (All-weaker (IsWithinGrant start s.launch.before s.launch.opening.client) (λ run. WriteIsGranted start es (RunNext queue id) (write_of_run run))
+      All-map (WriteIsGranted start es (Call (RunNext queue id))) write_of_run runs
+      (All-weaker (IsWithinGrant start s.launch.before s.launch.opening.client) (λ run. WriteIsGranted start es (Call (RunNext queue id)) (write_of_run run))
       (λ run may. (may.0, inr (record { queue = queue; id = id; event_is = refl; packet = s; is_left = left; allowed = may.1 })))
       runs (runs-granted start es s.launch.before s.launch.opening.client (given_at_launch start es queue id) d (progress start es queue id).groups_run fit granted runs is))
 
@@ -293,8 +294,8 @@ module _ (start : Start) (es : List Entry) (legal : IsWhole start es) where
       (λ told client address bytes some reach. (some, inl (record { client = client; event_is = refl; allowed = reach }))) (λ told client signal operation old was granted. tt)
 
   pub change-granted : (event : Event) (told : Outcome) (effects : List Effect) → owed start es event ≡ enters told effects → All (ChangeIsGranted start es event) effects
-  change-granted = each-change (λ event told. ChangeIsGranted start es event) (λ told queue id s d is left. agent-writes (ChangeIsGranted start es (RunNext queue id)) (λ address bytes. tt) start es d)
-      (λ told queue id s granted d is left runs wrote_so. All-map (ChangeIsGranted start es (RunNext queue id)) write_of_run runs (λ k run below. tt))
+  change-granted = each-change (λ event told. ChangeIsGranted start es event) (λ told queue id s d is left. agent-writes (ChangeIsGranted start es (Call (RunNext queue id))) (λ address bytes. tt) start es d)
+      (λ told queue id s granted d is left runs wrote_so. All-map (ChangeIsGranted start es (Call (RunNext queue id))) write_of_run runs (λ k run below. tt))
       (λ told queue id s v null is. (is, inr (record { queue = queue; id = id; event_is = refl; result = refl; packet = s; signal_is = refl; allowed = may_change queue id s null })))
       (λ event told queue id due. tt) (λ told client address bytes some reach. tt)
       (λ told client signal operation old was granted. (was, inl (record { client = client; operation = operation; event_is = refl; result = refl; allowed = granted })))
@@ -307,8 +308,8 @@ module _ (start : Start) (es : List Entry) (legal : IsWhole start es) where
           some (inr granted) = granted
 
   pub release-due : (event : Event) (told : Outcome) (effects : List Effect) → owed start es event ≡ enters told effects → All (ReleaseIsDue start es event told) effects
-  release-due = each-change (ReleaseIsDue start es) (λ told queue id s d is left. agent-writes (ReleaseIsDue start es (RunNext queue id) told) (λ address bytes. tt) start es d)
-      (λ told queue id s granted d is left runs wrote_so. All-map (ReleaseIsDue start es (RunNext queue id) told) write_of_run runs (λ k run below. tt))
+  release-due = each-change (ReleaseIsDue start es) (λ told queue id s d is left. agent-writes (ReleaseIsDue start es (Call (RunNext queue id)) told) (λ address bytes. tt) start es d)
+      (λ told queue id s granted d is left runs wrote_so. All-map (ReleaseIsDue start es (Call (RunNext queue id)) told) write_of_run runs (λ k run below. tt))
       (λ told queue id s v null is. tt) (λ event told queue id due. due) (λ told client address bytes some reach. tt) (λ told client signal operation old was granted. tt)
 
   -- ---- errors
@@ -331,10 +332,10 @@ module _ (start : Start) (es : List Entry) (legal : IsWhole start es) where
   named queue id = Some (queue, id)
 
   pub error-named : (event : Event) (told : Outcome) (effects : List Effect) (error : QueueError) → owed start es event ≡ enters told effects → error_of told ≡ Some error → packet_named event ≡ named error.queue error.packet
-  error-named (Grant client on rights) told effects error owing is = none-told told error is (grant-effects start es told effects client on rights owing).0.no_error
-  error-named (Revoke client on rights) told effects error owing is = none-told told error is (revoke-effects start es told effects client on rights owing).is_quiet.no_error
-  error-named (OpenQueue client agent size) told effects error owing is = none-told told error is (open-effects start es told effects client agent size owing).is_quiet.no_error
-  error-named (Stop queue) told effects error owing is = none-told told error is (stop-effects start es told effects queue owing).no_error
+  error-named (Call (Grant client on rights)) told effects error owing is = none-told told error is (grant-effects start es told effects client on rights owing).0.no_error
+  error-named (Call (Revoke client on rights)) told effects error owing is = none-told told error is (revoke-effects start es told effects client on rights owing).is_quiet.no_error
+  error-named (Open client agent size) told effects error owing is = none-told told error is (open-effects start es told effects client agent size owing).is_quiet.no_error
+  error-named (Call (Stop queue)) told effects error owing is = none-told told error is (stop-effects start es told effects queue owing).no_error
   error-named (Take queue id bytes) told effects error owing is =
       let decided = take-decided start es told effects queue id bytes owing in
       denied decided.verdict (sym (ap error_of decided.outcome_is) ∙ is)
@@ -342,7 +343,7 @@ module _ (start : Start) (es : List Entry) (legal : IsWhole start es) where
       denied : (verdict : Option Rule) → error_of (elim verdict [ None ↦ outcome.Taken taken.Launched | Some rule ↦ outcome.Taken (taken.Denied (error_without_place queue id.0 rule)) ]) ≡ Some error → named queue id ≡ named error.queue error.packet
       denied None same = absurd cc
       denied (Some rule) same = let e : error_without_place queue id.0 rule ≡ error = cc in ap (λ x. named x.queue x.packet) e
-  error-named (RunNext queue id) told effects error owing is = by_group (run-entered start es told effects queue id owing)
+  error-named (Call (RunNext queue id)) told effects error owing is = by_group (run-entered start es told effects queue id owing)
     where
       by_end : (d : KernelDispatch) (group : ℕ) (result : GroupResult) → GroupWrote start es told effects queue id d group result ⊎ GroupFaulted start es told effects queue id d group result → named queue id ≡ named error.queue error.packet
       by_end d group result (inl ran) = none-told told error is (ap error_of ran.outcome_is)
@@ -357,21 +358,21 @@ module _ (start : Start) (es : List Entry) (legal : IsWhole start es) where
 
       by_group : HasRun start es told effects queue id → named queue id ≡ named error.queue error.packet
       by_group has_run = by_kind has_run.flying.packet (progress start es queue id) has_run.group
-  error-named (Poll queue id) told effects error owing is = by_poll (poll-entered start es told effects queue id owing)
+  error-named (Call (Poll queue id)) told effects error owing is = by_poll (poll-entered start es told effects queue id owing)
     where
       by_poll : HasSeen start es told effects queue id ⊎ HasFailed start es told effects queue id → named queue id ≡ named error.queue error.packet
       by_poll (inl seen) = none-told told error is seen.is_quiet.no_error
       by_poll (inr failed) = ap (λ x. named x.queue x.packet) (failed-error told effects error queue id failed is)
-  error-named (Finish queue id) told effects error owing is = none-told told error is (finish-entered start es told effects queue id owing).no_error
-  error-named (HostWrite client address bytes) told effects error owing is = none-told told error is (write-entered start es told effects client address bytes owing).no_error
+  error-named (Call (Finish queue id)) told effects error owing is = none-told told error is (finish-entered start es told effects queue id owing).no_error
+  error-named (Call (HostWrite client address bytes)) told effects error owing is = none-told told error is (write-entered start es told effects client address bytes owing).no_error
   error-named (Reload rows) told effects error owing is = none-told told error is (reload-effects start es told effects rows owing).is_quiet.no_error
-  error-named (ChangeSignal client signal operation) told effects error owing is = none-told told error is (change-entered start es told effects client signal operation owing).no_error
+  error-named (Call (ChangeSignal client signal operation)) told effects error owing is = none-told told error is (change-entered start es told effects client signal operation owing).no_error
 
   pub fault-released : (event : Event) (told : Outcome) (effects : List Effect) (error : QueueError) → owed start es event ≡ enters told effects → Faults told error → effects ≡ effect.Release error.queue error.packet ∷ []
-  fault-released (Grant client on rights) told effects error owing faults = none-told told error (error-told told error faults) (grant-effects start es told effects client on rights owing).0.no_error
-  fault-released (Revoke client on rights) told effects error owing faults = none-told told error (error-told told error faults) (revoke-effects start es told effects client on rights owing).is_quiet.no_error
-  fault-released (OpenQueue client agent size) told effects error owing faults = none-told told error (error-told told error faults) (open-effects start es told effects client agent size owing).is_quiet.no_error
-  fault-released (Stop queue) told effects error owing faults = none-told told error (error-told told error faults) (stop-effects start es told effects queue owing).no_error
+  fault-released (Call (Grant client on rights)) told effects error owing faults = none-told told error (error-told told error faults) (grant-effects start es told effects client on rights owing).0.no_error
+  fault-released (Call (Revoke client on rights)) told effects error owing faults = none-told told error (error-told told error faults) (revoke-effects start es told effects client on rights owing).is_quiet.no_error
+  fault-released (Open client agent size) told effects error owing faults = none-told told error (error-told told error faults) (open-effects start es told effects client agent size owing).is_quiet.no_error
+  fault-released (Call (Stop queue)) told effects error owing faults = none-told told error (error-told told error faults) (stop-effects start es told effects queue owing).no_error
   fault-released (Take queue id bytes) told effects error owing faults = decided_so (take-decided start es told effects queue id bytes owing).verdict (take-decided start es told effects queue id bytes owing).outcome_is faults
     where
       decided_so : (verdict : Option Rule) → told ≡ (elim verdict [ None ↦ outcome.Taken taken.Launched | Some rule ↦ outcome.Taken (taken.Denied (error_without_place queue id.0 rule)) ]) → Faults told error → effects ≡ effect.Release error.queue error.packet ∷ []
@@ -379,7 +380,7 @@ module _ (start : Start) (es : List Entry) (legal : IsWhole start es) where
       decided_so None is (inr was) = let e : outcome.Taken taken.Launched ≡ outcome.Polled (polled_as.Failed error) = sym is ∙ was in absurd cc
       decided_so (Some rule) is (inl was) = let e : outcome.Taken (taken.Denied (error_without_place queue id.0 rule)) ≡ outcome.Worked (worked.Faulted error) = sym is ∙ was in absurd cc
       decided_so (Some rule) is (inr was) = let e : outcome.Taken (taken.Denied (error_without_place queue id.0 rule)) ≡ outcome.Polled (polled_as.Failed error) = sym is ∙ was in absurd cc
-  fault-released (RunNext queue id) told effects error owing faults = by_group (run-entered start es told effects queue id owing)
+  fault-released (Call (RunNext queue id)) told effects error owing faults = by_group (run-entered start es told effects queue id owing)
     where
       by_end : (d : KernelDispatch) (group : ℕ) (result : GroupResult) → GroupWrote start es told effects queue id d group result ⊎ GroupFaulted start es told effects queue id d group result → effects ≡ effect.Release error.queue error.packet ∷ []
       by_end d group result (inl ran) = none-told told error (error-told told error faults) (ap error_of ran.outcome_is)
@@ -394,12 +395,12 @@ module _ (start : Start) (es : List Entry) (legal : IsWhole start es) where
 
       by_group : HasRun start es told effects queue id → effects ≡ effect.Release error.queue error.packet ∷ []
       by_group has_run = by_kind has_run.flying.packet (progress start es queue id) has_run.group
-  fault-released (Poll queue id) told effects error owing faults = by_poll (poll-entered start es told effects queue id owing)
+  fault-released (Call (Poll queue id)) told effects error owing faults = by_poll (poll-entered start es told effects queue id owing)
     where
       by_poll : HasSeen start es told effects queue id ⊎ HasFailed start es told effects queue id → effects ≡ effect.Release error.queue error.packet ∷ []
       by_poll (inl seen) = none-told told error (error-told told error faults) seen.is_quiet.no_error
       by_poll (inr failed) = failed.effects_are ∙ ap (λ e. effect.Release e.queue e.packet ∷ []) (failed-error told effects error queue id failed (error-told told error faults))
-  fault-released (Finish queue id) told effects error owing faults = none-told told error (error-told told error faults) (finish-entered start es told effects queue id owing).no_error
-  fault-released (HostWrite client address bytes) told effects error owing faults = none-told told error (error-told told error faults) (write-entered start es told effects client address bytes owing).no_error
+  fault-released (Call (Finish queue id)) told effects error owing faults = none-told told error (error-told told error faults) (finish-entered start es told effects queue id owing).no_error
+  fault-released (Call (HostWrite client address bytes)) told effects error owing faults = none-told told error (error-told told error faults) (write-entered start es told effects client address bytes owing).no_error
   fault-released (Reload rows) told effects error owing faults = none-told told error (error-told told error faults) (reload-effects start es told effects rows owing).is_quiet.no_error
-  fault-released (ChangeSignal client signal operation) told effects error owing faults = none-told told error (error-told told error faults) (change-entered start es told effects client signal operation owing).no_error
+  fault-released (Call (ChangeSignal client signal operation)) told effects error owing faults = none-told told error (error-told told error faults) (change-entered start es told effects client signal operation owing).no_error

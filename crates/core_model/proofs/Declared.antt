@@ -23,7 +23,8 @@ use Rattle.policy.specs.Policy.{rules_of}
 use Rattle.policy.specs.Rights.{all_rights, has}
 use Rattle.policy.specs.declared.rights.Right.TheVariants as right
 use Rattle.core_model.specs.declared.event.Event.{Event}
-use Rattle.core_model.specs.declared.event.Event.TheVariants.{Grant, Revoke, OpenQueue, Stop, Take, RunNext, Poll, Finish, HostWrite, ChangeSignal, Reload}
+use Rattle.core_model.specs.declared.event.Event.TheVariants.{Open, Take, Reload, Call}
+use Rattle.core_model.specs.declared.call.Call.TheVariants.{Grant, Revoke, Stop, RunNext, Poll, Finish, HostWrite, ChangeSignal}
 use Rattle.core_model.specs.declared.outcome.Outcome.{Outcome}
 use Rattle.core_model.specs.declared.entry.Effect.{Effect}
 use Rattle.core_model.specs.declared.entry.Entry.{Entry}
@@ -51,17 +52,17 @@ module _ (start : Start) (client : ClientId) (on : Object) (one : Right) where
   either false b is left right_so = right_so is
 
   after : (es : List Entry) (event : Event) (told : Outcome) (effects : List Effect) → owed start es event ≡ enters told effects → (in_force start es client on one ≡ true → Known) → in_force_after client on one (in_force start es client on one) event ≡ true → Known
-  after es (Grant c o rights) told effects owing before now = either _ _ now before (named c o rights (grant-known start es told effects c o rights owing))
-  after es (Revoke c o rights) told effects owing before now = before (and_parts (in_force start es client on one) _ now).0
+  after es (Call (Grant c o rights)) told effects owing before now = either _ _ now before (named c o rights (grant-known start es told effects c o rights owing))
+  after es (Call (Revoke c o rights)) told effects owing before now = before (and_parts (in_force start es client on one) _ now).0
   after es (Reload rows) told effects owing before now = before (and_parts (in_force start es client on one) _ now).0
-  after es (OpenQueue _ _ _) told effects owing before now = before now
-  after es (Stop _) told effects owing before now = before now
+  after es (Open _ _ _) told effects owing before now = before now
+  after es (Call (Stop _)) told effects owing before now = before now
   after es (Take _ _ _) told effects owing before now = before now
-  after es (RunNext _ _) told effects owing before now = before now
-  after es (Poll _ _) told effects owing before now = before now
-  after es (Finish _ _) told effects owing before now = before now
-  after es (HostWrite _ _ _) told effects owing before now = before now
-  after es (ChangeSignal _ _ _) told effects owing before now = before now
+  after es (Call (RunNext _ _)) told effects owing before now = before now
+  after es (Call (Poll _ _)) told effects owing before now = before now
+  after es (Call (Finish _ _)) told effects owing before now = before now
+  after es (Call (HostWrite _ _ _)) told effects owing before now = before now
+  after es (Call (ChangeSignal _ _ _)) told effects owing before now = before now
 
   abbrev KnownAt : List Entry → Type 0
   KnownAt es = in_force start es client on one ≡ true → Known

@@ -14,7 +14,8 @@ use Rattle.regions.specs.Memory.{is_within, region_of}
 use Rattle.signals.specs.declared.operation.Condition.{Condition}
 use Rattle.signals.specs.declared.operation.SignalOp.{SignalOp}
 use Rattle.core_model.specs.declared.entry.Entry.{Entry}
-use Rattle.core_model.specs.declared.event.Event.TheVariants.{OpenQueue, HostWrite, ChangeSignal}
+use Rattle.core_model.specs.declared.event.Event.TheVariants.{Open, Call}
+use Rattle.core_model.specs.declared.call.Call.TheVariants.{HostWrite, ChangeSignal}
 use Rattle.core_model.specs.declared.event.Query.TheVariants as query
 use Rattle.core_model.specs.declared.refusal.Refusal.TheVariants as refusal
 use Rattle.core_model.specs.History.{Start}
@@ -34,15 +35,15 @@ module _ (start : Start) (es : List Entry) (client : ClientId) (known : knows_cl
       by_tests true false lies has = refl
       by_tests false granted lies has = refl
 
-  pub write-denied : (address : Address) (bytes : List ℕ) → is_host_size (length bytes) ≡ true → (MayReach start es client right.Write address.0 (length bytes) → ⊥) → owed start es (HostWrite client address bytes) ≡ refuses (refusal.Denied right.Write)
+  pub write-denied : (address : Address) (bytes : List ℕ) → is_host_size (length bytes) ≡ true → (MayReach start es client right.Write address.0 (length bytes) → ⊥) → owed start es (Call (HostWrite client address bytes)) ≡ refuses (refusal.Denied right.Write)
   unfolding owed
   write-denied address bytes good none = rw (known, good, out-of-reach right.Write address.0 (length bytes) none) refl
 
-  pub change-denied : (signal : SignalHandle) (operation : SignalOp) → in_force start es client (object.Signal signal) right.Change ≡ false → owed start es (ChangeSignal client signal operation) ≡ refuses (refusal.Denied right.Change)
+  pub change-denied : (signal : SignalHandle) (operation : SignalOp) → in_force start es client (object.Signal signal) right.Change ≡ false → owed start es (Call (ChangeSignal client signal operation)) ≡ refuses (refusal.Denied right.Change)
   unfolding owed
   change-denied signal operation none = rw (known, none) refl
 
-  pub opening-denied : (agent : AgentHandle) (size : ℕ) → in_force start es client (object.Agent agent) right.Use ≡ false → owed start es (OpenQueue client agent size) ≡ refuses (refusal.Denied right.Use)
+  pub opening-denied : (agent : AgentHandle) (size : ℕ) → in_force start es client (object.Agent agent) right.Use ≡ false → owed start es (Open client agent size) ≡ refuses (refusal.Denied right.Use)
   unfolding owed
   opening-denied agent size none = rw (known, none) refl
 

@@ -29,7 +29,8 @@ use Rattle.signals.specs.Values.{applied, value_of}
 use Rattle.signals.specs.declared.operation.SignalOp.{SignalOp}
 use Rattle.queue_error.specs.declared.rule.Rule.{Rule}
 use Rattle.queue_error.specs.declared.rule.Rule.TheVariants.{B1}
-use Rattle.core_model.specs.declared.event.Event.TheVariants.{Grant, Revoke, OpenQueue, Stop, Take, RunNext, Poll, Finish, HostWrite, ChangeSignal, Reload}
+use Rattle.core_model.specs.declared.event.Event.TheVariants.{Open, Take, Reload, Call}
+use Rattle.core_model.specs.declared.call.Call.TheVariants.{Grant, Revoke, Stop, RunNext, Poll, Finish, HostWrite, ChangeSignal}
 use Rattle.core_model.specs.declared.outcome.WaitCause.{WaitCause}
 use Rattle.core_model.specs.declared.outcome.Outcome.{Outcome}
 use Rattle.core_model.specs.declared.outcome.Outcome.TheVariants as outcome
@@ -86,7 +87,7 @@ module _ (start : Start) (es : List Entry) (told : Outcome) (effects : List Effe
 
   -- ---- a grant, a revocation, an opening change nothing
 
-  pub grant-effects : (client : ClientId) (on : Object) (rights : Rights) → owed start es (Grant client on rights) ≡ enters told effects → IsQuiet × (are_allowed (rules_of (policy_at start es)) client on rights ≡ true)
+  pub grant-effects : (client : ClientId) (on : Object) (rights : Rights) → owed start es (Call (Grant client on rights)) ≡ enters told effects → IsQuiet × (are_allowed (rules_of (policy_at start es)) client on rights ≡ true)
   unfolding owed
   grant-effects client on rights owing =
       let one = refuse_unless-passed (knows_client (rules_of start.policy) client) _ _ told effects owing in
@@ -94,7 +95,7 @@ module _ (start : Start) (es : List Entry) (told : Outcome) (effects : List Effe
       let three = refuse_unless-passed (are_allowed (rules_of (policy_at start es)) client on rights) _ _ told effects two.rest_is in
       (quiet outcome.Accepted refl three.rest_is, three.test_is)
 
-  pub grant-known : (client : ClientId) (on : Object) (rights : Rights) → owed start es (Grant client on rights) ≡ enters told effects → knows_object (rules_of start.policy) on ≡ true
+  pub grant-known : (client : ClientId) (on : Object) (rights : Rights) → owed start es (Call (Grant client on rights)) ≡ enters told effects → knows_object (rules_of start.policy) on ≡ true
   unfolding owed
   grant-known client on rights owing =
       let one = refuse_unless-passed (knows_client (rules_of start.policy) client) _ _ told effects owing in
@@ -109,7 +110,7 @@ module _ (start : Start) (es : List Entry) (told : Outcome) (effects : List Effe
   unheld-passed None rest same = (refl, same)
   unheld-passed (Some f) rest same = absurd cc
 
-  pub revoke-effects : (client : ClientId) (on : Object) (rights : Rights) → owed start es (Revoke client on rights) ≡ enters told effects → Revoked client on rights
+  pub revoke-effects : (client : ClientId) (on : Object) (rights : Rights) → owed start es (Call (Revoke client on rights)) ≡ enters told effects → Revoked client on rights
   unfolding owed
   revoke-effects client on rights owing =
       let one = refuse_unless-passed (knows_client (rules_of start.policy) client) _ _ told effects owing in
@@ -134,7 +135,7 @@ module _ (start : Start) (es : List Entry) (told : Outcome) (effects : List Effe
     pub granted : in_force start es client (object.Agent agent) right.Use ≡ true
     pub outcome_is : told ≡ outcome.Opened (record { 0 = length (openings start es) + 1 })
 
-  pub open-effects : (client : ClientId) (agent : AgentHandle) (size : ℕ) → owed start es (OpenQueue client agent size) ≡ enters told effects → HasOpened client agent
+  pub open-effects : (client : ClientId) (agent : AgentHandle) (size : ℕ) → owed start es (Open client agent size) ≡ enters told effects → HasOpened client agent
   unfolding owed
   open-effects client agent size owing =
       let one = refuse_unless-passed (knows_client (rules_of start.policy) client) _ _ told effects owing in
@@ -150,7 +151,7 @@ module _ (start : Start) (es : List Entry) (told : Outcome) (effects : List Effe
     pub outcome_is : told ≡ outcome.Accepted
     pub no_error : error_of told ≡ None
 
-  pub stop-effects : (queue : QueueId) → owed start es (Stop queue) ≡ enters told effects → HasStopped queue
+  pub stop-effects : (queue : QueueId) → owed start es (Call (Stop queue)) ≡ enters told effects → HasStopped queue
   unfolding owed
   stop-effects queue owing =
       let found = for_some-found (owner start es queue) _ _ told effects owing in
@@ -267,7 +268,7 @@ module _ (start : Start) (es : List Entry) (told : Outcome) (effects : List Effe
     pub owed_is : owed_group start es queue id (given_at_launch start es queue id) flying.packet (progress start es queue id) ≡ enters told effects
     pub group : GroupRan flying.packet (progress start es queue id) ⊎ KernelRan queue id (given_at_launch start es queue id) flying.packet (progress start es queue id)
 
-  pub run-entered : (queue : QueueId) (id : PacketId) → owed start es (RunNext queue id) ≡ enters told effects → HasRun queue id
+  pub run-entered : (queue : QueueId) (id : PacketId) → owed start es (Call (RunNext queue id)) ≡ enters told effects → HasRun queue id
   unfolding owed
   run-entered queue id owing =
       let own = given_at_launch start es queue id in
@@ -325,7 +326,7 @@ module _ (start : Start) (es : List Entry) (told : Outcome) (effects : List Effe
       ready false true looked same = inr (record { flying = f; found = found; effects_are = cc; outcome_is = cc; negative = looked })
       ready false false looked same = inl (some_seen (list_any (λ at. at) new.0) refl looked (either (is_ready f.packet (satisfied_by_either satisfied new))) same)
 
-  pub poll-entered : (queue : QueueId) (id : PacketId) → owed start es (Poll queue id) ≡ enters told effects → HasSeen queue id ⊎ HasFailed queue id
+  pub poll-entered : (queue : QueueId) (id : PacketId) → owed start es (Call (Poll queue id)) ≡ enters told effects → HasSeen queue id ⊎ HasFailed queue id
   unfolding owed
   poll-entered queue id owing =
       let there = flying-found queue id (owed_poll (signals start es) queue id) owing in
@@ -341,7 +342,7 @@ module _ (start : Start) (es : List Entry) (told : Outcome) (effects : List Effe
     pub no_error : error_of told ≡ None
     pub effects_are : effects ≡ signal_decrement (signals start es) (completion_signal flying.packet) ++ effect.Release queue id ∷ []
 
-  pub finish-entered : (queue : QueueId) (id : PacketId) → owed start es (Finish queue id) ≡ enters told effects → Completed queue id
+  pub finish-entered : (queue : QueueId) (id : PacketId) → owed start es (Call (Finish queue id)) ≡ enters told effects → Completed queue id
   unfolding owed
   finish-entered queue id owing =
       let there = flying-found queue id (owed_finish (signals start es) queue id) owing in
@@ -360,7 +361,7 @@ module _ (start : Start) (es : List Entry) (told : Outcome) (effects : List Effe
     pub whole : is_within (region_lengths start.policy) address.0 (length bytes) ≡ true
     pub granted : in_force start es client (object.Region (record { 0 = region_of address.0 })) right.Write ≡ true
 
-  pub write-entered : (client : ClientId) (address : Address) (bytes : List ℕ) → owed start es (HostWrite client address bytes) ≡ enters told effects → HostWrote client address bytes
+  pub write-entered : (client : ClientId) (address : Address) (bytes : List ℕ) → owed start es (Call (HostWrite client address bytes)) ≡ enters told effects → HostWrote client address bytes
   unfolding owed
   write-entered client address bytes owing =
       let one = refuse_unless-passed (knows_client (rules_of start.policy) client) _ _ told effects owing in
@@ -379,7 +380,7 @@ module _ (start : Start) (es : List Entry) (told : Outcome) (effects : List Effe
     pub granted : in_force start es client (object.Signal signal) right.Change ≡ true
     pub effects_are : effects ≡ effect.Signal signal old (applied operation old) ∷ []
 
-  pub change-entered : (client : ClientId) (signal : SignalHandle) (operation : SignalOp) → owed start es (ChangeSignal client signal operation) ≡ enters told effects → ClientChanged client signal operation
+  pub change-entered : (client : ClientId) (signal : SignalHandle) (operation : SignalOp) → owed start es (Call (ChangeSignal client signal operation)) ≡ enters told effects → ClientChanged client signal operation
   unfolding owed
   change-entered client signal operation owing =
       let one = refuse_unless-passed (knows_client (rules_of start.policy) client) _ _ told effects owing in

@@ -23,7 +23,8 @@ use Rattle.policy.specs.declared.rights.Right.TheVariants as right
 use Rattle.queue_error.specs.declared.rule.Rule.{Rule}
 use Rattle.queue_error.specs.declared.rule.Rule.TheVariants as rule
 use Rattle.core_model.specs.declared.event.Event.{Event}
-use Rattle.core_model.specs.declared.event.Event.TheVariants.{Grant, Revoke, OpenQueue, Stop, Take, RunNext, Poll, Finish, HostWrite, ChangeSignal, Reload}
+use Rattle.core_model.specs.declared.event.Event.TheVariants.{Open, Take, Reload, Call}
+use Rattle.core_model.specs.declared.call.Call.TheVariants.{Grant, Revoke, Stop, RunNext, Poll, Finish, HostWrite, ChangeSignal}
 use Rattle.core_model.specs.declared.outcome.Outcome.TheVariants as outcome
 use Rattle.core_model.specs.declared.outcome.Taken.TheVariants.{Launched}
 use Rattle.core_model.specs.declared.entry.Effect.{Effect}
@@ -272,12 +273,12 @@ module _ (start : Start) (es : List Entry) (e : Entry) where
 
   -- what an event does to rights in force that are held by none that it names
   kept-by : IsWhole start es → (event : Event) (f : InFlight) (h : HoldsNow start es f) → ((rows : PolicyRows) → event ≡ Reload rows → holds_denied start es rows f ≡ false) →
-      ((client : ClientId) (on : Object) (rights : Rights) → event ≡ Revoke client on rights → holds_one_of start es client on rights f ≡ false) →
+      ((client : ClientId) (on : Object) (rights : Rights) → event ≡ Call (Revoke client on rights) → holds_one_of start es client on rights f ≡ false) →
       All (λ g. in_force_after h.launch.opening.client g.0 g.1 (in_force start es h.launch.opening.client g.0 g.1) event ≡ true) (rights_at_launch start h.launch.before h.launch.opening f.packet)
-  kept-by legal (Grant c o rights) f h free none =
+  kept-by legal (Call (Grant c o rights)) f h free none =
       All-weaker (λ g. in_force start es h.launch.opening.client g.0 g.1 ≡ true) (λ g. (in_force start es h.launch.opening.client g.0 g.1 || is_one_of h.launch.opening.client g.0 g.1 c o rights) ≡ true)
       (λ g is. rw is refl) (rights_at_launch start h.launch.before h.launch.opening f.packet) h.granted
-  kept-by legal (Revoke c o rights) f h free none =
+  kept-by legal (Call (Revoke c o rights)) f h free none =
       unnamed-stay h.launch.opening.client c o rights (in_force start es h.launch.opening.client) (rights_at_launch start h.launch.before h.launch.opening f.packet)
       (sym (any-own (h.launch.opening.client.0 == c.0) (is_among (rights_at_launch start h.launch.before h.launch.opening f.packet) o) all_rights)
       ∙ sym (λ i. list_any (λ one. has rights one && h.held_is c o one i) all_rights) ∙ none c o rights refl) h.granted
@@ -285,14 +286,14 @@ module _ (start : Start) (es : List Entry) (e : Entry) where
       any-own : (own : Bool) (test : Right → Bool) (all : List Right) → list_any (λ one. has rights one && (own && test one)) all ≡ (own && list_any (λ one. has rights one && test one) all)
       any-own own test [] = grind arith
       any-own own test (one ∷ more) = grind (arith, any-own own test more)
-  kept-by legal (OpenQueue _ _ _) f h free none = h.granted
-  kept-by legal (Stop _) f h free none = h.granted
+  kept-by legal (Open _ _ _) f h free none = h.granted
+  kept-by legal (Call (Stop _)) f h free none = h.granted
   kept-by legal (Take _ _ _) f h free none = h.granted
-  kept-by legal (RunNext _ _) f h free none = h.granted
-  kept-by legal (Poll _ _) f h free none = h.granted
-  kept-by legal (Finish _ _) f h free none = h.granted
-  kept-by legal (HostWrite _ _ _) f h free none = h.granted
-  kept-by legal (ChangeSignal _ _ _) f h free none = h.granted
+  kept-by legal (Call (RunNext _ _)) f h free none = h.granted
+  kept-by legal (Call (Poll _ _)) f h free none = h.granted
+  kept-by legal (Call (Finish _ _)) f h free none = h.granted
+  kept-by legal (Call (HostWrite _ _ _)) f h free none = h.granted
+  kept-by legal (Call (ChangeSignal _ _ _)) f h free none = h.granted
   kept-by legal (Reload rows) f h free none = λ k d below.
       let g = get_or (rights_at_launch start h.launch.before h.launch.opening f.packet) k d in
       allowed g (h.granted k d below) (all-among (rights_at_launch start h.launch.before h.launch.opening f.packet) k d below) (rows_allow rows h.launch.opening.client g.0 g.1) refl
@@ -320,7 +321,7 @@ module _ (start : Start) (es : List Entry) (e : Entry) where
           absurd cc
 
   -- a revocation that was made names nothing that a packet in flight holds
-  unheld : owed start es e.event ≡ enters e.outcome e.effects → (client : ClientId) (on : Object) (rights : Rights) → e.event ≡ Revoke client on rights →
+  unheld : owed start es e.event ≡ enters e.outcome e.effects → (client : ClientId) (on : Object) (rights : Rights) → e.event ≡ Call (Revoke client on rights) →
       All (λ f. holds_one_of start es client on rights f ≡ false) (flight start es)
   unheld owing client on rights is =
       let revoked = revoke-effects start es e.outcome e.effects client on rights (rw is at owing) in

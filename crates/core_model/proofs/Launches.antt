@@ -8,7 +8,8 @@ use Rattle.std.proofs.lemmas.List.Folds.{list_any-append}
 use Rattle.aql_packet.specs.declared.ids.QueueId.{QueueId}
 use Rattle.aql_packet.specs.declared.ids.PacketId.{PacketId}
 use Rattle.core_model.specs.declared.event.Event.{Event}
-use Rattle.core_model.specs.declared.event.Event.TheVariants.{Grant, Revoke, OpenQueue, Stop, Take, RunNext, Poll, Finish, HostWrite, ChangeSignal, Reload}
+use Rattle.core_model.specs.declared.event.Event.TheVariants.{Open, Take, Reload, Call}
+use Rattle.core_model.specs.declared.call.Call.TheVariants.{Grant, Revoke, Stop, RunNext, Poll, Finish, HostWrite, ChangeSignal}
 use Rattle.core_model.specs.declared.outcome.Outcome.{Outcome}
 use Rattle.core_model.specs.declared.outcome.Outcome.TheVariants as outcome
 use Rattle.core_model.specs.declared.outcome.Taken.TheVariants.{Launched, Denied, Waiting}
@@ -90,15 +91,15 @@ launched_by-is (Take q i bytes) (outcome.Opened _) f is = absurd (cc)
 launched_by-is (Take q i bytes) (outcome.Worked _) f is = absurd (cc)
 launched_by-is (Take q i bytes) (outcome.Polled _) f is = absurd (cc)
 launched_by-is (Take q i bytes) (outcome.Changed _) f is = absurd (cc)
-launched_by-is (Grant _ _ _) told f is = absurd (cc)
-launched_by-is (Revoke _ _ _) told f is = absurd (cc)
-launched_by-is (OpenQueue _ _ _) told f is = absurd (cc)
-launched_by-is (Stop _) told f is = absurd (cc)
-launched_by-is (RunNext _ _) told f is = absurd (cc)
-launched_by-is (Poll _ _) told f is = absurd (cc)
-launched_by-is (Finish _ _) told f is = absurd (cc)
-launched_by-is (HostWrite _ _ _) told f is = absurd (cc)
-launched_by-is (ChangeSignal _ _ _) told f is = absurd (cc)
+launched_by-is (Call (Grant _ _ _)) told f is = absurd (cc)
+launched_by-is (Call (Revoke _ _ _)) told f is = absurd (cc)
+launched_by-is (Open _ _ _) told f is = absurd (cc)
+launched_by-is (Call (Stop _)) told f is = absurd (cc)
+launched_by-is (Call (RunNext _ _)) told f is = absurd (cc)
+launched_by-is (Call (Poll _ _)) told f is = absurd (cc)
+launched_by-is (Call (Finish _ _)) told f is = absurd (cc)
+launched_by-is (Call (HostWrite _ _ _)) told f is = absurd (cc)
+launched_by-is (Call (ChangeSignal _ _ _)) told f is = absurd (cc)
 launched_by-is (Reload _) told f is = absurd (cc)
 
 -- whether some entry launches a packet

@@ -14,7 +14,8 @@ use Rattle.kernel_check.specs.Programs.{Program}
 use Rattle.policy.specs.Policy.{Declared, rules_of}
 use Rattle.queue_error.specs.declared.error.QueueError.{QueueError}
 use Rattle.core_model.specs.declared.event.Event.{Event}
-use Rattle.core_model.specs.declared.event.Event.TheVariants.{Grant, Revoke, OpenQueue, Stop, Take, RunNext, Poll, Finish, HostWrite, ChangeSignal, Reload}
+use Rattle.core_model.specs.declared.event.Event.TheVariants.{Open, Take, Reload, Call}
+use Rattle.core_model.specs.declared.call.Call.TheVariants.{Grant, Revoke, Stop, RunNext, Poll, Finish, HostWrite, ChangeSignal}
 use Rattle.core_model.specs.declared.event.Request.{Request}
 use Rattle.core_model.specs.declared.event.Request.TheVariants as request
 use Rattle.core_model.specs.declared.outcome.Outcome.{Outcome}
@@ -110,15 +111,15 @@ module _ (history : History) (room : HasRoom history) where
   left-out : (queue : QueueId) (id : PacketId) (f : InFlight) → in_flight (beginning history) history.entries queue id ≡ Some f → length (filter (λ g. not (is_packet queue id g)) flying) + 1 ≤ length flying
   left-out queue id f found = fewer (is_packet queue id) (λ g. not (is_packet queue id g)) flying f found (ap not (found-passes (is_packet queue id) flying f found))
 
-  pub finish-finds : (queue : QueueId) (id : PacketId) → FindsRoom history (Finish queue id)
-  finish-finds queue id = finds-by (Finish queue id) so
+  pub finish-finds : (queue : QueueId) (id : PacketId) → FindsRoom history (Call (Finish queue id))
+  finish-finds queue id = finds-by (Call (Finish queue id)) so
     where
-      so : (told : Outcome) (effects : List Effect) → owed (beginning history) history.entries (Finish queue id) ≡ enters told effects → FindsRoom history (Finish queue id)
+      so : (told : Outcome) (effects : List Effect) → owed (beginning history) history.entries (Call (Finish queue id)) ≡ enters told effects → FindsRoom history (Call (Finish queue id))
       so told effects owing =
           let done = finish-entered (beginning history) history.entries told effects queue id owing in
           let out = left-out queue id done.flying done.found in
-          let left : flight_after flying (entry_of (Finish queue id) told effects) ≡ filter (λ g. not (is_packet queue id g)) flying = ap (fold flight_after_effect flying) done.effects_are ∙ completed _ _ queue id flying in
-          finds (Finish queue id) told effects owing (subst (λ (fs : List InFlight). length fs + 1 ≤ length flying) (sym left) out)
+          let left : flight_after flying (entry_of (Call (Finish queue id)) told effects) ≡ filter (λ g. not (is_packet queue id g)) flying = ap (fold flight_after_effect flying) done.effects_are ∙ completed _ _ queue id flying in
+          finds (Call (Finish queue id)) told effects owing (subst (λ (fs : List InFlight). length fs + 1 ≤ length flying) (sym left) out)
 
   -- a group that is owed a fault releases its packet
   faulted-group : (told : Outcome) (effects : List Effect) (error : QueueError) (queue : QueueId) (id : PacketId) → told ≡ outcome.Worked (worked.Faulted error) → HasRun (beginning history) history.entries told effects queue id → effects ≡ effect.Release queue id ∷ []
@@ -135,33 +136,33 @@ module _ (history : History) (room : HasRoom history) where
       by_kind (inl ran) = other _ _ ran.outcome_is
       by_kind {p} {so_far} (inr ran) = by_end ran.dispatch so_far.groups_run _ (kernel-ended (beginning history) history.entries told effects queue id ran.dispatch so_far.groups_run _ ran.owed_is)
 
-  pub fault-finds : (queue : QueueId) (id : PacketId) (error : QueueError) (effects : List Effect) → owed (beginning history) history.entries (RunNext queue id) ≡ enters (outcome.Worked (worked.Faulted error)) effects → FindsRoom history (RunNext queue id)
+  pub fault-finds : (queue : QueueId) (id : PacketId) (error : QueueError) (effects : List Effect) → owed (beginning history) history.entries (Call (RunNext queue id)) ≡ enters (outcome.Worked (worked.Faulted error)) effects → FindsRoom history (Call (RunNext queue id))
   fault-finds queue id error effects owing =
       let done = run-entered (beginning history) history.entries (outcome.Worked (worked.Faulted error)) effects queue id owing in
       let out = left-out queue id done.flying done.found in
-      let left : flight_after flying (entry_of (RunNext queue id) (outcome.Worked (worked.Faulted error)) effects) ≡ filter (λ g. not (is_packet queue id g)) flying =
+      let left : flight_after flying (entry_of (Call (RunNext queue id)) (outcome.Worked (worked.Faulted error)) effects) ≡ filter (λ g. not (is_packet queue id g)) flying =
       ap (fold flight_after_effect flying) (faulted-group _ effects error queue id refl done) in
-      finds (RunNext queue id) _ effects owing (subst (λ (fs : List InFlight). length fs + 1 ≤ length flying) (sym left) out)
+      finds (Call (RunNext queue id)) _ effects owing (subst (λ (fs : List InFlight). length fs + 1 ≤ length flying) (sym left) out)
 
-  pub failure-finds : (queue : QueueId) (id : PacketId) (error : QueueError) (effects : List Effect) → owed (beginning history) history.entries (Poll queue id) ≡ enters (outcome.Polled (polled_as.Failed error)) effects → FindsRoom history (Poll queue id)
+  pub failure-finds : (queue : QueueId) (id : PacketId) (error : QueueError) (effects : List Effect) → owed (beginning history) history.entries (Call (Poll queue id)) ≡ enters (outcome.Polled (polled_as.Failed error)) effects → FindsRoom history (Call (Poll queue id))
   failure-finds queue id error effects owing = by_end (poll-entered (beginning history) history.entries (outcome.Polled (polled_as.Failed error)) effects queue id owing)
     where
-      by_end : HasSeen (beginning history) history.entries (outcome.Polled (polled_as.Failed error)) effects queue id ⊎ HasFailed (beginning history) history.entries (outcome.Polled (polled_as.Failed error)) effects queue id → FindsRoom history (Poll queue id)
+      by_end : HasSeen (beginning history) history.entries (outcome.Polled (polled_as.Failed error)) effects queue id ⊎ HasFailed (beginning history) history.entries (outcome.Polled (polled_as.Failed error)) effects queue id → FindsRoom history (Call (Poll queue id))
       by_end (inl seen) = let e : Some error ≡ None = seen.is_quiet.no_error in absurd cc
       by_end (inr failed) =
           let out = left-out queue id failed.flying failed.found in
-          let left : flight_after flying (entry_of (Poll queue id) (outcome.Polled (polled_as.Failed error)) effects) ≡ filter (λ g. not (is_packet queue id g)) flying = ap (fold flight_after_effect flying) failed.effects_are in
-          finds (Poll queue id) _ effects owing (subst (λ (fs : List InFlight). length fs + 1 ≤ length flying) (sym left) out)
+          let left : flight_after flying (entry_of (Call (Poll queue id)) (outcome.Polled (polled_as.Failed error)) effects) ≡ filter (λ g. not (is_packet queue id g)) flying = ap (fold flight_after_effect flying) failed.effects_are in
+          finds (Call (Poll queue id)) _ effects owing (subst (λ (fs : List InFlight). length fs + 1 ≤ length flying) (sym left) out)
 
-  pub stop-finds : (queue : QueueId) (barrier : PacketId) → barrier_in (flight_of (beginning history) history.entries queue) ≡ Some barrier → FindsRoom history (Stop queue)
-  stop-finds queue barrier some = finds-by (Stop queue) so
+  pub stop-finds : (queue : QueueId) (barrier : PacketId) → barrier_in (flight_of (beginning history) history.entries queue) ≡ Some barrier → FindsRoom history (Call (Stop queue))
+  stop-finds queue barrier some = finds-by (Call (Stop queue)) so
     where
-      so : (told : Outcome) (effects : List Effect) → owed (beginning history) history.entries (Stop queue) ≡ enters told effects → FindsRoom history (Stop queue)
+      so : (told : Outcome) (effects : List Effect) → owed (beginning history) history.entries (Call (Stop queue)) ≡ enters told effects → FindsRoom history (Call (Stop queue))
       so told effects owing =
           let done = stop-effects (beginning history) history.entries told effects queue owing in
           let out = fewer-named (λ f. is_barrier f.packet) queue barrier flying some in
-          let left : flight_after flying (entry_of (Stop queue) told effects) ≡ filter (λ g. not (is_packet queue barrier g)) flying = ap (fold flight_after_effect flying) (done.effects_are ∙ ap (release_of queue) some) in
-          finds (Stop queue) told effects owing (subst (λ (fs : List InFlight). length fs + 1 ≤ length flying) (sym left) out)
+          let left : flight_after flying (entry_of (Call (Stop queue)) told effects) ≡ filter (λ g. not (is_packet queue barrier g)) flying = ap (fold flight_after_effect flying) (done.effects_are ∙ ap (release_of queue) some) in
+          finds (Call (Stop queue)) told effects owing (subst (λ (fs : List InFlight). length fs + 1 ≤ length flying) (sym left) out)
 
 -- ---- nothing is owed a refusal for want of room
 
@@ -247,19 +248,19 @@ revoke-never (Some f) same = absurd cc
 
 pub never-owed : (start : Start) (entries : List Entry) (event : Event) → owed start entries event ≡ refuses refusal.AuditFull → ⊥
 unfolding owed
-never-owed start entries (Grant client on rights) is =
+never-owed start entries (Call (Grant client on rights)) is =
     unless-never (knows_client (rules_of start.policy) client) refusal.UnknownClient _ (λ e. absurd cc)
     (unless-never (knows_object (rules_of start.policy) on) refusal.UnknownObject _ (λ e. absurd cc)
     (unless-never (are_allowed (rules_of (policy_at start entries)) client on rights) refusal.NotAllowed _ (λ e. absurd cc) (entered-never outcome.Accepted []))) is
-never-owed start entries (Revoke client on rights) is =
+never-owed start entries (Call (Revoke client on rights)) is =
     unless-never (knows_client (rules_of start.policy) client) refusal.UnknownClient _ (λ e. absurd cc)
     (unless-never (knows_object (rules_of start.policy) on) refusal.UnknownObject _ (λ e. absurd cc) (revoke-never (holder start entries client on rights))) is
-never-owed start entries (OpenQueue client agent size) is =
+never-owed start entries (Open client agent size) is =
     unless-never (knows_client (rules_of start.policy) client) refusal.UnknownClient _ (λ e. absurd cc)
     (unless-never (in_force start entries client (object.Agent agent) right.Use) (refusal.Denied right.Use) _ (λ e. absurd cc)
     (unless-never (is_ring_size size) refusal.BadSize _ (λ e. absurd cc)
     (if-never (nat_le QUEUES (length (openings start entries))) refusal.TooMany _ (λ e. absurd cc) (entered-never _ [])))) is
-never-owed start entries (Stop queue) is = by_owner (owner start entries queue) is
+never-owed start entries (Call (Stop queue)) is = by_owner (owner start entries queue) is
   where
     by_owner : (o : Option Opening) → for_some o (refuses refusal.UnknownQueue) (λ opening.
         if is_stopped start entries queue then refuses refusal.QueueDown else enters outcome.Accepted (release_of queue (barrier_in (flight_of start entries queue)))) ≡ refuses refusal.AuditFull → ⊥
@@ -272,14 +273,14 @@ never-owed start entries (Take queue id bytes) is = by_owner (owner start entrie
     by_owner (Some opening) is =
         take-never (is_down start entries queue) (id.0 == next_id start entries queue) (next_id start entries queue) _
         (verdict-never queue id.0 (cause_to_wait (map (λ (f : InFlight). f.packet) (flight_of start entries queue)) (barrier_bit bytes)) (first_failing_rule (facts_of start entries opening) bytes)) is
-never-owed start entries (RunNext queue id) is = packet-never start entries queue id _ (group-never start entries queue id (given_at_launch start entries queue id)) is
-never-owed start entries (Poll queue id) is = packet-never start entries queue id _ (poll-never (signals start entries) queue id) is
-never-owed start entries (Finish queue id) is = packet-never start entries queue id _ (finish-never (signals start entries) queue id) is
-never-owed start entries (HostWrite client address bytes) is =
+never-owed start entries (Call (RunNext queue id)) is = packet-never start entries queue id _ (group-never start entries queue id (given_at_launch start entries queue id)) is
+never-owed start entries (Call (Poll queue id)) is = packet-never start entries queue id _ (poll-never (signals start entries) queue id) is
+never-owed start entries (Call (Finish queue id)) is = packet-never start entries queue id _ (finish-never (signals start entries) queue id) is
+never-owed start entries (Call (HostWrite client address bytes)) is =
     unless-never (knows_client (rules_of start.policy) client) refusal.UnknownClient _ (λ e. absurd cc)
     (unless-never (is_host_size (length bytes)) refusal.BadSize _ (λ e. absurd cc)
     (unless-never (in_force_on_range start entries client right.Write address.0 (length bytes)) (refusal.Denied right.Write) _ (λ e. absurd cc) (entered-never _ _))) is
-never-owed start entries (ChangeSignal client signal operation) is =
+never-owed start entries (Call (ChangeSignal client signal operation)) is =
     unless-never (knows_client (rules_of start.policy) client) refusal.UnknownClient _ (λ e. absurd cc)
     (unless-never (in_force start entries client (object.Signal signal) right.Change) (refusal.Denied right.Change) _ (λ e. absurd cc) (by_value (value_of (signals start entries) signal.0))) is
   where

@@ -27,7 +27,8 @@ use Rattle.queue_error.specs.declared.rule.Rule.{Rule}
 use Rattle.core_model.specs.declared.answer.Answer.{Answer}
 use Rattle.core_model.specs.declared.answer.Answer.TheVariants as answer
 use Rattle.core_model.specs.declared.event.Query.TheVariants as query
-use Rattle.core_model.specs.declared.event.Event.TheVariants.{Take, RunNext}
+use Rattle.core_model.specs.declared.event.Event.TheVariants.{Take, Call}
+use Rattle.core_model.specs.declared.call.Call.TheVariants.{RunNext}
 use Rattle.core_model.specs.declared.outcome.Outcome.{Outcome}
 use Rattle.core_model.specs.declared.outcome.Outcome.TheVariants as outcome
 use Rattle.core_model.specs.declared.outcome.Taken.TheVariants as taken
@@ -112,7 +113,7 @@ all-both P Q R each [] ps qs = All-nil R
 all-both P Q R each (x ∷ xs) ps qs = All-cons R x xs (each x (All-head P x xs ps) (All-head Q x xs qs)) (all-both P Q R each xs (All-tail P x xs ps) (All-tail Q x xs qs))
 
 -- a packet whose group runs is in flight, and may read what its work reads
-pub group-reads : (start : Start) (es : List Entry) (told : Outcome) (effects : List Effect) (queue : QueueId) (id : PacketId) → IsWhole start es → owed start es (RunNext queue id) ≡ enters told effects →
+pub group-reads : (start : Start) (es : List Entry) (told : Outcome) (effects : List Effect) (queue : QueueId) (id : PacketId) → IsWhole start es → owed start es (Call (RunNext queue id)) ≡ enters told effects →
     (s : InFlightSince start es queue id) × All (MayReachRange start s.launch.before s.launch.opening.client right.Read) (ranges_seen start (own_rights start es queue id) s.flying.packet)
 group-reads start es told effects queue id legal owing =
     let ran = run-entered start es told effects queue id owing in
@@ -136,7 +137,7 @@ group-reads start es told effects queue id legal owing =
         (filter-passes (λ region. has region.rights right.Read) (held_regions start hs)))
 
 -- what a group of a kernel dispatch comes to is its meaning, on what its packet holds
-pub group-means : (start : Start) (es : List Entry) (told : Outcome) (effects : List Effect) (queue : QueueId) (id : PacketId) (f : InFlight) → owed start es (RunNext queue id) ≡ enters told effects →
+pub group-means : (start : Start) (es : List Entry) (told : Outcome) (effects : List Effect) (queue : QueueId) (id : PacketId) (f : InFlight) → owed start es (Call (RunNext queue id)) ≡ enters told effects →
     in_flight start es queue id ≡ Some f → owed_group start es queue id (given_at_launch start es queue id) f.packet (progress start es queue id) ≡ enters told effects
 group-means start es told effects queue id f owing found =
     let ran = run-entered start es told effects queue id owing in
@@ -145,7 +146,7 @@ group-means start es told effects queue id f owing found =
     subst (λ (g : InFlight). owed_group start es queue id (given_at_launch start es queue id) g.packet (progress start es queue id) ≡ enters told effects) same ran.owed_is
 
 -- what a group of an agent dispatch changes is what its dispatch writes
-pub group-effects : (start : Start) (es : List Entry) (told : Outcome) (effects : List Effect) (queue : QueueId) (id : PacketId) (f : InFlight) (d : AgentDispatch) → owed start es (RunNext queue id) ≡ enters told effects →
+pub group-effects : (start : Start) (es : List Entry) (told : Outcome) (effects : List Effect) (queue : QueueId) (id : PacketId) (f : InFlight) (d : AgentDispatch) → owed start es (Call (RunNext queue id)) ≡ enters told effects →
     in_flight start es queue id ≡ Some f → f.packet ≡ packet.Agent d → effects ≡ agent_writes start es d
 group-effects start es told effects queue id f d owing found is =
     let ran = run-entered start es told effects queue id owing in

@@ -8,7 +8,8 @@ use Rattle.aql_packet.specs.declared.ids.QueueId.{QueueId}
 use Rattle.core_model.specs.declared.entry.Entry.{Entry}
 use Rattle.core_model.specs.declared.entry.Effect.{Effect}
 use Rattle.core_model.specs.declared.event.Event.{Event}
-use Rattle.core_model.specs.declared.event.Event.TheVariants.{Grant, Revoke, OpenQueue, Stop, Take, RunNext, Poll, Finish, HostWrite, ChangeSignal, Reload}
+use Rattle.core_model.specs.declared.event.Event.TheVariants.{Open, Take, Reload, Call}
+use Rattle.core_model.specs.declared.call.Call.TheVariants.{Grant, Revoke, Stop, RunNext, Poll, Finish, HostWrite, ChangeSignal}
 use Rattle.core_model.specs.declared.outcome.Outcome.{Outcome}
 use Rattle.core_model.specs.declared.served.Served.{Served}
 use Rattle.core_model.specs.History.{Start}
@@ -34,15 +35,15 @@ is_next s before queue (Take q id bytes) told effects t owing is = by_test (q.0 
         let which : id.0 ≡ t.id.0 = ap (λ (o : Option Served). elim o [ None ↦ 0 | Some one ↦ one.id.0 ]) now in
         subst (λ (of : QueueId). t.id.0 ≡ next_id s before of) queues (sym which ∙ next.id_is)
     by_test false other now = absurd cc
-is_next s before queue (Grant _ _ _) told effects t owing is = absurd cc
-is_next s before queue (Revoke _ _ _) told effects t owing is = absurd cc
-is_next s before queue (OpenQueue _ _ _) told effects t owing is = absurd cc
-is_next s before queue (Stop _) told effects t owing is = absurd cc
-is_next s before queue (RunNext _ _) told effects t owing is = absurd cc
-is_next s before queue (Poll _ _) told effects t owing is = absurd cc
-is_next s before queue (Finish _ _) told effects t owing is = absurd cc
-is_next s before queue (HostWrite _ _ _) told effects t owing is = absurd cc
-is_next s before queue (ChangeSignal _ _ _) told effects t owing is = absurd cc
+is_next s before queue (Call (Grant _ _ _)) told effects t owing is = absurd cc
+is_next s before queue (Call (Revoke _ _ _)) told effects t owing is = absurd cc
+is_next s before queue (Open _ _ _) told effects t owing is = absurd cc
+is_next s before queue (Call (Stop _)) told effects t owing is = absurd cc
+is_next s before queue (Call (RunNext _ _)) told effects t owing is = absurd cc
+is_next s before queue (Call (Poll _ _)) told effects t owing is = absurd cc
+is_next s before queue (Call (Finish _ _)) told effects t owing is = absurd cc
+is_next s before queue (Call (HostWrite _ _ _)) told effects t owing is = absurd cc
+is_next s before queue (Call (ChangeSignal _ _ _)) told effects t owing is = absurd cc
 is_next s before queue (Reload _) told effects t owing is = absurd cc
 
 -- an event hands over a packet of a queue just where it takes one of it
@@ -55,15 +56,15 @@ hands queue (Take q id bytes) = by_test (q.0 == queue.0)
     by_test : (b : Bool) → b ≡ is_some (taken_if b)
     by_test true = refl
     by_test false = refl
-hands queue (Grant _ _ _) = refl
-hands queue (Revoke _ _ _) = refl
-hands queue (OpenQueue _ _ _) = refl
-hands queue (Stop _) = refl
-hands queue (RunNext _ _) = refl
-hands queue (Poll _ _) = refl
-hands queue (Finish _ _) = refl
-hands queue (HostWrite _ _ _) = refl
-hands queue (ChangeSignal _ _ _) = refl
+hands queue (Call (Grant _ _ _)) = refl
+hands queue (Call (Revoke _ _ _)) = refl
+hands queue (Open _ _ _) = refl
+hands queue (Call (Stop _)) = refl
+hands queue (Call (RunNext _ _)) = refl
+hands queue (Call (Poll _ _)) = refl
+hands queue (Call (Finish _ _)) = refl
+hands queue (Call (HostWrite _ _ _)) = refl
+hands queue (Call (ChangeSignal _ _ _)) = refl
 hands queue (Reload _) = refl
 
 next-taken : (s : Start) (es : List Entry) (e : Entry) (queue : QueueId) → next_id s (es ++ e ∷ []) queue ≡ next_id s es queue + length (option_to_list (taken_by queue e.event))

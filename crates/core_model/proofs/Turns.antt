@@ -9,7 +9,7 @@ use Rattle.aql_packet.specs.declared.ids.PacketId.{PacketId}
 use Rattle.policy.specs.Policy.{numbered}
 use Rattle.queue_error.specs.declared.error.QueueError.{QueueError}
 use Rattle.queue_error.specs.declared.rule.Rule.{Rule}
-use Rattle.core_model.specs.declared.event.Event.TheVariants.{OpenQueue, Take}
+use Rattle.core_model.specs.declared.event.Event.TheVariants.{Open, Take}
 use Rattle.core_model.specs.declared.outcome.Outcome.{Outcome}
 use Rattle.core_model.specs.declared.outcome.Outcome.TheVariants as outcome
 use Rattle.core_model.specs.declared.outcome.Taken.TheVariants.{Launched, Denied}
@@ -127,8 +127,8 @@ owner-stays start es (e ∷ more) queue opening is =
     subst (λ (now : List Entry). owner start now queue ≡ Some opening) (append_assoc es (e ∷ []) more)
     (owner-stays start (es ++ e ∷ []) more queue opening (owner-more start es e queue opening is))
 
-pub queue-opened : (start : Start) (es : List Entry) (told : Outcome) (effects : List Effect) (client : ClientId) (agent : AgentHandle) (size : ℕ) → owed start es (OpenQueue client agent size) ≡ enters told effects →
-    IsOpened start es (entry_of (OpenQueue client agent size) told effects) client agent
+pub queue-opened : (start : Start) (es : List Entry) (told : Outcome) (effects : List Effect) (client : ClientId) (agent : AgentHandle) (size : ℕ) → owed start es (Open client agent size) ≡ enters told effects →
+    IsOpened start es (entry_of (Open client agent size) told effects) client agent
 queue-opened start es told effects client agent size owing =
     let made = open-effects start es told effects client agent size owing in
     record {
@@ -136,6 +136,6 @@ queue-opened start es told effects client agent size owing =
       outcome_is = made.outcome_is;
       granted = made.granted;
       is_new = numbered-end (openings start es);
-      owner_is = λ more. owner-stays start (es ++ entry_of (OpenQueue client agent size) told effects ∷ []) more (record { 0 = length (openings start es) + 1 }) (record { client = client; agent = agent })
-          (ap (λ os. numbered os (length (openings start es) + 1)) (openings-more start es (entry_of (OpenQueue client agent size) told effects)) ∙ numbered-new (openings start es) (record { client = client; agent = agent }));
+      owner_is = λ more. owner-stays start (es ++ entry_of (Open client agent size) told effects ∷ []) more (record { 0 = length (openings start es) + 1 }) (record { client = client; agent = agent })
+          (ap (λ os. numbered os (length (openings start es) + 1)) (openings-more start es (entry_of (Open client agent size) told effects)) ∙ numbered-new (openings start es) (record { client = client; agent = agent }));
     }

@@ -6,7 +6,8 @@ use Rattle.aql_packet.specs.declared.ids.QueueId.{QueueId}
 use Rattle.aql_packet.specs.declared.ids.PacketId.{PacketId}
 use Rattle.aql_packet.specs.declared.packet.Packet.{Packet}
 use Rattle.queue_error.specs.declared.rule.Rule.TheVariants.{B1}
-use Rattle.core_model.specs.declared.event.Event.TheVariants.{Finish, Poll}
+use Rattle.core_model.specs.declared.event.Event.TheVariants.{Call}
+use Rattle.core_model.specs.declared.call.Call.TheVariants.{Finish, Poll}
 use Rattle.core_model.specs.declared.outcome.Outcome.{Outcome}
 use Rattle.core_model.specs.declared.outcome.Outcome.TheVariants as outcome
 use Rattle.core_model.specs.declared.outcome.Polled.{Polled}
@@ -27,7 +28,7 @@ use Rattle.core_model.proofs.Holding.{flying-since}
 use Rattle.core_model.proofs.Entered.{HasSeen, HasFailed, finish-entered, poll-entered}
 
 module _ (start : Start) (es : List Entry) (legal : IsWhole start es) (told : Outcome) (effects : List Effect) (queue : QueueId) (id : PacketId) where
-  pub completion-due : owed start es (Finish queue id) ≡ enters told effects → (told ≡ outcome.Accepted) × IsCompleted start es queue id effects
+  pub completion-due : owed start es (Call (Finish queue id)) ≡ enters told effects → (told ≡ outcome.Accepted) × IsCompleted start es queue id effects
   completion-due owing =
       let done = finish-entered start es told effects queue id owing in
       let since = flying-since start es legal queue id done.flying done.found in (
@@ -54,7 +55,7 @@ module _ (start : Start) (es : List Entry) (legal : IsWhole start es) (told : Ou
   seen-anew : (p : Packet) → list_any (is_negative (signals start es)) (seen_dependencies p satisfied) ≡ false → list_any (λ at. at) (sight p).0 ≡ true → SeesAnew start es p satisfied (sight p)
   seen-anew p none some = record { none_negative = none; seen = refl; some = some }
 
-  pub poll-due : owed start es (Poll queue id) ≡ enters told effects →
+  pub poll-due : owed start es (Call (Poll queue id)) ≡ enters told effects →
       (s : InFlightSince start es queue id) × (found : Polled) × (told ≡ outcome.Polled found) × IsPolled start es queue id s.flying.packet satisfied found
   poll-due owing = by_end (poll-entered start es told effects queue id owing)
     where

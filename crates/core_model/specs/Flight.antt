@@ -6,7 +6,8 @@ use Rattle.aql_packet.specs.declared.ids.PacketId.{PacketId}
 use Rattle.aql_packet.specs.Ids.{same_packet}
 use Rattle.aql_packet.specs.Reading.{decoded}
 use Rattle.core_model.specs.declared.event.Event.{Event}
-use Rattle.core_model.specs.declared.event.Event.TheVariants.{Take, RunNext, Poll}
+use Rattle.core_model.specs.declared.event.Event.TheVariants.{Take, Call}
+use Rattle.core_model.specs.declared.call.Call.TheVariants.{RunNext, Poll}
 use Rattle.core_model.specs.declared.outcome.Satisfied.{Satisfied}
 use Rattle.core_model.specs.declared.outcome.Outcome.{Outcome}
 use Rattle.core_model.specs.declared.outcome.Outcome.TheVariants as outcome
@@ -90,9 +91,9 @@ satisfied_by_either a b = record { 0 = map (λ pair. pair.0 || pair.1) (zip a.0 
 -- how far a packet has come by an event: it is launched anew, one of its groups ran, or dependencies were seen (own)
 abbrev pub progress_by : QueueId → PacketId → Progress → Event → Outcome → Progress
 progress_by queue id p (Take q i _) (outcome.Taken Launched) = if same_packet q i queue id then LAUNCH_PROGRESS else p
-progress_by queue id p (RunNext q i) (outcome.Worked (Ran _ _)) = if same_packet q i queue id then record p { groups_run = p.groups_run + 1 } else p
-progress_by queue id p (Poll q i) (outcome.Polled (Pending seen)) = if same_packet q i queue id then record p { satisfied = satisfied_by_either p.satisfied seen } else p
-progress_by queue id p (Poll q i) (outcome.Polled (Ready seen)) = if same_packet q i queue id then record p { satisfied = satisfied_by_either p.satisfied seen } else p
+progress_by queue id p (Call (RunNext q i)) (outcome.Worked (Ran _ _)) = if same_packet q i queue id then record p { groups_run = p.groups_run + 1 } else p
+progress_by queue id p (Call (Poll q i)) (outcome.Polled (Pending seen)) = if same_packet q i queue id then record p { satisfied = satisfied_by_either p.satisfied seen } else p
+progress_by queue id p (Call (Poll q i)) (outcome.Polled (Ready seen)) = if same_packet q i queue id then record p { satisfied = satisfied_by_either p.satisfied seen } else p
 progress_by queue id p _ _ = p
 
 -- and after its entry: of a packet that is released nothing is known (own)

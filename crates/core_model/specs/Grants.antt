@@ -8,15 +8,16 @@ use Rattle.policy.specs.Pairs.{is_one_of}
 use Rattle.policy.specs.Policy.{region_lengths}
 use Rattle.regions.specs.Memory.{is_within, region_of}
 use Rattle.core_model.specs.declared.event.Event.{Event}
-use Rattle.core_model.specs.declared.event.Event.TheVariants.{Grant, Reload, Revoke}
+use Rattle.core_model.specs.declared.event.Event.TheVariants.{Reload, Call}
+use Rattle.core_model.specs.declared.call.Call.TheVariants.{Grant, Revoke}
 use Rattle.policy.specs.Rules.{rows_allow}
 use Rattle.core_model.specs.declared.entry.Entry.{Entry}
 use Rattle.core_model.specs.History.{Start}
 
 -- whether a client's right on an object is in force after an event, by whether it was before (own)
 abbrev pub in_force_after : ClientId → Object → Right → Bool → Event → Bool
-in_force_after client object right before (Grant c o rights) = before || is_one_of client object right c o rights
-in_force_after client object right before (Revoke c o rights) = before && not (is_one_of client object right c o rights)
+in_force_after client object right before (Call (Grant c o rights)) = before || is_one_of client object right c o rights
+in_force_after client object right before (Call (Revoke c o rights)) = before && not (is_one_of client object right c o rights)
 in_force_after client object right before (Reload rows) = before && rows_allow rows client object right
 in_force_after client object right before _ = before
 

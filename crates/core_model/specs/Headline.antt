@@ -25,7 +25,8 @@ use Rattle.queue_error.specs.declared.rule.Rule.{Rule}
 use Rattle.queue_error.specs.declared.rule.Rule.TheVariants.{B1}
 use Rattle.queue_error.specs.declared.error.QueueError.{QueueError}
 use Rattle.core_model.specs.declared.event.Event.{Event}
-use Rattle.core_model.specs.declared.event.Event.TheVariants.{Take, RunNext, Poll, Finish, Stop, HostWrite, ChangeSignal}
+use Rattle.core_model.specs.declared.event.Event.TheVariants.{Take, Call}
+use Rattle.core_model.specs.declared.call.Call.TheVariants.{RunNext, Poll, Finish, Stop, HostWrite, ChangeSignal}
 use Rattle.core_model.specs.declared.outcome.Outcome.TheVariants as outcome
 use Rattle.core_model.specs.declared.outcome.Taken.TheVariants.{Launched}
 use Rattle.core_model.specs.declared.outcome.Worked.TheVariants.{Faulted}
@@ -188,14 +189,14 @@ pub record IsDenied (start : Start) (before : List Entry) (queue : QueueId) (id 
 -- a client wrote these bytes itself, with WRITE in force just before (own)
 pub record IsHostWrite (start : Start) (before : List Entry) (event : Event) (address : ℕ) (bytes : List ℕ) : Type 0 where
   pub client : ClientId
-  pub event_is : event ≡ HostWrite client (record { 0 = address }) bytes
+  pub event_is : event ≡ Call (HostWrite client (record { 0 = address }) bytes)
   pub allowed : MayReach start before client right.Write address (length bytes)
 
 -- a group of a packet in flight wrote them, with WRITE in force for the owner of its queue when it was launched (own)
 pub record IsGroupWrite (start : Start) (before : List Entry) (event : Event) (address : ℕ) (bytes : List ℕ) : Type 0 where
   pub queue : QueueId
   pub id : PacketId
-  pub event_is : event ≡ RunNext queue id
+  pub event_is : event ≡ Call (RunNext queue id)
   pub packet : InFlightSince start before queue id
   -- a group was left to run
   pub is_left : (progress start before queue id).groups_run < group_count packet.flying.packet
@@ -213,7 +214,7 @@ WriteIsGranted start before event _ = Unit {0}
 pub record IsClientChange (start : Start) (before : List Entry) (event : Event) (signal : SignalHandle) (old new : ℤ) : Type 0 where
   pub client : ClientId
   pub operation : SignalOp
-  pub event_is : event ≡ ChangeSignal client signal operation
+  pub event_is : event ≡ Call (ChangeSignal client signal operation)
   pub result : new ≡ applied operation old
   pub allowed : in_force start before client (object.Signal signal) right.Change ≡ true
 
@@ -222,7 +223,7 @@ pub record IsClientChange (start : Start) (before : List Entry) (event : Event) 
 pub record IsCompletion (start : Start) (before : List Entry) (event : Event) (signal : SignalHandle) (old new : ℤ) : Type 0 where
   pub queue : QueueId
   pub id : PacketId
-  pub event_is : event ≡ Finish queue id
+  pub event_is : event ≡ Call (Finish queue id)
   pub result : new ≡ applied (Subtract (pos 1)) old
   pub packet : InFlightSince start before queue id
   pub signal_is : completion_signal packet.flying.packet ≡ signal
@@ -239,10 +240,10 @@ ChangeIsGranted start before event _ = Unit {0}
 
 -- what releases this packet: that it completes, that it faults, or that its queue is stopped, if it is a barrier packet (own)
 abbrev pub IsReleasedBy : Event → Outcome → InFlight → Type 0
-IsReleasedBy (Finish queue id) outcome.Accepted f = (queue ≡ f.queue) × (id ≡ f.id)
-IsReleasedBy (RunNext queue id) (outcome.Worked (Faulted error)) f = (queue ≡ f.queue) × (id ≡ f.id)
-IsReleasedBy (Poll queue id) (outcome.Polled (Failed error)) f = (queue ≡ f.queue) × (id ≡ f.id)
-IsReleasedBy (Stop queue) outcome.Accepted f = (queue.0 ≡ f.queue.0) × (is_barrier f.packet ≡ true)
+IsReleasedBy (Call (Finish queue id)) outcome.Accepted f = (queue ≡ f.queue) × (id ≡ f.id)
+IsReleasedBy (Call (RunNext queue id)) (outcome.Worked (Faulted error)) f = (queue ≡ f.queue) × (id ≡ f.id)
+IsReleasedBy (Call (Poll queue id)) (outcome.Polled (Failed error)) f = (queue ≡ f.queue) × (id ≡ f.id)
+IsReleasedBy (Call (Stop queue)) outcome.Accepted f = (queue.0 ≡ f.queue.0) × (is_barrier f.packet ≡ true)
 IsReleasedBy _ _ f = ⊥
 
 -- a packet is released that is in flight, by what releases it (own)
@@ -279,9 +280,9 @@ IsPolled start before queue id p satisfied (Ready new) =
 -- the packet that an event concerns, if it concerns one (own)
 abbrev pub packet_named : Event → Option (QueueId × PacketId)
 packet_named (Take queue id bytes) = Some (queue, id)
-packet_named (RunNext queue id) = Some (queue, id)
-packet_named (Poll queue id) = Some (queue, id)
-packet_named (Finish queue id) = Some (queue, id)
+packet_named (Call (RunNext queue id)) = Some (queue, id)
+packet_named (Call (Poll queue id)) = Some (queue, id)
+packet_named (Call (Finish queue id)) = Some (queue, id)
 packet_named _ = None
 
 -- ---- rights held

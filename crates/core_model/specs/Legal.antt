@@ -1,7 +1,8 @@
 -- Which histories are legal, and what a list of requests is owed in turn.
 use Rattle.std.specs.Prelude.{ℕ, ◌+◌, ◌≡◌, ◌⊎◌, Bool, true, false, List, [], ◌∷◌, ◌++◌, length, nat_lt, Result, Ok, Err, if◌then◌else◌}
 use Rattle.core_model.specs.declared.event.Event.{Event}
-use Rattle.core_model.specs.declared.event.Event.TheVariants.{OpenQueue, Take, RunNext, HostWrite, Reload}
+use Rattle.core_model.specs.declared.event.Event.TheVariants.{Open, Take, Reload, Call}
+use Rattle.core_model.specs.declared.call.Call.TheVariants.{RunNext, HostWrite}
 use Rattle.core_model.specs.declared.event.Query.{Query}
 use Rattle.core_model.specs.declared.event.Request.{Request}
 use Rattle.core_model.specs.declared.event.Request.TheVariants as request
@@ -130,11 +131,11 @@ pub record Meets (event : Event) (old new : History) (reply : Result Outcome Ref
 -- are entered; a group also where the audit is full, since only what it comes to tells whether its entry needs room; any other
 -- refusal, an answer without an entry, and every other call never do (own)
 abbrev pub may_lack_memory : Event → Owed → Bool
-may_lack_memory (OpenQueue _ _ _) (enters _ _) = true
+may_lack_memory (Open _ _ _) (enters _ _) = true
 may_lack_memory (Take _ _ _) (enters (outcomes.Taken Launched) _) = true
-may_lack_memory (RunNext _ _) (enters _ _) = true
-may_lack_memory (RunNext _ _) (refuses refusal.AuditFull) = true
-may_lack_memory (HostWrite _ _ _) (enters _ _) = true
+may_lack_memory (Call (RunNext _ _)) (enters _ _) = true
+may_lack_memory (Call (RunNext _ _)) (refuses refusal.AuditFull) = true
+may_lack_memory (Call (HostWrite _ _ _)) (enters _ _) = true
 may_lack_memory (Reload _) (enters _ _) = true
 may_lack_memory _ _ = false
 

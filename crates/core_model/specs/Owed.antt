@@ -24,7 +24,8 @@ use Rattle.queue_error.specs.declared.rule.Rule.{Rule}
 use Rattle.queue_error.specs.declared.rule.Rule.TheVariants.{B1}
 use Rattle.queue_error.specs.declared.error.QueueError.{QueueError}
 use Rattle.core_model.specs.declared.event.Event.{Event}
-use Rattle.core_model.specs.declared.event.Event.TheVariants.{Grant, Revoke, OpenQueue, Stop, Take, RunNext, Poll, Finish, HostWrite, ChangeSignal, Reload}
+use Rattle.core_model.specs.declared.event.Event.TheVariants.{Open, Take, Reload, Call}
+use Rattle.core_model.specs.declared.call.Call.TheVariants.{Grant, Revoke, Stop, RunNext, Poll, Finish, HostWrite, ChangeSignal}
 use Rattle.core_model.specs.declared.entry.Effect.{Effect}
 use Rattle.core_model.specs.declared.entry.Effect.TheVariants as effect
 use Rattle.core_model.specs.declared.entry.Entry.{Entry}
@@ -181,36 +182,36 @@ old_if_asked _ old = pos 0
 
 -- what an event is owed after these entries, whatever room the audit has: its refusals in order, then its outcome (own)
 unfoldable pub owed : Start → List Entry → Event → Owed
-owed start entries (Grant client on rights) =
+owed start entries (Call (Grant client on rights)) =
     refuse_unless (knows_client (rules_of start.policy) client) (refuses refusal.UnknownClient)
     (refuse_unless (knows_object (rules_of start.policy) on) (refuses refusal.UnknownObject)
     (refuse_unless (are_allowed (rules_of (policy_at start entries)) client on rights) (refuses refusal.NotAllowed)
     (enters outcome.Accepted [])))
-owed start entries (Revoke client on rights) =
+owed start entries (Call (Revoke client on rights)) =
     refuse_unless (knows_client (rules_of start.policy) client) (refuses refusal.UnknownClient)
     (refuse_unless (knows_object (rules_of start.policy) on) (refuses refusal.UnknownObject)
     (elim (holder start entries client on rights) [ None ↦ enters outcome.Accepted [] | Some f ↦ refuses (refusal.Busy f.queue f.id) ]))
-owed start entries (OpenQueue client agent size) =
+owed start entries (Open client agent size) =
     refuse_unless (knows_client (rules_of start.policy) client) (refuses refusal.UnknownClient)
     (refuse_unless (in_force start entries client (object.Agent agent) right.Use) (refuses (refusal.Denied right.Use))
     (refuse_unless (is_ring_size size) (refuses refusal.BadSize)
     (if nat_le QUEUES (length (openings start entries)) then refuses refusal.TooMany
     else enters (outcome.Opened (record { 0 = length (openings start entries) + 1 })) [])))
-owed start entries (Stop queue) =
+owed start entries (Call (Stop queue)) =
     for_some (owner start entries queue) (refuses refusal.UnknownQueue) (λ opening.
     if is_stopped start entries queue then refuses refusal.QueueDown
     else enters outcome.Accepted (release_of queue (barrier_in (flight_of start entries queue))))
 owed start entries (Take queue id bytes) =
     for_some (owner start entries queue) (refuses refusal.UnknownQueue) (owed_take start entries queue id bytes)
-owed start entries (RunNext queue id) = for_packet start entries queue id (owed_group start entries queue id (given_at_launch start entries queue id))
-owed start entries (Poll queue id) = for_packet start entries queue id (owed_poll (signals start entries) queue id)
-owed start entries (Finish queue id) = for_packet start entries queue id (owed_finish (signals start entries) queue id)
-owed start entries (HostWrite client address bytes) =
+owed start entries (Call (RunNext queue id)) = for_packet start entries queue id (owed_group start entries queue id (given_at_launch start entries queue id))
+owed start entries (Call (Poll queue id)) = for_packet start entries queue id (owed_poll (signals start entries) queue id)
+owed start entries (Call (Finish queue id)) = for_packet start entries queue id (owed_finish (signals start entries) queue id)
+owed start entries (Call (HostWrite client address bytes)) =
     refuse_unless (knows_client (rules_of start.policy) client) (refuses refusal.UnknownClient)
     (refuse_unless (is_host_size (length bytes)) (refuses refusal.BadSize)
     (refuse_unless (in_force_on_range start entries client right.Write address.0 (length bytes)) (refuses (refusal.Denied right.Write))
     (enters outcome.Accepted (effect.Write address bytes ∷ []))))
-owed start entries (ChangeSignal client signal operation) =
+owed start entries (Call (ChangeSignal client signal operation)) =
     refuse_unless (knows_client (rules_of start.policy) client) (refuses refusal.UnknownClient)
     (refuse_unless (in_force start entries client (object.Signal signal) right.Change) (refuses (refusal.Denied right.Change))
     (for_some (value_of (signals start entries) signal.0) (refuses (refusal.Denied right.Change)) (λ old.

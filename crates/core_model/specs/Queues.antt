@@ -4,7 +4,8 @@ use Rattle.aql_packet.specs.declared.ids.QueueId.{QueueId}
 use Rattle.queue_error.specs.declared.error.QueueError.{QueueError}
 use Rattle.policy.specs.Policy.{numbered}
 use Rattle.core_model.specs.declared.event.Event.{Event}
-use Rattle.core_model.specs.declared.event.Event.TheVariants.{OpenQueue, Stop, Take}
+use Rattle.core_model.specs.declared.event.Event.TheVariants.{Open, Take, Call}
+use Rattle.core_model.specs.declared.call.Call.TheVariants.{Stop}
 use Rattle.core_model.specs.declared.outcome.Outcome.{Outcome}
 use Rattle.core_model.specs.declared.outcome.Outcome.TheVariants as outcome
 use Rattle.core_model.specs.declared.outcome.Taken.TheVariants.{Denied}
@@ -16,7 +17,7 @@ pub use Rattle.core_model.specs.History.{Opening}
 
 -- the opening that an event made (own)
 abbrev pub opening_of : Event → Option Opening
-opening_of (OpenQueue client agent size) = Some (record { client = client; agent = agent })
+opening_of (Open client agent size) = Some (record { client = client; agent = agent })
 opening_of _ = None
 
 -- a list with one more item, if there is one (own)
@@ -60,7 +61,7 @@ errors start entries queue = fold (λ before entry. with_error queue before (err
 
 -- whether an event stops a queue (own)
 abbrev pub stops_queue : QueueId → Event → Bool
-stops_queue queue (Stop q) = q.0 == queue.0
+stops_queue queue (Call (Stop q)) = q.0 == queue.0
 stops_queue queue _ = false
 
 -- whether a queue was stopped (own)

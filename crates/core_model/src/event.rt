@@ -1,37 +1,21 @@
-//! The calls of the core as values.
+//! What happens to the core, and what can be asked of it, as values.
 
 ghost use Rattle.std.specs.Prelude.{◌≡◌, IfOk};
 
+use crate::call::Call;
 use aql_packet::{Address, AgentHandle, ClientId, PacketId, QueueId, SignalHandle};
-use policy::{Object, Policy, PolicyRows, Rights};
-use sequences::Sequence;
-use signals::{Condition, SignalOp};
+use policy::{Policy, PolicyRows};
+use signals::Condition;
 use std::alloc::{AllocError, Global};
 
-/// A call that can change the core, with all that was handed to it. An audit entry keeps it.
+/// What can change the core, with all that was handed to it. An audit entry keeps it.
 #[derive(Debug, Drop, PartialEq, Eq)]
 pub enum Event {
-    /// An administrator gives a client rights on an object.
-    Grant {
-        client: ClientId,
-        object: Object,
-        rights: Rights,
-    },
-    /// An administrator takes rights on an object from a client.
-    Revoke {
-        client: ClientId,
-        object: Object,
-        rights: Rights,
-    },
     /// A client opens a queue of `size` slots on an agent.
-    OpenQueue {
+    Open {
         client: ClientId,
         agent: AgentHandle,
         size: u64,
-    },
-    /// A queue is stopped: it launches nothing from then on.
-    Stop {
-        queue: QueueId,
     },
     /// The packet processor hands over the next packet of a queue: its id and its 64 bytes.
     Take {
@@ -39,33 +23,8 @@ pub enum Event {
         packet: PacketId,
         bytes: [u8; 64],
     },
-    /// The next group of a kernel or agent dispatch in flight is run.
-    RunNext {
-        queue: QueueId,
-        packet: PacketId,
-    },
-    /// A barrier packet in flight looks at its dependencies.
-    Poll {
-        queue: QueueId,
-        packet: PacketId,
-    },
-    /// A packet whose work is done is completed and released.
-    Finish {
-        queue: QueueId,
-        packet: PacketId,
-    },
-    /// A client writes bytes to memory.
-    HostWrite {
-        client: ClientId,
-        address: Address,
-        bytes: Sequence<u8>,
-    },
-    /// A client changes a signal.
-    ChangeSignal {
-        client: ClientId,
-        signal: SignalHandle,
-        operation: SignalOp,
-    },
+    /// A client or an administrator calls.
+    Call(Call),
     /// An administrator puts another policy in force, which declares the same: these are its rows on rights.
     Reload {
         rows: PolicyRows,
@@ -78,34 +37,15 @@ impl Event {
         ensures { IfOk result (λ copy. copy ≡ self.now) }
     {
         Ok(match self {
-            Event::Grant {
-                client,
-                object,
-                rights,
-            } => Event::Grant {
-                client: *client,
-                object: *object,
-                rights: *rights,
-            },
-            Event::Revoke {
-                client,
-                object,
-                rights,
-            } => Event::Revoke {
-                client: *client,
-                object: *object,
-                rights: *rights,
-            },
-            Event::OpenQueue {
+            Event::Open {
                 client,
                 agent,
                 size,
-            } => Event::OpenQueue {
+            } => Event::Open {
                 client: *client,
                 agent: *agent,
                 size: *size,
             },
-            Event::Stop { queue } => Event::Stop { queue: *queue },
             Event::Take {
                 queue,
                 packet,
@@ -115,36 +55,7 @@ impl Event {
                 packet: *packet,
                 bytes: *bytes,
             },
-            Event::RunNext { queue, packet } => Event::RunNext {
-                queue: *queue,
-                packet: *packet,
-            },
-            Event::Poll { queue, packet } => Event::Poll {
-                queue: *queue,
-                packet: *packet,
-            },
-            Event::Finish { queue, packet } => Event::Finish {
-                queue: *queue,
-                packet: *packet,
-            },
-            Event::HostWrite {
-                client,
-                address,
-                bytes,
-            } => Event::HostWrite {
-                client: *client,
-                address: *address,
-                bytes: bytes.copy(alloc)?,
-            },
-            Event::ChangeSignal {
-                client,
-                signal,
-                operation,
-            } => Event::ChangeSignal {
-                client: *client,
-                signal: *signal,
-                operation: *operation,
-            },
+            Event::Call(call) => Event::Call(call.copy(alloc)?),
             Event::Reload { rows } => Event::Reload {
                 rows: rows.copy(alloc)?,
             },

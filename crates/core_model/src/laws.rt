@@ -28,7 +28,8 @@ ghost use Rattle.core_model.specs.declared.entry.Effect.{Effect};
 ghost use Rattle.core_model.specs.declared.entry.Effect.TheVariants as effect;
 ghost use Rattle.core_model.specs.declared.entry.Entry.{Entry};
 ghost use Rattle.core_model.specs.declared.event.Event.{Event};
-ghost use Rattle.core_model.specs.declared.event.Event.TheVariants.{ChangeSignal, Finish, Grant, HostWrite, OpenQueue, Poll, RunNext, Stop, Take};
+ghost use Rattle.core_model.specs.declared.event.Event.TheVariants.{Open, Take, Call};
+ghost use Rattle.core_model.specs.declared.call.Call.TheVariants.{ChangeSignal, Finish, Grant, HostWrite, Poll, RunNext, Stop};
 ghost use Rattle.core_model.specs.declared.event.Query.{Query};
 ghost use Rattle.core_model.specs.declared.event.Query.TheVariants as query;
 ghost use Rattle.core_model.specs.declared.event.Request.{Request};
@@ -127,7 +128,7 @@ pub fn each_release_is_due()
 /// is decremented once, and it is released.
 pub fn each_completion_comes_after_the_work()
     ensures { (start : Start) (entries before : List Entry) (queue : QueueId) (id : PacketId) (told : Outcome) (effects : List Effect) →
-        IsWhole start entries → IsEntryBehind entries before (entry_of (Finish queue id) told effects) →
+        IsWhole start entries → IsEntryBehind entries before (entry_of (Call (Finish queue id)) told effects) →
         (told ≡ outcome.Accepted) × IsCompleted start before queue id effects }
 {}
 
@@ -136,7 +137,7 @@ pub fn each_completion_comes_after_the_work()
 /// suffices.
 pub fn each_poll_is_by_the_signals()
     ensures { (start : Start) (entries before : List Entry) (queue : QueueId) (id : PacketId) (told : Outcome) (effects : List Effect) →
-        IsWhole start entries → IsEntryBehind entries before (entry_of (Poll queue id) told effects) →
+        IsWhole start entries → IsEntryBehind entries before (entry_of (Call (Poll queue id)) told effects) →
         (s : InFlightSince start before queue id) × (found : Polled) × (told ≡ outcome.Polled found)
         × IsPolled start before queue id s.flying.packet (progress start before queue id).satisfied found }
 {}
@@ -146,13 +147,13 @@ pub fn each_poll_is_by_the_signals()
 /// its result's 8 bytes, as the function says, and what comes of a kernel's group is its meaning.
 pub fn each_read_of_a_group_was_granted()
     ensures reads { (start : Start) (entries before : List Entry) (queue : QueueId) (id : PacketId) (told : Outcome) (effects : List Effect) →
-        IsWhole start entries → IsEntryBehind entries before (entry_of (RunNext queue id) told effects) →
+        IsWhole start entries → IsEntryBehind entries before (entry_of (Call (RunNext queue id)) told effects) →
         (s : InFlightSince start before queue id) × All (MayReachRange start s.launch.before s.launch.opening.client right.Read) (ranges_seen start (own_rights start before queue id) s.flying.packet) }
     ensures agents { (start : Start) (entries before : List Entry) (queue : QueueId) (id : PacketId) (told : Outcome) (effects : List Effect) (flying : InFlight) (dispatch : AgentDispatch) →
-        IsWhole start entries → IsEntryBehind entries before (entry_of (RunNext queue id) told effects) →
+        IsWhole start entries → IsEntryBehind entries before (entry_of (Call (RunNext queue id)) told effects) →
         in_flight start before queue id ≡ Some flying → flying.packet ≡ packet.Agent dispatch → effects ≡ agent_writes start before dispatch }
     ensures means { (start : Start) (entries before : List Entry) (queue : QueueId) (id : PacketId) (told : Outcome) (effects : List Effect) (flying : InFlight) →
-        IsWhole start entries → IsEntryBehind entries before (entry_of (RunNext queue id) told effects) →
+        IsWhole start entries → IsEntryBehind entries before (entry_of (Call (RunNext queue id)) told effects) →
         in_flight start before queue id ≡ Some flying → owed_group start before queue id (given_at_launch start before queue id) flying.packet (progress start before queue id) ≡ enters told effects }
 {}
 
@@ -188,7 +189,7 @@ pub fn held_rights_are_in_force()
 /// A grant gives what the policy in force allows the client, and has no effect.
 pub fn each_grant_is_allowed()
     ensures { (start : Start) (entries before : List Entry) (client : ClientId) (on : Object) (rights : Rights) (told : Outcome) (effects : List Effect) →
-        IsWhole start entries → IsEntryBehind entries before (entry_of (Grant client on rights) told effects) →
+        IsWhole start entries → IsEntryBehind entries before (entry_of (Call (Grant client on rights)) told effects) →
         (are_allowed (rules_of (policy_at start before)) client on rights ≡ true) × (effects ≡ []) }
 {}
 
@@ -196,18 +197,18 @@ pub fn each_grant_is_allowed()
 /// then on.
 pub fn each_queue_is_its_openers()
     ensures { (start : Start) (entries before : List Entry) (client : ClientId) (agent : AgentHandle) (size : ℕ) (told : Outcome) (effects : List Effect) →
-        IsWhole start entries → IsEntryBehind entries before (entry_of (OpenQueue client agent size) told effects) →
-        IsOpened start before (entry_of (OpenQueue client agent size) told effects) client agent }
+        IsWhole start entries → IsEntryBehind entries before (entry_of (Open client agent size) told effects) →
+        IsOpened start before (entry_of (Open client agent size) told effects) client agent }
 {}
 
 /// A client's write is made only with WRITE in force, and then whole; its change of a signal only with
 /// CHANGE in force, and then as the operation says, and it is told the old value only where it asked.
 pub fn each_host_call_was_granted()
     ensures write { (start : Start) (entries before : List Entry) (client : ClientId) (address : Address) (bytes : List ℕ) (told : Outcome) (effects : List Effect) →
-        IsWhole start entries → IsEntryBehind entries before (entry_of (HostWrite client address bytes) told effects) →
+        IsWhole start entries → IsEntryBehind entries before (entry_of (Call (HostWrite client address bytes)) told effects) →
         MayReach start before client right.Write address.0 (length bytes) × (effects ≡ effect.Write address bytes ∷ []) × (told ≡ outcome.Accepted) }
     ensures change { (start : Start) (entries before : List Entry) (client : ClientId) (signal : SignalHandle) (operation : SignalOp) (told : Outcome) (effects : List Effect) →
-        IsWhole start entries → IsEntryBehind entries before (entry_of (ChangeSignal client signal operation) told effects) →
+        IsWhole start entries → IsEntryBehind entries before (entry_of (Call (ChangeSignal client signal operation)) told effects) →
         (in_force start before client (object.Signal signal) right.Change ≡ true) × (old : ℤ) × (value_of (signals start before) signal.0 ≡ Some old)
         × (effects ≡ effect.Signal signal old (applied operation old) ∷ []) × (told ≡ outcome.Changed (old_if_asked operation old)) }
 {}
@@ -250,13 +251,13 @@ pub fn each_right_in_force_is_allowed()
 pub fn calls_without_their_right_are_denied()
     ensures write { (start : Start) (entries : List Entry) (client : ClientId) (address : Address) (bytes : List ℕ) →
         knows_client (rules_of start.policy) client ≡ true → is_host_size (length bytes) ≡ true → (MayReach start entries client right.Write address.0 (length bytes) → ⊥) →
-        owed start entries (HostWrite client address bytes) ≡ refuses (refusal.Denied right.Write) }
+        owed start entries (Call (HostWrite client address bytes)) ≡ refuses (refusal.Denied right.Write) }
     ensures change { (start : Start) (entries : List Entry) (client : ClientId) (signal : SignalHandle) (operation : SignalOp) →
         knows_client (rules_of start.policy) client ≡ true → in_force start entries client (object.Signal signal) right.Change ≡ false →
-        owed start entries (ChangeSignal client signal operation) ≡ refuses (refusal.Denied right.Change) }
+        owed start entries (Call (ChangeSignal client signal operation)) ≡ refuses (refusal.Denied right.Change) }
     ensures opening { (start : Start) (entries : List Entry) (client : ClientId) (agent : AgentHandle) (size : ℕ) →
         knows_client (rules_of start.policy) client ≡ true → in_force start entries client (object.Agent agent) right.Use ≡ false →
-        owed start entries (OpenQueue client agent size) ≡ refuses (refusal.Denied right.Use) }
+        owed start entries (Open client agent size) ≡ refuses (refusal.Denied right.Use) }
     ensures read { (start : Start) (entries : List Entry) (client : ClientId) (address : Address) (size : ℕ) →
         knows_client (rules_of start.policy) client ≡ true → is_host_size size ≡ true → (MayReach start entries client right.Read address.0 size → ⊥) →
         query_answer start entries (query.HostRead client address size) ≡ Err (refusal.Denied right.Read) }
@@ -356,12 +357,12 @@ pub fn audits_keep_room_for_packets_in_flight()
 /// completion, a group that is owed a fault, a poll that is owed a failure, and the stop of a queue that has
 /// a barrier packet in flight are due what they are owed, and nothing is owed that refusal.
 pub fn what_leaves_flight_finds_room()
-    ensures completion { (history : History) (queue : QueueId) (id : PacketId) → HasRoom history → FindsRoom history (Finish queue id) }
+    ensures completion { (history : History) (queue : QueueId) (id : PacketId) → HasRoom history → FindsRoom history (Call (Finish queue id)) }
     ensures fault { (history : History) (queue : QueueId) (id : PacketId) (error : QueueError) (effects : List Effect) → HasRoom history →
-        owed (beginning history) history.entries (RunNext queue id) ≡ enters (outcome.Worked (worked.Faulted error)) effects → FindsRoom history (RunNext queue id) }
+        owed (beginning history) history.entries (Call (RunNext queue id)) ≡ enters (outcome.Worked (worked.Faulted error)) effects → FindsRoom history (Call (RunNext queue id)) }
     ensures failure { (history : History) (queue : QueueId) (id : PacketId) (error : QueueError) (effects : List Effect) → HasRoom history →
-        owed (beginning history) history.entries (Poll queue id) ≡ enters (outcome.Polled (polled.Failed error)) effects → FindsRoom history (Poll queue id) }
+        owed (beginning history) history.entries (Call (Poll queue id)) ≡ enters (outcome.Polled (polled.Failed error)) effects → FindsRoom history (Call (Poll queue id)) }
     ensures stop { (history : History) (queue : QueueId) (barrier : PacketId) → HasRoom history →
-        barrier_in (flight_of (beginning history) history.entries queue) ≡ Some barrier → FindsRoom history (Stop queue) }
+        barrier_in (flight_of (beginning history) history.entries queue) ≡ Some barrier → FindsRoom history (Call (Stop queue)) }
     ensures owes { (start : Start) (entries : List Entry) (event : Event) → owed start entries event ≡ refuses refusal.AuditFull → ⊥ }
 {}

@@ -3,6 +3,7 @@
 #![tactic(auto)]
 
 mod answer;
+mod call;
 mod effects;
 mod entry;
 mod event;
@@ -18,6 +19,7 @@ mod refusal;
 mod served;
 
 pub use answer::{Answer, Reply};
+pub use call::Call;
 pub use effects::Effects;
 pub use entry::{Effect, Entry};
 pub use event::{Event, Query, Request};

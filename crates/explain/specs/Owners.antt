@@ -4,14 +4,14 @@ use Rattle.aql_packet.specs.declared.ids.QueueId.{QueueId}
 use Rattle.policy.specs.Policy.{numbered}
 use Rattle.core_model.specs.declared.entry.Entry.{Entry}
 use Rattle.core_model.specs.declared.event.Event.{Event}
-use Rattle.core_model.specs.declared.event.Event.TheVariants.{OpenQueue}
+use Rattle.core_model.specs.declared.event.Event.TheVariants.{Open}
 use Rattle.core_model.specs.Queues.{with_some}
 use Rattle.std.specs.Prelude.{Some, None}
 use Rattle.explain.specs.declared.owners.Opening.{Opening}
 
 -- the opening that an event made (own)
 abbrev pub opening_of : Event → Option Opening
-opening_of (OpenQueue client agent size) = Some (record { client = client; agent = agent })
+opening_of (Open client agent size) = Some (record { client = client; agent = agent })
 opening_of _ = None
 
 -- the openings of all queues, in order (own)

@@ -1,11 +1,11 @@
 //! What a line asks, as far as an explanation of its reply needs it.
 
 use aql_packet::{Address, AgentHandle, ClientId, PacketId, QueueId, SignalHandle};
-use core_model::Query;
+use core_model::{Call, Query};
 use policy::{Object, Right, Rights};
 use ring_core::Access;
 use script::Command;
-use world::{Call, Request};
+use world::Request;
 
 /// What a line asks, without its bytes (own).
 #[derive(Clone, Copy, Debug, PartialEq, Eq)]

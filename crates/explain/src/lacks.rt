@@ -7,7 +7,7 @@ ghost use Rattle.policy.specs.Pairs.{is_one_of};
 ghost use Rattle.explain.specs.Lacks.{in_force_since, lack_of, lack_of_need, lacked};
 
 use aql_packet::ClientId;
-use core_model::{Entry, Event, Need, Subject};
+use core_model::{Call, Entry, Event, Need, Subject};
 use policy::{Object, PolicyRows, Right, Rights};
 use regions::region_of;
 
@@ -47,16 +47,16 @@ fn in_force_after(
     ensures { result ≡ in_force_after client object right before event.now }
 {
     match event {
-        Event::Grant {
+        Event::Call(Call::Grant {
             client: holder,
             object: on,
             rights,
-        } => before || is_one_of(client, object, right, *holder, *on, *rights),
-        Event::Revoke {
+        }) => before || is_one_of(client, object, right, *holder, *on, *rights),
+        Event::Call(Call::Revoke {
             client: holder,
             object: on,
             rights,
-        } => before && !is_one_of(client, object, right, *holder, *on, *rights),
+        }) => before && !is_one_of(client, object, right, *holder, *on, *rights),
         Event::Reload { rows } => before && rows.allowed(client, object).has(right),
         _ => before,
     }

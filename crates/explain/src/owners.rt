@@ -21,7 +21,7 @@ fn opening_of(event: &Event) -> Option<Opening>
     ensures { result ≡ opening_of event.now }
 {
     match event {
-        Event::OpenQueue { client, agent, .. } => Some(Opening {
+        Event::Open { client, agent, .. } => Some(Opening {
             client: *client,
             agent: *agent,
         }),

@@ -1,7 +1,7 @@
 //! Packets in flight, and the values of signals, as the audit has them.
 
 use aql_packet::{Packet, PacketId, QueueId, SignalHandle, decode};
-use core_model::{Effect, Entry, Event, InFlight, Outcome, Polled, Satisfied, Taken, Worked};
+use core_model::{Call, Effect, Entry, Event, InFlight, Outcome, Polled, Satisfied, Taken, Worked};
 use policy::Policy;
 use queue_error::QueueError;
 use std::alloc::{AllocError, Global};
@@ -127,14 +127,14 @@ pub fn how_far(entries: &[Entry], queue: QueueId, packet: PacketId) -> Come {
     };
     for entry in entries {
         let is_its = match &entry.event {
-            Event::RunNext {
+            Event::Call(Call::RunNext {
                 queue: of,
                 packet: id,
-            } => *of == queue && *id == packet,
-            Event::Poll {
+            }) => *of == queue && *id == packet,
+            Event::Call(Call::Poll {
                 queue: of,
                 packet: id,
-            } => *of == queue && *id == packet,
+            }) => *of == queue && *id == packet,
             _ => false,
         };
         if is_its {

@@ -4,13 +4,13 @@
 use crate::studio::{POLICY, kernels, read};
 use access_core::{Kernel, OpenFault};
 use aql_packet::{AgentHandle, ClientId, PacketId, QueueId};
-use core_model::{Outcome, Taken};
+use core_model::{Call, Outcome, Taken};
 use policy::{Object, Policy, Rights};
 use ring_core::{Access, Seen, Step};
 use sequences::Reserved;
 use std::alloc::{AllocError, Global};
 use std::test::*;
-use world::{Answer, Call, Refusal, Reply, Request, World};
+use world::{Answer, Refusal, Reply, Request, World};
 
 const NORA: ClientId = ClientId(1);
 

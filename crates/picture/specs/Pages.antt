@@ -5,6 +5,7 @@ use Rattle.aql_packet.specs.declared.ids.PacketId.{PacketId}
 use Rattle.core_model.specs.declared.outcome.Satisfied.{Satisfied}
 use Rattle.core_model.specs.declared.event.Event.{Event}
 use Rattle.core_model.specs.declared.event.Event.TheVariants as event
+use Rattle.core_model.specs.declared.call.Call.TheVariants as call
 use Rattle.core_model.specs.declared.entry.Entry.{Entry}
 use Rattle.policy.specs.Policy.{Declared}
 use Rattle.picture.specs.declared.element.Sign.{Sign}
@@ -26,7 +27,7 @@ text_of_looks before to queue id seen = flat_map (λ position. text_of_arrow (ar
 
 -- the arrows to an entry, if it is a poll that saw something
 abbrev pub text_of_arrows : List Entry → Spot → Event → Sign → List ℕ
-text_of_arrows before to (event.Poll queue id) (sign.Look seen) = text_of_looks before to queue id seen
+text_of_arrows before to (event.Call (call.Poll queue id)) (sign.Look seen) = text_of_looks before to queue id seen
 text_of_arrows before to _ _ = []
 
 -- an entry behind others: its number, what it is drawn as, and the arrows to it
@@ -46,7 +47,7 @@ text_of_entries policy before (entry ∷ after) = text_of_entry policy before en
 
 -- whether an entry opens a queue
 abbrev pub is_opening : Event → Bool
-is_opening (event.OpenQueue client agent size) = true
+is_opening (event.Open client agent size) = true
 is_opening _ = false
 
 -- how many queues entries open, beside so many

@@ -12,6 +12,8 @@ use Rattle.aql_packet.specs.Ids.{same_packet}
 use Rattle.core_model.specs.declared.limits.TheConstants.{QUEUES, SLOTS}
 use Rattle.core_model.specs.declared.event.Event.{Event}
 use Rattle.core_model.specs.declared.event.Event.TheVariants as event
+use Rattle.core_model.specs.declared.call.Call.{Call}
+use Rattle.core_model.specs.declared.call.Call.TheVariants as call
 use Rattle.core_model.specs.declared.outcome.Outcome.{Outcome}
 use Rattle.core_model.specs.declared.outcome.Outcome.TheVariants as outcome
 use Rattle.core_model.specs.declared.outcome.Taken.TheVariants as taken
@@ -56,16 +58,16 @@ opened _ = record { 0 = 0 }
 
 -- where an event stands, by what it came to
 abbrev pub spot_of_event : ℕ → Event → Outcome → Spot
-spot_of_event at (event.OpenQueue client agent size) out = in_lane at (opened out)
-spot_of_event at (event.Stop queue) out = in_lane at queue
+spot_of_event at (event.Open client agent size) out = in_lane at (opened out)
+spot_of_event at (event.Call (call.Stop queue)) out = in_lane at queue
 spot_of_event at (event.Take queue id bytes) out = at_packet at queue id
-spot_of_event at (event.RunNext queue id) out = at_packet at queue id
-spot_of_event at (event.Poll queue id) out = at_packet at queue id
-spot_of_event at (event.Finish queue id) out = at_packet at queue id
-spot_of_event at (event.Grant client object rights) out = at_hosts at
-spot_of_event at (event.Revoke client object rights) out = at_hosts at
-spot_of_event at (event.HostWrite client address bytes) out = at_hosts at
-spot_of_event at (event.ChangeSignal client signal operation) out = at_hosts at
+spot_of_event at (event.Call (call.RunNext queue id)) out = at_packet at queue id
+spot_of_event at (event.Call (call.Poll queue id)) out = at_packet at queue id
+spot_of_event at (event.Call (call.Finish queue id)) out = at_packet at queue id
+spot_of_event at (event.Call (call.Grant client object rights)) out = at_hosts at
+spot_of_event at (event.Call (call.Revoke client object rights)) out = at_hosts at
+spot_of_event at (event.Call (call.HostWrite client address bytes)) out = at_hosts at
+spot_of_event at (event.Call (call.ChangeSignal client signal operation)) out = at_hosts at
 spot_of_event at (event.Reload rows) out = at_hosts at
 
 -- where an entry stands
@@ -86,9 +88,9 @@ releases queue id entry = list_any (is_release queue id) entry.effects
 
 -- how a packet ended that an entry releases, by the entry's event
 abbrev pub ending_of : Event → Ending
-ending_of (event.Finish queue id) = ending.Finished
-ending_of (event.RunNext queue id) = ending.Faulted
-ending_of (event.Poll queue id) = ending.Faulted
+ending_of (event.Call (call.Finish queue id)) = ending.Finished
+ending_of (event.Call (call.RunNext queue id)) = ending.Faulted
+ending_of (event.Call (call.Poll queue id)) = ending.Faulted
 ending_of _ = ending.Stopped
 
 -- the entry that ends a packet in flight, and how: the first of those behind the n-th that releases it, else the last
@@ -126,23 +128,27 @@ sign_of_poll (outcome.Polled (polled.Ready seen)) = sign.Look seen
 sign_of_poll (outcome.Polled (polled.Failed error)) = sign.Fault error
 sign_of_poll _ = sign.Nothing
 
+-- what the entry of a call is drawn as
+abbrev pub sign_of_call : Call → Outcome → Sign
+sign_of_call (call.Grant client object rights) out = sign.Grant client object rights
+sign_of_call (call.Revoke client object rights) out = sign.Revocation client object rights
+sign_of_call (call.Stop queue) out = sign.Stop
+sign_of_call (call.RunNext queue id) out = sign_of_work out
+sign_of_call (call.Poll queue id) out = sign_of_poll out
+sign_of_call (call.Finish queue id) out = sign.Completion id
+sign_of_call (call.HostWrite client address bytes) out = sign.Write client
+sign_of_call (call.ChangeSignal client signal operation) out = sign.Change client
+
 -- what an entry is drawn as; `end` is how its packet ended, if it launches one
 abbrev pub sign_of : Ending → Event → Outcome → Sign
-sign_of end (event.Grant client object rights) out = sign.Grant client object rights
-sign_of end (event.Revoke client object rights) out = sign.Revocation client object rights
-sign_of end (event.OpenQueue client agent size) out = sign.Lane (opened out) client agent
-sign_of end (event.Stop queue) out = sign.Stop
+sign_of end (event.Open client agent size) out = sign.Lane (opened out) client agent
 sign_of end (event.Take queue id bytes) out = sign_of_take id bytes end out
-sign_of end (event.RunNext queue id) out = sign_of_work out
-sign_of end (event.Poll queue id) out = sign_of_poll out
-sign_of end (event.Finish queue id) out = sign.Completion id
-sign_of end (event.HostWrite client address bytes) out = sign.Write client
-sign_of end (event.ChangeSignal client signal operation) out = sign.Change client
+sign_of end (event.Call asked) out = sign_of_call asked out
 sign_of end (event.Reload rows) out = sign.Nothing
 
 -- how far an entry's sign reaches: a lane's to the end, a packet's to its release, any other's nowhere
 abbrev pub reach_of : ℕ → Event → List Entry → End
-reach_of at (event.OpenQueue client agent size) after = record { at = at + length after; ending = ending.Open }
+reach_of at (event.Open client agent size) after = record { at = at + length after; ending = ending.Open }
 reach_of at (event.Take queue id bytes) after = end_of queue id at after
 reach_of at _ after = record { at = at; ending = ending.Open }
 

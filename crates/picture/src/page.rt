@@ -11,7 +11,7 @@ use crate::reading::element_of;
 use crate::shapes::{left_of, top_of_lane, write_arrow, write_element, write_number};
 use crate::words::is_seen;
 use aql_packet::{PacketId, QueueId};
-use core_model::{Entry, Event, Satisfied};
+use core_model::{Call, Entry, Event, Satisfied};
 use policy::Policy;
 use std::alloc::{AllocError, Global};
 
@@ -89,7 +89,7 @@ fn write_arrows(
     ensures { OnOk result (string_bytes out.new ≡ string_bytes out.old ++ text_of_arrows before.now to event.now sign.now) }
 {
     match event {
-        Event::Poll { queue, packet } => match sign {
+        Event::Call(Call::Poll { queue, packet }) => match sign {
             Sign::Look(seen) => write_looks(out, before, to, *queue, *packet, *seen),
             _ => Ok(()),
         },
@@ -155,7 +155,7 @@ fn write_entries(
 fn is_opening(event: &Event) -> bool
     ensures { result ≡ is_opening event.now }
 {
-    matches!(event, Event::OpenQueue { .. })
+    matches!(event, Event::Open { .. })
 }
 
 // So many queues, or one more if an event opens one.

@@ -1,12 +1,12 @@
 //! What an entry is drawn as. This file alone speaks of events.
 
 ghost use Rattle.std.specs.Prelude.{◌≡◌, ◌+◌, ◌<◌, ◌^◌, length};
-ghost use Rattle.picture.specs.Reading.{lane_of_queue, in_lane, at_packet, at_hosts, opened, spot_of, is_release, releases, ending_of, end_of, work_of, sign_of_take, sign_of_work, sign_of_poll, sign_of, reach_of, element_of};
+ghost use Rattle.picture.specs.Reading.{lane_of_queue, in_lane, at_packet, at_hosts, opened, spot_of, is_release, releases, ending_of, end_of, work_of, sign_of_take, sign_of_work, sign_of_call, sign_of_poll, sign_of, reach_of, element_of};
 ghost use Rattle.aql_packet.specs.Reading.{decoded};
 
 use crate::element::{Element, Ending, Sign, Spot, Work};
 use aql_packet::{Packet, PacketId, QueueId, decode};
-use core_model::{Effect, Entry, Event, Outcome, Polled, QUEUES, SLOTS, Taken, Worked};
+use core_model::{Call, Effect, Entry, Event, Outcome, Polled, QUEUES, SLOTS, Taken, Worked};
 
 /// Where a sign ends, and how its packet ended.
 #[derive(Clone, Copy)]
@@ -74,17 +74,17 @@ pub(crate) fn spot_of(at: u32, entry: &Entry) -> Spot
     ensures { result ≡ spot_of at entry.now }
 {
     match &entry.event {
-        Event::OpenQueue { .. } => in_lane(at, opened(&entry.outcome)),
-        Event::Stop { queue } => in_lane(at, *queue),
+        Event::Open { .. } => in_lane(at, opened(&entry.outcome)),
+        Event::Call(Call::Stop { queue }) => in_lane(at, *queue),
         Event::Take { queue, packet, .. }
-        | Event::RunNext { queue, packet }
-        | Event::Poll { queue, packet }
-        | Event::Finish { queue, packet } => at_packet(at, *queue, *packet),
-        Event::Grant { .. }
-        | Event::Revoke { .. }
+        | Event::Call(Call::RunNext { queue, packet })
+        | Event::Call(Call::Poll { queue, packet })
+        | Event::Call(Call::Finish { queue, packet }) => at_packet(at, *queue, *packet),
+        Event::Call(Call::Grant { .. })
+        | Event::Call(Call::Revoke { .. })
         | Event::Reload { .. }
-        | Event::HostWrite { .. }
-        | Event::ChangeSignal { .. } => at_hosts(at),
+        | Event::Call(Call::HostWrite { .. })
+        | Event::Call(Call::ChangeSignal { .. }) => at_hosts(at),
     }
 }
 
@@ -117,8 +117,8 @@ fn ending_of(event: &Event) -> Ending
     ensures { result ≡ ending_of event.now }
 {
     match event {
-        Event::Finish { .. } => Ending::Finished,
-        Event::RunNext { .. } | Event::Poll { .. } => Ending::Faulted,
+        Event::Call(Call::Finish { .. }) => Ending::Finished,
+        Event::Call(Call::RunNext { .. }) | Event::Call(Call::Poll { .. }) => Ending::Faulted,
         _ => Ending::Stopped,
     }
 }
@@ -195,12 +195,12 @@ fn sign_of_poll(outcome: &Outcome) -> Sign
     }
 }
 
-// What an entry is drawn as; `ending` is how its packet ended, if it launches one.
-fn sign_of(ending: Ending, event: &Event, outcome: &Outcome) -> Sign
-    ensures { result ≡ sign_of ending event.now outcome.now }
+// What the entry of a call is drawn as.
+fn sign_of_call(call: &Call, outcome: &Outcome) -> Sign
+    ensures { result ≡ sign_of_call call.now outcome.now }
 {
-    match event {
-        Event::Grant {
+    match call {
+        Call::Grant {
             client,
             object,
             rights,
@@ -209,7 +209,7 @@ fn sign_of(ending: Ending, event: &Event, outcome: &Outcome) -> Sign
             object: *object,
             rights: *rights,
         },
-        Event::Revoke {
+        Call::Revoke {
             client,
             object,
             rights,
@@ -218,18 +218,27 @@ fn sign_of(ending: Ending, event: &Event, outcome: &Outcome) -> Sign
             object: *object,
             rights: *rights,
         },
-        Event::OpenQueue { client, agent, .. } => Sign::Lane {
+        Call::Stop { .. } => Sign::Stop,
+        Call::RunNext { .. } => sign_of_work(outcome),
+        Call::Poll { .. } => sign_of_poll(outcome),
+        Call::Finish { packet, .. } => Sign::Completion(*packet),
+        Call::HostWrite { client, .. } => Sign::Write(*client),
+        Call::ChangeSignal { client, .. } => Sign::Change(*client),
+    }
+}
+
+// What an entry is drawn as; `ending` is how its packet ended, if it launches one.
+fn sign_of(ending: Ending, event: &Event, outcome: &Outcome) -> Sign
+    ensures { result ≡ sign_of ending event.now outcome.now }
+{
+    match event {
+        Event::Open { client, agent, .. } => Sign::Lane {
             queue: opened(outcome),
             client: *client,
             agent: *agent,
         },
-        Event::Stop { .. } => Sign::Stop,
         Event::Take { packet, bytes, .. } => sign_of_take(*packet, bytes, ending, outcome),
-        Event::RunNext { .. } => sign_of_work(outcome),
-        Event::Poll { .. } => sign_of_poll(outcome),
-        Event::Finish { packet, .. } => Sign::Completion(*packet),
-        Event::HostWrite { client, .. } => Sign::Write(*client),
-        Event::ChangeSignal { client, .. } => Sign::Change(*client),
+        Event::Call(call) => sign_of_call(call, outcome),
         Event::Reload { .. } => Sign::Nothing,
     }
 }
@@ -240,7 +249,7 @@ fn reach_of(at: u32, event: &Event, after: &[Entry]) -> End
     ensures { result ≡ reach_of at event.now after.now }
 {
     match event {
-        Event::OpenQueue { .. } => End {
+        Event::Open { .. } => End {
             at: at + after.len() as u32,
             ending: Ending::Open,
         },

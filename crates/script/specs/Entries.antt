@@ -24,6 +24,8 @@ use Rattle.core_model.specs.declared.outcome.Outcome.{Outcome}
 use Rattle.core_model.specs.declared.outcome.Outcome.TheVariants as outcome
 use Rattle.core_model.specs.declared.event.Event.{Event}
 use Rattle.core_model.specs.declared.event.Event.TheVariants as event
+use Rattle.core_model.specs.declared.call.Call.{Call}
+use Rattle.core_model.specs.declared.call.Call.TheVariants as call
 use Rattle.core_model.specs.History.{Part}
 use Rattle.core_model.specs.declared.entry.Effect.{Effect}
 use Rattle.core_model.specs.declared.entry.Effect.TheVariants as effect
@@ -62,19 +64,23 @@ text_of_opening policy number client agent size =
     codes "queue " ++ decimal number ++ codes " " ++ text_of_client policy client ++ codes " agent " ++ decimal agent
     ++ codes " size " ++ decimal size
 
--- what was called; `number` is the number of a queue that was opened
-abbrev pub text_of_event : Declared → ℕ → Event → List ℕ
-text_of_event policy number (event.Grant client object rights) = codes "grant " ++ text_of_rights_on policy client object rights
-text_of_event policy number (event.Revoke client object rights) = codes "revoke " ++ text_of_rights_on policy client object rights
-text_of_event policy number (event.OpenQueue client agent size) = text_of_opening policy number client agent.0 size
-text_of_event policy number (event.Stop queue) = codes "stop " ++ decimal queue.0
-text_of_event policy number (event.Take queue packet bytes) = codes "take " ++ text_of_packet queue packet
-text_of_event policy number (event.RunNext queue packet) = codes "run " ++ text_of_packet queue packet
-text_of_event policy number (event.Poll queue packet) = codes "poll " ++ text_of_packet queue packet
-text_of_event policy number (event.Finish queue packet) = codes "finish " ++ text_of_packet queue packet
-text_of_event policy number (event.HostWrite client address bytes) = codes "write " ++ text_of_client policy client
-text_of_event policy number (event.ChangeSignal client signal operation) =
+-- what was called
+abbrev pub text_of_call : Declared → Call → List ℕ
+text_of_call policy (call.Grant client object rights) = codes "grant " ++ text_of_rights_on policy client object rights
+text_of_call policy (call.Revoke client object rights) = codes "revoke " ++ text_of_rights_on policy client object rights
+text_of_call policy (call.Stop queue) = codes "stop " ++ decimal queue.0
+text_of_call policy (call.RunNext queue packet) = codes "run " ++ text_of_packet queue packet
+text_of_call policy (call.Poll queue packet) = codes "poll " ++ text_of_packet queue packet
+text_of_call policy (call.Finish queue packet) = codes "finish " ++ text_of_packet queue packet
+text_of_call policy (call.HostWrite client address bytes) = codes "write " ++ text_of_client policy client
+text_of_call policy (call.ChangeSignal client signal operation) =
     codes "signal " ++ text_of_client policy client ++ codes " " ++ name_of_operation operation
+
+-- what happened; `number` is the number of a queue that was opened
+abbrev pub text_of_event : Declared → ℕ → Event → List ℕ
+text_of_event policy number (event.Open client agent size) = text_of_opening policy number client agent.0 size
+text_of_event policy number (event.Take queue packet bytes) = codes "take " ++ text_of_packet queue packet
+text_of_event policy number (event.Call asked) = text_of_call policy asked
 text_of_event policy number (event.Reload rows) = codes "reload"
 
 -- the dependency at a position, from 1, was newly seen

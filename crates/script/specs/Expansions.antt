@@ -15,8 +15,8 @@ use Rattle.core_model.specs.declared.refusal.Refusal.TheVariants as why
 use Rattle.policy.specs.Policy.{Declared, numbered}
 use Rattle.world.specs.declared.reply.Refusal.{Refusal}
 use Rattle.world.specs.declared.reply.Refusal.TheVariants as refusal
-use Rattle.world.specs.declared.request.Call.{Call}
-use Rattle.world.specs.declared.request.Call.TheVariants as call
+use Rattle.core_model.specs.declared.call.Call.{Call}
+use Rattle.core_model.specs.declared.call.Call.TheVariants as call
 use Rattle.world.specs.declared.request.Request.{Request}
 use Rattle.world.specs.declared.request.Request.TheVariants as request
 use Rattle.world.specs.States.{slots_of}

@@ -1,12 +1,12 @@
 //! The audit as text.
 
 ghost use Rattle.std.specs.Prelude.{◌≡◌, ◌++◌, ◌+◌, ◌<◌, OnOk, flat_map, decimal, string_bytes};
-ghost use Rattle.script.specs.Entries.{name_of_operation, text_of_packet, text_of_rights_on, opened, text_of_opening, seen_at, text_of_take, text_of_work, text_of_poll, text_of_event, text_of_seen, text_of_broken, text_of_result, text_of_effect, text_of_entry, text_of_entries, text_of_audit, text_of_rotated};
+ghost use Rattle.script.specs.Entries.{name_of_operation, text_of_packet, text_of_rights_on, opened, text_of_call, text_of_opening, seen_at, text_of_take, text_of_work, text_of_poll, text_of_event, text_of_seen, text_of_broken, text_of_result, text_of_effect, text_of_entry, text_of_entries, text_of_audit, text_of_rotated};
 ghost use Rattle.script.specs.Texts.{comma_if};
 
 use crate::texts::{write_address, write_bytes, write_client, write_item, write_rights};
 use aql_packet::{ClientId, PacketId, QueueId};
-use core_model::{Effect, Entry, Event, Outcome, Part, Polled, Satisfied, Taken, Worked};
+use core_model::{Call, Effect, Entry, Event, Outcome, Part, Polled, Satisfied, Taken, Worked};
 use policy::{Object, Policy, Rights};
 use queue_error::QueueError;
 use signals::SignalOp;
@@ -73,7 +73,42 @@ fn write_opening(
     write!(out, " agent {agent} size {size}")
 }
 
-// Writes what was called; `number` is the number of a queue that was opened.
+// Writes what was called.
+fn write_call(out: &mut String, policy: &Policy, call: &Call) -> Result<(), AllocError>
+    ensures { OnOk result (string_bytes out.new ≡ string_bytes out.old ++ text_of_call policy.now call.now) }
+{
+    match call {
+        Call::Grant {
+            client,
+            object,
+            rights,
+        } => write_rights_on(out, policy, "grant ", *client, *object, *rights),
+        Call::Revoke {
+            client,
+            object,
+            rights,
+        } => write_rights_on(out, policy, "revoke ", *client, *object, *rights),
+        Call::Stop { queue } => write!(out, "stop {}", queue.0),
+        Call::RunNext { queue, packet } => write_packet(out, "run ", *queue, *packet),
+        Call::Poll { queue, packet } => write_packet(out, "poll ", *queue, *packet),
+        Call::Finish { queue, packet } => write_packet(out, "finish ", *queue, *packet),
+        Call::HostWrite { client, .. } => {
+            out.push_str("write ")?;
+            write_client(out, policy, *client)
+        }
+        Call::ChangeSignal {
+            client,
+            operation,
+            ..
+        } => {
+            out.push_str("signal ")?;
+            write_client(out, policy, *client)?;
+            write!(out, " {}", operation_name(operation))
+        }
+    }
+}
+
+// Writes what happened; `number` is the number of a queue that was opened.
 fn write_event(
     out: &mut String,
     policy: &Policy,
@@ -83,39 +118,13 @@ fn write_event(
     ensures { OnOk result (string_bytes out.new ≡ string_bytes out.old ++ text_of_event policy.now number event.now) }
 {
     match event {
-        Event::Grant {
-            client,
-            object,
-            rights,
-        } => write_rights_on(out, policy, "grant ", *client, *object, *rights),
-        Event::Revoke {
-            client,
-            object,
-            rights,
-        } => write_rights_on(out, policy, "revoke ", *client, *object, *rights),
-        Event::OpenQueue {
+        Event::Open {
             client,
             agent,
             size,
         } => write_opening(out, policy, number, *client, agent.0, *size),
-        Event::Stop { queue } => write!(out, "stop {}", queue.0),
         Event::Take { queue, packet, .. } => write_packet(out, "take ", *queue, *packet),
-        Event::RunNext { queue, packet } => write_packet(out, "run ", *queue, *packet),
-        Event::Poll { queue, packet } => write_packet(out, "poll ", *queue, *packet),
-        Event::Finish { queue, packet } => write_packet(out, "finish ", *queue, *packet),
-        Event::HostWrite { client, .. } => {
-            out.push_str("write ")?;
-            write_client(out, policy, *client)
-        }
-        Event::ChangeSignal {
-            client,
-            operation,
-            ..
-        } => {
-            out.push_str("signal ")?;
-            write_client(out, policy, *client)?;
-            write!(out, " {}", operation_name(operation))
-        }
+        Event::Call(call) => write_call(out, policy, call),
         Event::Reload { .. } => out.push_str("reload"),
     }
 }

@@ -9,12 +9,12 @@ ghost use Rattle.script.specs.Expansions.{ask, IsCopied, reload, collects, does,
 
 use crate::command::{Command, Form, LineAnswer, LineReply, Shown};
 use aql_packet::{PacketId, QueueId};
-use core_model::Taken;
+use core_model::{Call, Taken};
 use policy::Policy;
 use ring_core::{Access, Seen, Step, is_invalid};
 use signals::SignalOp;
 use std::alloc::Global;
-use world::{Answer, Call, Refusal, Reply, Request, World};
+use world::{Answer, Refusal, Reply, Request, World};
 
 // The seat of a queue's processor.
 const PROCESSOR: u64 = 0;

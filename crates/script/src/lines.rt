@@ -13,13 +13,13 @@ use crate::words::{
     five_words, four_words, is_word, no_words, one_word, split_word, three_words, two_words,
 };
 use aql_packet::{AgentHandle, ClientId, PacketId, QueueId, SignalHandle};
-use core_model::Query;
+use core_model::{Call, Query};
 use policy::{Kind, Object, Policy, Rights};
 use ring_core::{Access, Step};
 use sequences::Sequence;
 use signals::SignalOp;
 use std::alloc::{AllocError, Global};
-use world::{Call, Request};
+use world::Request;
 
 /// The most bytes that a line has.
 pub const LONGEST_LINE: usize = 16_384;

@@ -1,7 +1,8 @@
 -- What became of the packets of a queue, as an audit tells it (own).
 use Rattle.std.specs.Prelude.{ℕ, Bool, true, false, ◌==◌, ◌&&◌, count_by, List}
 use Rattle.core_model.specs.declared.event.Event.{Event}
-use Rattle.core_model.specs.declared.event.Event.TheVariants.{Take, Finish}
+use Rattle.core_model.specs.declared.event.Event.TheVariants.{Take, Call}
+use Rattle.core_model.specs.declared.call.Call.TheVariants.{Finish}
 use Rattle.core_model.specs.declared.entry.Entry.{Entry}
 use Rattle.core_model.specs.declared.outcome.Outcome.{Outcome}
 use Rattle.core_model.specs.declared.outcome.Outcome.TheVariants as outcome
@@ -25,7 +26,7 @@ is_take queue _ = false
 
 -- a packet of a queue was to be finished (own)
 abbrev pub is_finish : ℕ → Event → Bool
-is_finish queue (Finish q id) = q.0 == queue
+is_finish queue (Call (Finish q id)) = q.0 == queue
 is_finish queue _ = false
 
 -- a packet of a queue was launched (own)

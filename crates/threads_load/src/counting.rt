@@ -4,7 +4,7 @@ ghost use Rattle.std.specs.Prelude.{◌≡◌, ◌++◌, count_by};
 ghost use Rattle.threads_load.specs.Counts.{is_completion, is_denial, is_denied, is_launch, is_launched, packet_counts};
 
 use aql_packet::QueueId;
-use core_model::{Entry, Event, Outcome, Taken};
+use core_model::{Call, Entry, Event, Outcome, Taken};
 
 /// How many packets of a queue were launched, finished and denied.
 #[derive(Clone, Copy, Debug, PartialEq, Eq)]
@@ -59,7 +59,7 @@ fn is_completion(queue: QueueId, entry: &Entry) -> bool
     ensures { result ≡ is_completion queue.0 entry.now }
 {
     match &entry.event {
-        Event::Finish { queue: of, .. } => of.0 == queue.0,
+        Event::Call(Call::Finish { queue: of, .. }) => of.0 == queue.0,
         _ => false,
     }
 }

@@ -7,7 +7,7 @@ use crate::stages::{publish_all, reaches, split_last_end, stage};
 use access_core::AccessCore;
 use aql_packet::{Address, ClientId, REGION_SPAN};
 use client_threads::{Broker, ClientEnd};
-use core_model::{Event, Refusal};
+use core_model::{Call, Event, Refusal};
 use sequences::Sequence;
 use std::alloc::Global;
 use std::sync::Wait;
@@ -99,7 +99,7 @@ fn reads(alloc: Global, core: &mut AccessCore) -> bool {
 fn ends_with_write(core: &mut AccessCore) -> bool {
     match core.audit().last() {
         Some(entry) => match &entry.event {
-            Event::HostWrite { .. } => true,
+            Event::Call(Call::HostWrite { .. }) => true,
             _ => false,
         },
         None => false,

@@ -3,11 +3,11 @@
 
 use access_core::Kernel;
 use aql_packet::{Address, AgentHandle, ClientId, PacketId, QueueId, RegionHandle};
-use core_model::{Outcome, Query, Taken};
+use core_model::{Call, Outcome, Query, Taken};
 use policy::{Object, Policy, Rights, read_policy};
 use ring_core::{Access, Seen, Step};
 use std::alloc::Global;
-use world::{Answer, Call, Reply, Request, World};
+use world::{Answer, Reply, Request, World};
 
 /// A world over the policy in a text, which declares no kernels, with places for 1,000 entries.
 pub fn open(alloc: Global, text: &[u8]) -> Option<World> {

@@ -11,7 +11,7 @@ use Rattle.aql_packet.specs.Reading.{barrier_bit}
 use Rattle.queue_error.specs.declared.rule.Rule.{Rule}
 use Rattle.policy.specs.Policy.{Declared, numbered}
 use Rattle.core_model.specs.declared.event.Event.{Event}
-use Rattle.core_model.specs.declared.event.Event.TheVariants.{OpenQueue, Reload, Take}
+use Rattle.core_model.specs.declared.event.Event.TheVariants.{Open, Reload, Take}
 use Rattle.core_model.specs.declared.event.Query.{Query}
 use Rattle.core_model.specs.declared.event.Request.TheVariants as asked
 use Rattle.core_model.specs.declared.entry.Entry.{Entry}
@@ -44,12 +44,12 @@ use Rattle.ring_core.specs.Machine.{made, producers_of, read_index}
 use Rattle.ring_core.specs.Rule.{processor_of}
 use Rattle.ring_core.proofs.Publication.{Moved, index_moves}
 use Rattle.world.specs.declared.queue_ring.QueueRing.{QueueRing}
-use Rattle.world.specs.declared.request.Call.{Call}
+use Rattle.core_model.specs.declared.call.Call.{Call}
 use Rattle.world.specs.declared.request.Request.{Request}
 use Rattle.world.specs.declared.request.Request.TheVariants as request
 use Rattle.world.specs.declared.reply.Refusal.{Refusal}
 use Rattle.world.specs.Bytes.{bytes_of}
-use Rattle.world.specs.Calls.{event_of}
+use Rattle.core_model.specs.declared.event.Event.TheVariants as event
 use Rattle.world.specs.Dues.{Reply, asked_size, hindrance, is_decided, taking}
 use Rattle.world.specs.InStep.{IsInStep, IsJoinedBehind, IsUntouched, Stands}
 use Rattle.world.specs.Making.{AreDecided, MakesAt, MakesWhere, decided_after, ring_made, rings_of, with_queue_ring}
@@ -221,10 +221,10 @@ aside_next core event aside (enters told effects) queue =
     next_id-more (beginning core) core.entries (entry_of event told effects) queue ∙ ap (λ b. if b then next_id (beginning core) core.entries queue + 1 else next_id (beginning core) core.entries queue) (aside.hands queue)
 
 opening_next : (core : History) (client : ClientId) (agent : AgentHandle) (size : ℕ) (owing : Owed) → (queue : QueueId)
-    → next_id (beginning (history_after core (OpenQueue client agent size) owing)) (history_after core (OpenQueue client agent size) owing).entries queue ≡ next_id (beginning core) core.entries queue
+    → next_id (beginning (history_after core (Open client agent size) owing)) (history_after core (Open client agent size) owing).entries queue ≡ next_id (beginning core) core.entries queue
 opening_next core client agent size (refuses why) queue = refl
 opening_next core client agent size (answers told) queue = refl
-opening_next core client agent size (enters told effects) queue = next_id-more (beginning core) core.entries (entry_of (OpenQueue client agent size) told effects) queue
+opening_next core client agent size (enters told effects) queue = next_id-more (beginning core) core.entries (entry_of (Open client agent size) told effects) queue
 
 -- ---- any request
 
@@ -261,15 +261,15 @@ module _ (core core' : History) (rings new : List QueueRing) (first : Declared) 
   opening_decided : (client : ClientId) (agent : AgentHandle) (size producers : ℕ) → Opens client agent size producers core rings reply core' new → AreDecided core' new
   opening_decided client agent size producers (made, meets, told, put) = subst (AreDecided core') (sym put) (opened_decided size producers made (by_due meets))
     where
-      by_due : MeetsOrLacks (OpenQueue client agent (asked_size size producers)) core core' (map_ok outcome.Opened made) → (queue : QueueId) → next_id (beginning core') core'.entries queue ≡ next_id (beginning core) core.entries queue
-      by_due (inl m) queue = ap (λ (x : History). next_id (beginning x) x.entries queue) m.history_is ∙ opening_next core client agent (asked_size size producers) (due core (OpenQueue client agent (asked_size size producers))) queue
+      by_due : MeetsOrLacks (Open client agent (asked_size size producers)) core core' (map_ok outcome.Opened made) → (queue : QueueId) → next_id (beginning core') core'.entries queue ≡ next_id (beginning core) core.entries queue
+      by_due (inl m) queue = ap (λ (x : History). next_id (beginning x) x.entries queue) m.history_is ∙ opening_next core client agent (asked_size size producers) (due core (Open client agent (asked_size size producers))) queue
       by_due (inr l) queue = ap (λ (x : History). next_id (beginning x) x.entries queue) l.history_is
 
-  call_decided : (call : Call) → Asks (asked.Event (event_of call)) core reply core' × (new ≡ rings) → AreDecided core' new
+  call_decided : (call : Call) → Asks (asked.Event (event.Call call)) core reply core' × (new ≡ rings) → AreDecided core' new
   call_decided call ((replied, served, told), same) = subst (AreDecided core') (sym same) (decided_along core core' rings (by_served served) d)
     where
-      by_served : cores_law.IsServed core (asked.Event (event_of call)) replied core' → (queue : QueueId) → next_id (beginning core') core'.entries queue ≡ next_id (beginning core) core.entries queue
-      by_served (made, is, inl m) queue = ap (λ (x : History). next_id (beginning x) x.entries queue) m.history_is ∙ aside_next core (event_of call) (call_aside call) (due core (event_of call)) queue
+      by_served : cores_law.IsServed core (asked.Event (event.Call call)) replied core' → (queue : QueueId) → next_id (beginning core') core'.entries queue ≡ next_id (beginning core) core.entries queue
+      by_served (made, is, inl m) queue = ap (λ (x : History). next_id (beginning x) x.entries queue) m.history_is ∙ aside_next core (event.Call call) (call_aside call) (due core (event.Call call)) queue
       by_served (made, is, inr l) queue = ap (λ (x : History). next_id (beginning x) x.entries queue) l.history_is
 
   query_decided : (query : Query) → Asks (asked.Query query) core reply core' × (new ≡ rings) → AreDecided core' new

@@ -6,7 +6,7 @@ use Rattle.aql_packet.specs.declared.ids.ClientId.{ClientId}
 use Rattle.aql_packet.specs.declared.ids.QueueId.{QueueId}
 use Rattle.kernel_check.specs.Programs.{Program}
 use Rattle.policy.specs.Policy.{Declared, numbered}
-use Rattle.core_model.specs.declared.event.Event.TheVariants.{OpenQueue, Take}
+use Rattle.core_model.specs.declared.event.Event.TheVariants.{Open, Take}
 use Rattle.core_model.specs.declared.outcome.Outcome.{Outcome}
 use Rattle.core_model.specs.declared.refusal.Refusal as cores
 use Rattle.core_model.specs.History.{beginning, History}
@@ -48,9 +48,9 @@ handed_refused core core' rings queue r next bytes why found is filled meets =
 
 -- a queue whose ring there can't be is not opened
 pub never_opened : (core core' : History) (client : ClientId) (agent : AgentHandle) (size producers asked : ℕ) (told : Outcome) → (is_producer_count producers && is_ring_size size) ≡ false → asked ≡ asked_size size producers
-    → MeetsOrLacks (OpenQueue client agent asked) core core' (Ok told) → ⊥
+    → MeetsOrLacks (Open client agent asked) core core' (Ok told) → ⊥
 never_opened core core' client agent size producers asked told unfit is (inr lacks) = let e = lacks.reply_is in cc
-never_opened core core' client agent size producers asked told unfit is (inl meets) = by_owing (due core (OpenQueue client agent asked)) refl meets.reply_is
+never_opened core core' client agent size producers asked told unfit is (inl meets) = by_owing (due core (Open client agent asked)) refl meets.reply_is
   where
     fits_not : is_ring_size asked ≡ true → ⊥
     fits_not fits =
@@ -59,10 +59,10 @@ never_opened core core' client agent size producers asked told unfit is (inl mee
         let both_good : (is_producer_count producers && is_ring_size size) ≡ true = (λ i. good.1 i && size_good i) in
         cc
 
-    by_owing : (owing : Owed) → due core (OpenQueue client agent asked) ≡ owing → Ok told ≡ reply_of owing → ⊥
+    by_owing : (owing : Owed) → due core (Open client agent asked) ≡ owing → Ok told ≡ reply_of owing → ⊥
     by_owing (refuses why) e reply = cc
-    by_owing (answers other) e reply = fits_not (opening_owed (beginning core) core.entries client agent asked (answers other) (λ w x. cc) (due_answers core (OpenQueue client agent asked) other e)).0
-    by_owing (enters other effects) e reply = fits_not (opening_owed (beginning core) core.entries client agent asked (enters other effects) (λ w x. cc) (due_enters core (OpenQueue client agent asked) other effects e)).0
+    by_owing (answers other) e reply = fits_not (opening_owed (beginning core) core.entries client agent asked (answers other) (λ w x. cc) (due_answers core (Open client agent asked) other e)).0
+    by_owing (enters other effects) e reply = fits_not (opening_owed (beginning core) core.entries client agent asked (enters other effects) (λ w x. cc) (due_enters core (Open client agent asked) other effects e)).0
 
 -- a world begins joined
 pub starts : (policy : Declared) (kernels : List Program) (capacity : ℕ) (core : History) (rings : List QueueRing) → IsOpening core policy kernels capacity → rings ≡ [] → IsJoined (World core rings) × AreDecided core rings

@@ -8,7 +8,7 @@ use Rattle.kernel_check.specs.Programs.{Program}
 use Rattle.policy.specs.Policy.{Declared, numbered}
 use Rattle.policy.specs.declared.rows.PolicyRows.{PolicyRows}
 use Rattle.core_model.specs.declared.event.Event.{Event}
-use Rattle.core_model.specs.declared.event.Event.TheVariants.{OpenQueue, Reload}
+use Rattle.core_model.specs.declared.event.Event.TheVariants.{Open, Reload}
 use Rattle.core_model.specs.Legal.{IsOpening, IsWhole}
 use Rattle.core_model.specs.Queues.{next_id, openings}
 use Rattle.core_model.specs.declared.entry.Entry.{Entry}
@@ -19,14 +19,14 @@ use Rattle.ring_core.specs.Machine.{Machine, found, is_allowed, made, read_index
 use Rattle.ring_core.specs.Rule.{processor_of}
 use Rattle.ring_core.proofs.Kept.{both}
 use Rattle.ring_core.proofs.States.{ring_steps}
-use Rattle.world.specs.declared.request.Call.{Call}
-use Rattle.world.specs.declared.request.Call.TheVariants as call
+use Rattle.core_model.specs.declared.call.Call.{Call}
+use Rattle.core_model.specs.declared.call.Call.TheVariants as call
 use Rattle.world.specs.declared.request.Request.{Request}
 use Rattle.world.specs.declared.request.Request.TheVariants as request
 use Rattle.world.specs.declared.reply.Refusal.{Refusal}
 use Rattle.world.specs.declared.reply.Refusal.TheVariants as refusal
 use Rattle.world.specs.States.{Joined, joined, ring_of}
-use Rattle.world.specs.Calls.{event_of}
+use Rattle.core_model.specs.declared.event.Event.TheVariants as event
 use Rattle.world.specs.Dues.{AreReplies, Due, IsServed, Meets, Reply, answer_to, asked_size, due_collected, due_event, due_opening, due_query, due_step, due_take, due_where, handed, handed_out, has_spent, hindrance, is_decided, may_follow, of_core, reserves, rotated_reply, taken_reply, taking}
 use Rattle.world.specs.Headline.{IsBegun}
 use Rattle.world.specs.InStep.{IsJoinedBehind, Stands, sizes, takes}
@@ -64,7 +64,7 @@ unhindered decided ring step = by_spent (reserves step.access && has_spent (slic
     by_spent false e = by_may (is_allowed ring step && may_follow decided step.access) refl e
 
 -- a call concerns no ring
-pub call_aside : (asked : Call) → IsAside (event_of asked)
+pub call_aside : (asked : Call) → IsAside (event.Call asked)
 call_aside (call.Grant client object rights) = record { opens = refl; sizes = refl; takes = λ q. refl; hands = λ q. refl }
 call_aside (call.Revoke client object rights) = record { opens = refl; sizes = refl; takes = λ q. refl; hands = λ q. refl }
 call_aside (call.Stop queue) = record { opens = refl; sizes = refl; takes = λ q. refl; hands = λ q. refl }
@@ -191,11 +191,11 @@ module _ (first : Declared) (prior : List Entry) (world : Joined) (h : IsJoinedB
   served_kept (request.Take queue) reply new is =
       meets_kept (due_take world queue (ring_of world queue)) reply new (handed_at_take world queue (ring_of world queue)) (taking_kept queue (ring_of world queue) refl) is
   served_kept (request.OpenQueue client agent size producers) reply new is =
-      let event : Event = OpenQueue client agent (asked_size size producers) in
+      let event : Event = Open client agent (asked_size size producers) in
       meets_kept (due_opening world size producers event (due world.core event)) reply new (handed_of_core (as_reply (reply_of (due world.core event)))) (opening_kept first prior world h client agent size producers) is
   served_kept (request.Call asked) reply new is =
-      meets_kept (due_event world (event_of asked) (due world.core (event_of asked))) reply new (handed_of_core (as_reply (reply_of (due world.core (event_of asked)))))
-      (aside_kept first prior world h (event_of asked) (call_aside asked)) is
+      meets_kept (due_event world (event.Call asked) (due world.core (event.Call asked))) reply new (handed_of_core (as_reply (reply_of (due world.core (event.Call asked)))))
+      (aside_kept first prior world h (event.Call asked) (call_aside asked)) is
   served_kept (request.Query asked) reply new is = meets_kept (due_query world asked) reply new (handed_of_core (query_answer (beginning world.core) world.core.entries asked)) h is
   served_kept (request.Reload policy) reply new (inl is) =
       meets_kept (due_event world (Reload policy.rows) (due world.core (Reload policy.rows))) reply new (handed_of_core (as_reply (reply_of (due world.core (Reload policy.rows)))))

@@ -5,7 +5,7 @@ use Rattle.aql_packet.specs.declared.ids.AgentHandle.{AgentHandle}
 use Rattle.aql_packet.specs.declared.ids.ClientId.{ClientId}
 use Rattle.aql_packet.specs.declared.ids.QueueId.{QueueId}
 use Rattle.policy.specs.Policy.{Declared, numbered}
-use Rattle.core_model.specs.declared.event.Event.TheVariants.{OpenQueue}
+use Rattle.core_model.specs.declared.event.Event.TheVariants.{Open}
 use Rattle.core_model.specs.declared.event.Query.{Query}
 use Rattle.core_model.specs.declared.event.Request.TheVariants as asked
 use Rattle.core_model.specs.declared.outcome.Outcome.TheVariants as outcome
@@ -21,12 +21,12 @@ use Rattle.ring_core.specs.Parts.{collected_packet}
 use Rattle.ring_core.specs.Machine.{made, read_index}
 use Rattle.ring_core.specs.Rule.{processor_of}
 use Rattle.world.specs.declared.queue_ring.QueueRing.{QueueRing}
-use Rattle.world.specs.declared.request.Call.{Call}
+use Rattle.core_model.specs.declared.call.Call.{Call}
 use Rattle.world.specs.declared.request.Request.{Request}
 use Rattle.world.specs.declared.request.Request.TheVariants as request
 use Rattle.world.specs.declared.reply.Refusal.{Refusal}
 use Rattle.world.specs.States.{Joined, joined, ring_of}
-use Rattle.world.specs.Calls.{event_of}
+use Rattle.core_model.specs.declared.event.Event.TheVariants as event
 use Rattle.world.specs.Dues.{IsServed, Meets, Reply, asked_size, due_collected, due_step, due_take, due_where, hindrance, is_decided, of_core, rings_after, taken_reply, taking}
 use Rattle.world.specs.Making.{AreDecided, MakesAt, MakesWhere, rings_of, with_queue_ring}
 use Rattle.world.specs.Obeying.{Asks, HandsOut, HandsOver, Obeys, Opens, TakesAt, new_ring, ring_taken, rings_opened, told_opened, told_taken}
@@ -120,10 +120,10 @@ module _ (core core' : History) (old new : List QueueRing) (decided : AreDecided
       → IsServed (World core old) (request.OpenQueue client agent size producers) reply (World core' new)
   opening_served client agent size producers (made, meets, told, put) = by_due meets
     where
-      by_due : MeetsOrLacks (OpenQueue client agent (asked_size size producers)) core core' (map_ok outcome.Opened made)
+      by_due : MeetsOrLacks (Open client agent (asked_size size producers)) core core' (map_ok outcome.Opened made)
           → IsServed (World core old) (request.OpenQueue client agent size producers) reply (World core' new)
       by_due (inl m) =
-          let rings : rings_of new ≡ rings_after (rings_of old) size producers (reply_of (due core (OpenQueue client agent (asked_size size producers)))) =
+          let rings : rings_of new ≡ rings_after (rings_of old) size producers (reply_of (due core (Open client agent (asked_size size producers)))) =
           ap rings_of put ∙ rings_as size producers made ∙ ap (rings_after (rings_of old) size producers) m.reply_is in
           inl (told ∙ opened_as made ∙ ap (λ x. of_core (as_reply x)) m.reply_is, λ i. joined (m.history_is i) (rings i))
       by_due (inr l) =
@@ -132,10 +132,10 @@ module _ (core core' : History) (old new : List QueueRing) (decided : AreDecided
 
   -- ---- calls and queries
 
-  call_served : (call : Call) → Asks (asked.Event (event_of call)) core reply core' × (new ≡ old) → IsServed (World core old) (request.Call call) reply (World core' new)
+  call_served : (call : Call) → Asks (asked.Event (event.Call call)) core reply core' × (new ≡ old) → IsServed (World core old) (request.Call call) reply (World core' new)
   call_served call ((replied, served, told), same) = by_served served
     where
-      by_served : cores_law.IsServed core (asked.Event (event_of call)) replied core' → IsServed (World core old) (request.Call call) reply (World core' new)
+      by_served : cores_law.IsServed core (asked.Event (event.Call call)) replied core' → IsServed (World core old) (request.Call call) reply (World core' new)
       by_served (made, is, inl m) = inl (told ∙ ap of_core (is ∙ ap as_reply m.reply_is), λ i. joined (m.history_is i) (rings_of (same i)))
       by_served (made, is, inr l) = inr (l.may, told ∙ ap of_core (is ∙ ap as_reply l.reply_is), λ i. joined (l.history_is i) (rings_of (same i)))
 

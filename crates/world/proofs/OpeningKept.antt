@@ -10,7 +10,7 @@ use Rattle.policy.specs.declared.rights.Right.TheVariants as right
 use Rattle.policy.specs.Rules.{knows_client}
 use Rattle.policy.specs.Policy.{Declared, numbered, rules_of}
 use Rattle.core_model.specs.declared.event.Event.{Event}
-use Rattle.core_model.specs.declared.event.Event.TheVariants.{OpenQueue}
+use Rattle.core_model.specs.declared.event.Event.TheVariants.{Open}
 use Rattle.core_model.specs.declared.entry.Entry.{Entry}
 use Rattle.core_model.specs.declared.entry.Effect.{Effect}
 use Rattle.core_model.specs.declared.limits.TheConstants.{QUEUES}
@@ -49,7 +49,7 @@ through_if true why rest owing some is = absurd (some why (sym is))
 through_if false why rest owing some is = is
 
 -- what isn't refused is an entry, and the size is one that a ring may have
-pub opening_owed : (start : Start) (es : List Entry) (client : ClientId) (agent : AgentHandle) (size : ℕ) (owing : Owed) → ((w : Refusal) → owing ≢ refuses w) → owed start es (OpenQueue client agent size) ≡ owing
+pub opening_owed : (start : Start) (es : List Entry) (client : ClientId) (agent : AgentHandle) (size : ℕ) (owing : Owed) → ((w : Refusal) → owing ≢ refuses w) → owed start es (Open client agent size) ≡ owing
     → (is_ring_size size ≡ true) × (enters (outcome.Opened (record { 0 = length (openings start es) + 1 })) [] ≡ owing)
 unfolding owed
 opening_owed start es client agent size owing some is =
@@ -79,7 +79,7 @@ opens_in_step core all queue size producers h = record {
 
 module _ (first : Declared) (prior : List Entry) (world : Joined) (h : IsJoinedBehind first prior world) (client : ClientId) (agent : AgentHandle) (size producers : ℕ) where
   abbrev Opening : Event
-  Opening = OpenQueue client agent (asked_size size producers)
+  Opening = Open client agent (asked_size size producers)
 
   abbrev After : Owed → Joined
   After owing = joined (history_after world.core Opening owing) (rings_after world.rings size producers (reply_of owing))

@@ -6,7 +6,7 @@ use Rattle.policy.specs.Declaring.{DeclaresAs}
 use Rattle.policy.specs.Policy.{Declared}
 use Rattle.core_model.specs.declared.entry.Entry.{Entry}
 use Rattle.core_model.specs.declared.event.Event.{Event}
-use Rattle.core_model.specs.declared.event.Event.TheVariants.{OpenQueue, Reload, Take}
+use Rattle.core_model.specs.declared.event.Event.TheVariants.{Open, Reload, Take}
 use Rattle.core_model.specs.declared.event.Query.{Query}
 use Rattle.core_model.specs.declared.outcome.Outcome.{Outcome}
 use Rattle.core_model.specs.declared.outcome.Outcome.TheVariants as outcome
@@ -36,7 +36,7 @@ use Rattle.world.specs.declared.reply.Refusal.{Refusal}
 use Rattle.world.specs.declared.reply.Refusal.TheVariants as refusal
 use Rattle.world.specs.States.{Joined, joined, ring_of, with_core, with_ring}
 use Rattle.world.specs.Bytes.{bytes_of}
-use Rattle.world.specs.Calls.{event_of}
+use Rattle.core_model.specs.declared.event.Event.TheVariants as event
 
 abbrev pub Reply : Type 0
 Reply = Result Answer Refusal
@@ -202,8 +202,8 @@ abbrev pub IsServed : Joined → Request → Reply → Joined → Type 0
 IsServed old (request.Step queue step) reply new = Meets old (due_step old queue step (ring_of old queue)) reply new
 IsServed old (request.Take queue) reply new = Meets old (due_take old queue (ring_of old queue)) reply new
 IsServed old (request.OpenQueue client agent size producers) reply new =
-    Meets old (due_opening old size producers (OpenQueue client agent (asked_size size producers)) (due old.core (OpenQueue client agent (asked_size size producers)))) reply new
-IsServed old (request.Call call) reply new = Meets old (due_event old (event_of call) (due old.core (event_of call))) reply new
+    Meets old (due_opening old size producers (Open client agent (asked_size size producers)) (due old.core (Open client agent (asked_size size producers)))) reply new
+IsServed old (request.Call call) reply new = Meets old (due_event old (event.Call call) (due old.core (event.Call call))) reply new
 IsServed old (request.Query query) reply new = Meets old (due_query old query) reply new
 IsServed old (request.Reload policy) reply new = Reloads old policy reply new
 IsServed old request.Rotate reply new = RotatesTo old reply new

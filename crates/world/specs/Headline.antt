@@ -25,7 +25,8 @@ use Rattle.core_model.specs.declared.entry.Effect.TheVariants as effect
 use Rattle.core_model.specs.declared.entry.Entry.{Entry}
 use Rattle.core_model.specs.declared.flight.InFlight.{InFlight}
 use Rattle.core_model.specs.declared.flight.Progress.{Progress}
-use Rattle.core_model.specs.declared.event.Event.TheVariants.{ChangeSignal, HostWrite, OpenQueue, RunNext, Take}
+use Rattle.core_model.specs.declared.event.Event.TheVariants.{Open, Take, Call}
+use Rattle.core_model.specs.declared.call.Call.TheVariants.{ChangeSignal, HostWrite, RunNext}
 use Rattle.core_model.specs.declared.event.Query.TheVariants as query
 use Rattle.core_model.specs.declared.outcome.Outcome.{Outcome}
 use Rattle.core_model.specs.declared.outcome.Outcome.TheVariants as outcome
@@ -91,7 +92,7 @@ EachChangeWasGranted start entries =
 abbrev pub EachGroupReadWasGranted : Start → List Entry → Type 0
 EachGroupReadWasGranted start entries =
     (before : List Entry) (queue : QueueId) (id : PacketId) (told : Outcome) (effects : List Effect) →
-    IsEntryBehind entries before (entry_of (RunNext queue id) told effects) →
+    IsEntryBehind entries before (entry_of (Call (RunNext queue id)) told effects) →
     (s : InFlightSince start before queue id)
     × All (MayReachRange start s.launch.before s.launch.opening.client right.Read) (ranges_seen start (own_rights start before queue id) s.flying.packet)
 
@@ -100,7 +101,7 @@ EachGroupReadWasGranted start entries =
 abbrev pub EachGroupCameToItsMeaning : Start → List Entry → Type 0
 EachGroupCameToItsMeaning start entries =
     (before : List Entry) (queue : QueueId) (id : PacketId) (told : Outcome) (effects : List Effect) (flying : InFlight) →
-    IsEntryBehind entries before (entry_of (RunNext queue id) told effects) → in_flight start before queue id ≡ Some flying →
+    IsEntryBehind entries before (entry_of (Call (RunNext queue id)) told effects) → in_flight start before queue id ≡ Some flying →
     owed_group start before queue id (given_at_launch start before queue id) flying.packet (progress start before queue id) ≡ enters told effects
 
 -- a group depends on no byte of memory but those of the ranges that its work reads
@@ -139,11 +140,11 @@ EachHandleListedIsGranted start entries =
 -- queue, its read, and its look at a signal
 pub record CallsWithoutTheirRightAreDenied (start : Start) (entries : List Entry) : Type 0 where
   pub write : (client : ClientId) (address : Address) (bytes : List ℕ) → knows_client (rules_of start.policy) client ≡ true → is_host_size (length bytes) ≡ true
-      → (MayReach start entries client right.Write address.0 (length bytes) → ⊥) → owed start entries (HostWrite client address bytes) ≡ refuses (refusal.Denied right.Write)
+      → (MayReach start entries client right.Write address.0 (length bytes) → ⊥) → owed start entries (Call (HostWrite client address bytes)) ≡ refuses (refusal.Denied right.Write)
   pub change : (client : ClientId) (signal : SignalHandle) (operation : SignalOp) → knows_client (rules_of start.policy) client ≡ true
-      → in_force start entries client (object.Signal signal) right.Change ≡ false → owed start entries (ChangeSignal client signal operation) ≡ refuses (refusal.Denied right.Change)
+      → in_force start entries client (object.Signal signal) right.Change ≡ false → owed start entries (Call (ChangeSignal client signal operation)) ≡ refuses (refusal.Denied right.Change)
   pub opening : (client : ClientId) (agent : AgentHandle) (size : ℕ) → knows_client (rules_of start.policy) client ≡ true
-      → in_force start entries client (object.Agent agent) right.Use ≡ false → owed start entries (OpenQueue client agent size) ≡ refuses (refusal.Denied right.Use)
+      → in_force start entries client (object.Agent agent) right.Use ≡ false → owed start entries (Open client agent size) ≡ refuses (refusal.Denied right.Use)
   pub read : (client : ClientId) (address : Address) (size : ℕ) → knows_client (rules_of start.policy) client ≡ true → is_host_size size ≡ true
       → (MayReach start entries client right.Read address.0 size → ⊥) → query_answer start entries (query.HostRead client address size) ≡ Err (refusal.Denied right.Read)
   pub load : (client : ClientId) (signal : SignalHandle) → knows_client (rules_of start.policy) client ≡ true

@@ -3,7 +3,7 @@ use Rattle.std.specs.Prelude.{◌≡◌, ℕ, ◌+◌, ◌==◌, ◌<◌, ◌≤
 use Rattle.std.specs.List.{filter_map}
 use Rattle.aql_packet.specs.declared.ids.QueueId.{QueueId}
 use Rattle.core_model.specs.declared.event.Event.{Event}
-use Rattle.core_model.specs.declared.event.Event.TheVariants.{OpenQueue, Take}
+use Rattle.core_model.specs.declared.event.Event.TheVariants.{Open, Take}
 use Rattle.core_model.specs.declared.entry.Entry.{Entry}
 use Rattle.core_model.specs.History.{beginning, History, opening_state}
 use Rattle.core_model.specs.States.{state_after}
@@ -28,7 +28,7 @@ takes entries queue = filter_map (λ entry. taken_from queue entry.event) entrie
 
 -- the size of the queue that an event opens, if it does
 abbrev pub size_of : Event → Option ℕ
-size_of (OpenQueue client agent size) = Some size
+size_of (Open client agent size) = Some size
 size_of _ = None
 
 -- the sizes of the queues that were opened, in order

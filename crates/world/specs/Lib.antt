@@ -1,6 +1,5 @@
 pub mod States
 pub mod Bytes
-pub mod Calls
 pub mod Dues
 pub mod InStep
 pub mod Making

@@ -5,7 +5,7 @@ use Rattle.aql_packet.specs.declared.ids.ClientId.{ClientId}
 use Rattle.aql_packet.specs.declared.ids.QueueId.{QueueId}
 use Rattle.policy.specs.Policy.{numbered}
 use Rattle.core_model.specs.declared.answer.Answer.TheVariants as told
-use Rattle.core_model.specs.declared.event.Event.TheVariants.{OpenQueue}
+use Rattle.core_model.specs.declared.event.Event.TheVariants.{Open}
 use Rattle.core_model.specs.declared.event.Request.{Request as Asked}
 use Rattle.core_model.specs.declared.event.Request.TheVariants as asked
 use Rattle.core_model.specs.declared.outcome.Outcome.TheVariants as outcome
@@ -29,7 +29,7 @@ use Rattle.world.specs.declared.request.Request.TheVariants as request
 use Rattle.world.specs.declared.reply.Answer.TheVariants as answer
 use Rattle.world.specs.declared.reply.Refusal.TheVariants as refusal
 use Rattle.world.specs.declared.queue_ring.Next.{Next}
-use Rattle.world.specs.Calls.{event_of}
+use Rattle.core_model.specs.declared.event.Event.TheVariants as event
 use Rattle.world.specs.Dues.{Reply, asked_size, of_core, rotated_reply, taking}
 use Rattle.world.specs.Making.{MakesAt, with_queue_ring}
 
@@ -95,12 +95,12 @@ rings_opened rings size producers (Err why) = rings
 -- the core will open a queue, memory aside
 abbrev pub MayOpen : History → ClientId → AgentHandle → ℕ → ℕ → Type 0
 MayOpen core client agent size producers =
-    may_lack_memory (OpenQueue client agent (asked_size size producers)) (due core (OpenQueue client agent (asked_size size producers))) ≡ true
+    may_lack_memory (Open client agent (asked_size size producers)) (due core (Open client agent (asked_size size producers))) ≡ true
 
 -- a queue was opened with its ring, or refused by the core
 abbrev pub Opens : ClientId → AgentHandle → ℕ → ℕ → History → List QueueRing → Reply → History → List QueueRing → Type 0
 Opens client agent size producers core old reply core' new =
-    (made : Result QueueId cores.Refusal) × MeetsOrLacks (OpenQueue client agent (asked_size size producers)) core core' (map_ok outcome.Opened made)
+    (made : Result QueueId cores.Refusal) × MeetsOrLacks (Open client agent (asked_size size producers)) core core' (map_ok outcome.Opened made)
     × (reply ≡ told_opened made) × (new ≡ rings_opened old size producers made)
 
 -- the core served a request, and told this
@@ -116,7 +116,7 @@ abbrev pub Obeys : Request → History → List QueueRing → Reply → History 
 Obeys (request.Step queue step) core old reply core' new = MakesAt (numbered old queue.0) queue step old reply new × (core' ≡ core)
 Obeys (request.Take queue) core old reply core' new = TakesAt (numbered old queue.0) queue core old reply core' new
 Obeys (request.OpenQueue client agent size producers) core old reply core' new = Opens client agent size producers core old reply core' new
-Obeys (request.Call call) core old reply core' new = Asks (asked.Event (event_of call)) core reply core' × (new ≡ old)
+Obeys (request.Call call) core old reply core' new = Asks (asked.Event (event.Call call)) core reply core' × (new ≡ old)
 Obeys (request.Query query) core old reply core' new = Asks (asked.Query query) core reply core' × (new ≡ old)
 Obeys (request.Reload policy) core old reply core' new = Asks (asked.Reload policy) core reply core' × (new ≡ old)
 Obeys request.Rotate core old reply core' new = HandsOut core reply core' × (new ≡ old)

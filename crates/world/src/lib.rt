@@ -15,5 +15,5 @@ mod world;
 
 pub use laws::{refusals_change_nothing, the_headline};
 pub use reply::{Answer, Refusal, Reply};
-pub use request::{Call, Request};
+pub use request::Request;
 pub use world::World;

@@ -17,7 +17,7 @@ use crate::request::Request;
 use crate::rings::{make_step, next_packet, note_taken};
 use access_core::AccessCore;
 use aql_packet::{AgentHandle, ClientId, QueueId, is_ring_size};
-use core_model::Outcome;
+use core_model::{Event, Outcome};
 use ring_core::{RingState, is_producer_count};
 use std::alloc::Global;
 
@@ -56,7 +56,7 @@ pub(crate) fn obey(
             };
             open(alloc, core, rings, opening)
         }
-        Request::Call(call) => ask(alloc, core, core_model::Request::Event(call.into_event())),
+        Request::Call(call) => ask(alloc, core, core_model::Request::Event(Event::Call(call))),
         Request::Query(query) => ask(alloc, core, core_model::Request::Query(query)),
         Request::Reload(policy) => ask(alloc, core, core_model::Request::Reload(policy)),
         Request::Rotate => rotate(alloc, core),

@@ -6,13 +6,13 @@ ghost use Rattle.access_core.specs.inner.Deciding.{refusal_of};
 
 use crate::access::{AccessCore, enter};
 use aql_packet::ClientId;
-use core_model::{Effects, Event, Outcome, Refusal};
+use core_model::{Call, Effects, Event, Outcome, Refusal};
 use policy::{Object, Rights};
 
 impl AccessCore {
     /// Gives a client rights on an object. It takes no memory.
     pub fn grant(&mut self, client: ClientId, object: Object, rights: Rights) -> Result<(), Refusal>
-        ensures met { Meets (Event.Grant client object rights) self.old.history self.new.history (as_accepted result) }
+        ensures met { Meets (Event.Call (Call.Grant client object rights)) self.old.history self.new.history (as_accepted result) }
         ensures places { self.new.places ≡ self.old.places }
     {
         if let Err(why) = self.grants.may_grant(client, object, rights) {
@@ -22,11 +22,11 @@ impl AccessCore {
             return Err(Refusal::AuditFull);
         }
         self.grants.put_in_force(client, object, rights);
-        let event = Event::Grant {
+        let event = Event::Call(Call::Grant {
             client,
             object,
             rights,
-        };
+        });
         enter(&mut self.audit, event, Outcome::Accepted, Effects::none());
         Ok(())
     }
@@ -39,7 +39,7 @@ impl AccessCore {
         object: Object,
         rights: Rights,
     ) -> Result<(), Refusal>
-        ensures met { Meets (Event.Revoke client object rights) self.old.history self.new.history (as_accepted result) }
+        ensures met { Meets (Event.Call (Call.Revoke client object rights)) self.old.history self.new.history (as_accepted result) }
         ensures places { self.new.places ≡ self.old.places }
     {
         if let Err(why) = self.grants.may_revoke(client, object, rights) {
@@ -49,11 +49,11 @@ impl AccessCore {
             return Err(Refusal::AuditFull);
         }
         self.grants.take_out_of_force(client, object, rights);
-        let event = Event::Revoke {
+        let event = Event::Call(Call::Revoke {
             client,
             object,
             rights,
-        };
+        });
         enter(&mut self.audit, event, Outcome::Accepted, Effects::none());
         Ok(())
     }

@@ -12,7 +12,7 @@ ghost use Rattle.core_model.specs.Memory.{signals};
 
 use crate::access::{AccessCore, enter};
 use aql_packet::{Address, ClientId, SignalHandle};
-use core_model::{Effect, Effects, Event, MOST_HOST_BYTES, Outcome, Refusal};
+use core_model::{Call, Effect, Effects, Event, MOST_HOST_BYTES, Outcome, Refusal};
 use policy::{Object, Right};
 use regions::region_of;
 use sequences::Sequence;
@@ -28,16 +28,16 @@ impl AccessCore {
         signal: SignalHandle,
         operation: SignalOp,
     ) -> Result<i64, Refusal>
-        ensures met { Meets (Event.ChangeSignal client signal operation) self.old.history self.new.history (map_ok Outcome.Changed result) }
+        ensures met { Meets (Event.Call (Call.ChangeSignal client signal operation)) self.old.history self.new.history (map_ok Outcome.Changed result) }
         ensures places { self.new.places ≡ self.old.places }
     {
         let old = self.may_change(client, signal, operation)?;
         let new = change(&mut self.signals, signal, operation, old);
-        let event = Event::ChangeSignal {
+        let event = Event::Call(Call::ChangeSignal {
             client,
             signal,
             operation,
-        };
+        });
         let answer = old_if_asked(operation, old);
         let effects = Effects::one(Effect::Signal { signal, old, new });
         enter(&mut self.audit, event, Outcome::Changed(answer), effects);
@@ -53,17 +53,17 @@ impl AccessCore {
         address: Address,
         bytes: Sequence<u8>,
     ) -> Result<(), Refusal>
-        ensures met { MeetsOrLacks (Event.HostWrite client address bytes) self.old.history self.new.history (as_accepted result) }
+        ensures met { MeetsOrLacks (Event.Call (Call.HostWrite client address bytes)) self.old.history self.new.history (as_accepted result) }
         ensures places { self.new.places ≡ self.old.places }
     {
         self.may_write(client, address, &bytes)?;
         let written = bytes.copy(alloc)?;
         self.memory.lay(address, bytes.as_slice());
-        let event = Event::HostWrite {
+        let event = Event::Call(Call::HostWrite {
             client,
             address,
             bytes,
-        };
+        });
         let effects = Effects::one(Effect::Write {
             address,
             bytes: written,
@@ -81,9 +81,9 @@ impl AccessCore {
         bytes: &Sequence<u8>,
     ) -> Result<(), Refusal>
         ensures within { OnOk result (is_within (region_lengths (beginning self.now.history).policy) address.0 (length bytes.now) ≡ true) }
-        ensures may { OnOk result (due self.now.history (Event.HostWrite client address bytes.now)
+        ensures may { OnOk result (due self.now.history (Event.Call (Call.HostWrite client address bytes.now))
             ≡ enters Outcome.Accepted (Effect.Write address bytes.now ∷ [])) }
-        ensures why { IfErr result (λ why. due self.now.history (Event.HostWrite client address bytes.now) ≡ refuses why) }
+        ensures why { IfErr result (λ why. due self.now.history (Event.Call (Call.HostWrite client address bytes.now)) ≡ refuses why) }
     {
         if !self.policy().declares_client(client) {
             return Err(Refusal::UnknownClient);
@@ -119,10 +119,10 @@ impl AccessCore {
         operation: SignalOp,
     ) -> Result<i64, Refusal>
         ensures value { IfOk result (λ old. value_of (signals (beginning self.now.history) self.now.history.entries) signal.0 ≡ Some old) }
-        ensures may { IfOk result (λ old. due self.now.history (Event.ChangeSignal client signal operation)
+        ensures may { IfOk result (λ old. due self.now.history (Event.Call (Call.ChangeSignal client signal operation))
             ≡ enters (Outcome.Changed (old_if_asked operation old))
             (Effect.Signal signal old (applied operation old) ∷ [])) }
-        ensures why { IfErr result (λ why. due self.now.history (Event.ChangeSignal client signal operation) ≡ refuses why) }
+        ensures why { IfErr result (λ why. due self.now.history (Event.Call (Call.ChangeSignal client signal operation)) ≡ refuses why) }
     {
         if !self.policy().declares_client(client) {
             return Err(Refusal::UnknownClient);

@@ -20,7 +20,7 @@ use crate::access::polling::fail_packet;
 use crate::access::{AccessCore, enter};
 use crate::kernel::kernel_at;
 use aql_packet::{KernelDispatch, PacketId, QueueId};
-use core_model::{Effect, Effects, Event, Outcome, Refusal, Worked};
+use core_model::{Call, Effect, Effects, Event, Outcome, Refusal, Worked};
 use executor::{
     Dispatch, Extent, ItemFault, RunFault, WrittenRange, law_groups_read_where_they_may, run_group,
 };
@@ -42,7 +42,7 @@ impl AccessCore {
         requires found { IsInPlace self.old.history queue packet place }
         requires sized { has_sizes dispatch ≡ true }
         requires packet_is { place.packet ≡ kind.Kernel dispatch }
-        ensures met { MeetsOrLacks (Event.RunNext queue packet) self.old.history self.new.history (map_ok Outcome.Worked result) }
+        ensures met { MeetsOrLacks (Event.Call (Call.RunNext queue packet)) self.old.history self.new.history (map_ok Outcome.Worked result) }
         ensures places { self.new.places ≡ self.old.places }
     {
         let count = group_count(&dispatch);
@@ -100,9 +100,9 @@ impl AccessCore {
         fault: ItemFault,
     ) -> Worked
         requires found { IsInPlace self.old.history queue packet place }
-        requires owed { owed (beginning self.old.history) self.old.history.entries (Event.RunNext queue packet)
+        requires owed { owed (beginning self.old.history) self.old.history.entries (Event.Call (Call.RunNext queue packet))
             ≡ fault_owed (group_error queue packet group fault) }
-        ensures met { Meets (Event.RunNext queue packet) self.old.history self.new.history (Ok (Outcome.Worked result)) }
+        ensures met { Meets (Event.Call (Call.RunNext queue packet)) self.old.history self.new.history (Ok (Outcome.Worked result)) }
         ensures places { self.new.places ≡ self.old.places }
     {
         let error = QueueError {
@@ -120,7 +120,7 @@ impl AccessCore {
         self.grants.release(queue, packet);
         self.blocks.release(queue, packet);
         let worked = Worked::Faulted(error);
-        let event = Event::RunNext { queue, packet };
+        let event = Event::Call(Call::RunNext { queue, packet });
         let effects = Effects::one(Effect::Release { queue, packet });
         enter(&mut self.audit, event, Outcome::Worked(worked), effects);
         worked

@@ -14,7 +14,7 @@ ghost use Rattle.access_core.specs.inner.Laying.{LiesWithin};
 use crate::access::running::{advance, one_more};
 use crate::access::{AccessCore, enter};
 use aql_packet::{Address, PacketId, QueueId};
-use core_model::{Effect, Effects, Event, Outcome, Refusal, Worked};
+use core_model::{Call, Effect, Effects, Event, Outcome, Refusal, Worked};
 use executor::WrittenRange;
 use packet_processor::Place;
 use regions::Regions;
@@ -34,11 +34,11 @@ impl AccessCore {
         runs: Sequence<WrittenRange>,
     ) -> Result<Worked, Refusal>
         requires found { IsInPlace self.old.history queue packet place }
-        requires owed { owed (beginning self.old.history) self.old.history.entries (Event.RunNext queue packet)
+        requires owed { owed (beginning self.old.history) self.old.history.entries (Event.Call (Call.RunNext queue packet))
             ≡ enters (Outcome.Worked (Worked.Ran place.progress.groups_run left)) (map write_of_run runs) }
         requires written { All (λ run. is_within (region_lengths (beginning self.old.history).policy) run.address (length run.bytes) ≡ true) runs }
         requires room { place.progress.groups_run < 2 ^ 32 - 1 }
-        ensures met { MeetsOrLacks (Event.RunNext queue packet) self.old.history self.new.history (map_ok Outcome.Worked result) }
+        ensures met { MeetsOrLacks (Event.Call (Call.RunNext queue packet)) self.old.history self.new.history (map_ok Outcome.Worked result) }
         ensures places { self.new.places ≡ self.old.places }
     {
         let changes = changes_of(alloc, runs)?;
@@ -49,7 +49,7 @@ impl AccessCore {
         advance(&mut self.queues, queue, packet, one_more(&place.progress));
         let group = place.progress.groups_run;
         let worked = Worked::Ran { group, left };
-        let event = Event::RunNext { queue, packet };
+        let event = Event::Call(Call::RunNext { queue, packet });
         let effects = Effects::many(changes);
         enter(&mut self.audit, event, Outcome::Worked(worked), effects);
         Ok(worked)

@@ -21,7 +21,7 @@ use crate::access::{AccessCore, enter};
 use crate::queue::Queue;
 use aql_packet::{Packet, PacketId, QueueId, SignalHandle};
 use core_model::{
-    Effect, Effects, Event, NONE_SATISFIED, Outcome, Polled, Progress, Refusal, Satisfied,
+    Call, Effect, Effects, Event, NONE_SATISFIED, Outcome, Polled, Progress, Refusal, Satisfied,
 };
 use packet_processor::{Place, is_ready};
 use queue_error::{QueueError, Rule};
@@ -44,10 +44,10 @@ impl AccessCore {
     /// then on, whatever becomes of it (PSA, Architected Queuing Language: barrier packets). It takes
     /// no memory.
     pub fn poll(&mut self, queue: QueueId, packet: PacketId) -> Result<Polled, Refusal>
-        ensures met { Meets (Event.Poll queue packet) self.old.history self.new.history (map_ok Outcome.Polled result) }
+        ensures met { Meets (Event.Call (Call.Poll queue packet)) self.old.history self.new.history (map_ok Outcome.Polled result) }
         ensures places { self.new.places ≡ self.old.places }
         ensures room { (error : QueueError) (effects : List Effect) →
-            owed (beginning self.old.history) self.old.history.entries (Event.Poll queue packet) ≡ enters (Outcome.Polled (Polled.Failed error)) effects →
+            owed (beginning self.old.history) self.old.history.entries (Event.Call (Call.Poll queue packet)) ≡ enters (Outcome.Polled (Polled.Failed error)) effects →
             result ≡ Err Refusal.AuditFull → ⊥ }
     {
         self.keeps_room();
@@ -62,9 +62,9 @@ impl AccessCore {
     // The place of the packet in flight with this queue and id, and what a poll of it finds.
     fn may_poll(&self, queue: QueueId, packet: PacketId) -> Result<(Place, Look), Refusal>
         ensures may { IfOk result (λ found.
-            due self.now.history (Event.Poll queue packet) ≡ look_owed queue packet found.1) }
+            due self.now.history (Event.Call (Call.Poll queue packet)) ≡ look_owed queue packet found.1) }
         ensures found { IfOk result (λ found. IsInPlace self.now.history queue packet found.0) }
-        ensures why { IfErr result (λ why. due self.now.history (Event.Poll queue packet) ≡ refuses why) }
+        ensures why { IfErr result (λ why. due self.now.history (Event.Call (Call.Poll queue packet)) ≡ refuses why) }
     {
         let place = self.place_of(queue, packet)?;
         let look = match look_at(&self.signals, &place, queue, packet) {
@@ -85,9 +85,9 @@ impl AccessCore {
 
     // Fails a packet in flight: its queue has an error more, and it leaves flight.
     fn fail(&mut self, queue: QueueId, packet: PacketId, place: Place) -> Polled
-        requires may { due self.old.history (Event.Poll queue packet) ≡ look_owed queue packet Look.Fails }
+        requires may { due self.old.history (Event.Call (Call.Poll queue packet)) ≡ look_owed queue packet Look.Fails }
         requires found { IsInPlace self.old.history queue packet place }
-        ensures met { Meets (Event.Poll queue packet) self.old.history self.new.history (Ok (Outcome.Polled result)) }
+        ensures met { Meets (Event.Call (Call.Poll queue packet)) self.old.history self.new.history (Ok (Outcome.Polled result)) }
         ensures places { self.new.places ≡ self.old.places }
     {
         let error = QueueError {
@@ -100,7 +100,7 @@ impl AccessCore {
         self.grants.release(queue, packet);
         self.blocks.release(queue, packet);
         let told = Polled::Failed(error);
-        let event = Event::Poll { queue, packet };
+        let event = Event::Call(Call::Poll { queue, packet });
         let effects = Effects::one(Effect::Release { queue, packet });
         enter(&mut self.audit, event, Outcome::Polled(told), effects);
         told
@@ -115,9 +115,9 @@ impl AccessCore {
         new: Satisfied,
         ready: bool,
     ) -> Polled
-        requires may { due self.old.history (Event.Poll queue packet) ≡ look_owed queue packet (Look.Sees new ready) }
+        requires may { due self.old.history (Event.Call (Call.Poll queue packet)) ≡ look_owed queue packet (Look.Sees new ready) }
         requires found { IsInPlace self.old.history queue packet place }
-        ensures met { Meets (Event.Poll queue packet) self.old.history self.new.history (Ok (Outcome.Polled result)) }
+        ensures met { Meets (Event.Call (Call.Poll queue packet)) self.old.history self.new.history (Ok (Outcome.Polled result)) }
         ensures places { self.new.places ≡ self.old.places }
     {
         let progress = Progress {
@@ -126,7 +126,7 @@ impl AccessCore {
         };
         advance(&mut self.queues, queue, packet, progress);
         let told = sight(ready, new);
-        let event = Event::Poll { queue, packet };
+        let event = Event::Call(Call::Poll { queue, packet });
         enter(
             &mut self.audit,
             event,

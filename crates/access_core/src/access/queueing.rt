@@ -27,8 +27,8 @@ impl AccessCore {
         agent: AgentHandle,
         size: u64,
     ) -> Result<QueueId, Refusal>
-        ensures met { MeetsOrLacks (Event.OpenQueue client agent size) self.old.history self.new.history (map_ok Outcome.Opened result) }
-        ensures places { KeepsPlaces (Event.OpenQueue client agent size) self.old self.new }
+        ensures met { MeetsOrLacks (Event.Open client agent size) self.old.history self.new.history (map_ok Outcome.Opened result) }
+        ensures places { KeepsPlaces (Event.Open client agent size) self.old self.new }
     {
         let queue = self.may_open(client, agent, size)?;
         let errors = Reserved::with_room(alloc, SLOTS)?;
@@ -40,7 +40,7 @@ impl AccessCore {
             errors,
             places: Places::new(),
         })?;
-        let event = Event::OpenQueue {
+        let event = Event::Open {
             client,
             agent,
             size,
@@ -64,9 +64,9 @@ impl AccessCore {
         agent: AgentHandle,
         size: u64,
     ) -> Result<QueueId, Refusal>
-        ensures may { IfOk result (λ queue. due self.now.history (Event.OpenQueue client agent size) ≡ enters (Outcome.Opened queue) []) }
+        ensures may { IfOk result (λ queue. due self.now.history (Event.Open client agent size) ≡ enters (Outcome.Opened queue) []) }
         ensures few { OnOk result (length (openings (beginning self.now.history) self.now.history.entries) < QUEUES) }
-        ensures why { IfErr result (λ why. due self.now.history (Event.OpenQueue client agent size) ≡ refuses why) }
+        ensures why { IfErr result (λ why. due self.now.history (Event.Open client agent size) ≡ refuses why) }
     {
         if !self.start.policy.declares_client(client) {
             return Err(Refusal::UnknownClient);

@@ -21,7 +21,7 @@ use crate::access::{AccessCore, enter};
 use crate::queue::Queue;
 use aql_packet::{Address, AgentDispatch, Packet, PacketId, QueueId};
 use core_model::{
-    AgentFunction, Effect, Effects, Event, Outcome, Progress, Range, Refusal, Worked,
+    AgentFunction, Call, Effect, Effects, Event, Outcome, Progress, Range, Refusal, Worked,
 };
 use packet_processor::{Place, function_of};
 use regions::Regions;
@@ -46,10 +46,10 @@ impl AccessCore {
         queue: QueueId,
         packet: PacketId,
     ) -> Result<Worked, Refusal>
-        ensures met { MeetsOrLacks (Event.RunNext queue packet) self.old.history self.new.history (map_ok Outcome.Worked result) }
+        ensures met { MeetsOrLacks (Event.Call (Call.RunNext queue packet)) self.old.history self.new.history (map_ok Outcome.Worked result) }
         ensures places { self.new.places ≡ self.old.places }
         ensures room { (error : QueueError) (effects : List Effect) →
-            owed (beginning self.old.history) self.old.history.entries (Event.RunNext queue packet) ≡ enters (Outcome.Worked (Worked.Faulted error)) effects →
+            owed (beginning self.old.history) self.old.history.entries (Event.Call (Call.RunNext queue packet)) ≡ enters (Outcome.Worked (Worked.Faulted error)) effects →
             result ≡ Err Refusal.AuditFull → ⊥ }
     {
         self.keeps_room();
@@ -74,7 +74,7 @@ impl AccessCore {
         requires found { IsInPlace self.old.history queue packet place }
         requires within { lies_in_regions (region_lengths (beginning self.old.history).policy) place.packet ≡ true }
         requires packet_is { place.packet ≡ kind.Agent dispatch }
-        ensures met { MeetsOrLacks (Event.RunNext queue packet) self.old.history self.new.history (map_ok Outcome.Worked result) }
+        ensures met { MeetsOrLacks (Event.Call (Call.RunNext queue packet)) self.old.history self.new.history (map_ok Outcome.Worked result) }
         ensures places { self.new.places ≡ self.old.places }
     {
         if place.progress.groups_run >= 1 {
@@ -88,7 +88,7 @@ impl AccessCore {
         let effects = lay_both(&mut self.memory, target, result);
         advance(&mut self.queues, queue, packet, one_more(&place.progress));
         let worked = Worked::Ran { group: 0, left: 0 };
-        let event = Event::RunNext { queue, packet };
+        let event = Event::Call(Call::RunNext { queue, packet });
         enter(&mut self.audit, event, Outcome::Worked(worked), effects);
         Ok(worked)
     }

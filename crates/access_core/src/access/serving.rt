@@ -7,7 +7,7 @@ ghost use Rattle.access_core.specs.Keeping.{MadeInPlace, ServedInPlace};
 ghost use Rattle.access_core.specs.Reloads.{as_reloaded};
 
 use crate::access::AccessCore;
-use core_model::{Answer, Entry, Event, Outcome, Query, Refusal, Reply, Request};
+use core_model::{Answer, Call, Entry, Event, Outcome, Query, Refusal, Reply, Request};
 use policy::Policy;
 use sequences::{Reserved, Sequence};
 use std::alloc::{AllocError, Global};
@@ -85,61 +85,71 @@ impl AccessCore {
         }
     }
 
-    // Makes the call of an event.
+    // Makes what an event tells of.
     fn make(&mut self, alloc: Global, event: Event) -> Result<Outcome, Refusal>
         ensures met { MeetsOrLacks event self.old.history self.new.history result }
         ensures places { MadeInPlace event self.old self.new }
     {
         match event {
-            Event::Grant {
-                client,
-                object,
-                rights,
-            } => self
-                .grant(client, object, rights)
-                .map(|()| Outcome::Accepted),
-            Event::Revoke {
-                client,
-                object,
-                rights,
-            } => self
-                .revoke(client, object, rights)
-                .map(|()| Outcome::Accepted),
-            Event::OpenQueue {
+            Event::Open {
                 client,
                 agent,
                 size,
             } => self
                 .open_queue(alloc, client, agent, size)
                 .map(Outcome::Opened),
-            Event::Stop { queue } => self.stop(queue).map(|()| Outcome::Accepted),
             Event::Take {
                 queue,
                 packet,
                 bytes,
             } => self.take(alloc, queue, packet, &bytes).map(Outcome::Taken),
-            Event::RunNext { queue, packet } => self
+            Event::Call(call) => self.make_call(alloc, call),
+            Event::Reload { rows } => self.reload_rows(alloc, rows).map(|()| Outcome::Accepted),
+        }
+    }
+
+    // Makes a call.
+    fn make_call(&mut self, alloc: Global, call: Call) -> Result<Outcome, Refusal>
+        ensures met { MeetsOrLacks (Event.Call call) self.old.history self.new.history result }
+        ensures places { self.new.places ≡ self.old.places }
+    {
+        match call {
+            Call::Grant {
+                client,
+                object,
+                rights,
+            } => self
+                .grant(client, object, rights)
+                .map(|()| Outcome::Accepted),
+            Call::Revoke {
+                client,
+                object,
+                rights,
+            } => self
+                .revoke(client, object, rights)
+                .map(|()| Outcome::Accepted),
+            Call::Stop { queue } => self.stop(queue).map(|()| Outcome::Accepted),
+            Call::RunNext { queue, packet } => self
                 .run_next(alloc, queue, packet)
                 .map(Outcome::Worked),
-            Event::Poll { queue, packet } => self.poll(queue, packet).map(Outcome::Polled),
-            Event::Finish { queue, packet } => self
+            Call::Poll { queue, packet } => self.poll(queue, packet).map(Outcome::Polled),
+            Call::Finish { queue, packet } => self
                 .finish(queue, packet)
                 .map(|()| Outcome::Accepted),
-            Event::HostWrite {
+            Call::HostWrite {
                 client,
                 address,
                 bytes,
             } => self
                 .host_write(alloc, client, address, bytes)
                 .map(|()| Outcome::Accepted),
-            Event::ChangeSignal {
+            Call::ChangeSignal {
                 client,
                 signal,
                 operation,
             } => self
                 .signal_op(client, signal, operation)
                 .map(Outcome::Changed),
-            Event::Reload { rows } => self.reload_rows(alloc, rows).map(|()| Outcome::Accepted),
         }
     }
 

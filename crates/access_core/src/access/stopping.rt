@@ -16,21 +16,21 @@ use crate::access::{AccessCore, enter};
 use crate::argument_blocks::ArgumentBlocks;
 use crate::queue::Queue;
 use aql_packet::{PacketId, QueueId};
-use core_model::{Effect, Effects, Event, Outcome, Refusal};
+use core_model::{Call, Effect, Effects, Event, Outcome, Refusal};
 use grants::Grants;
 
 impl AccessCore {
     /// Stops a queue: it launches nothing more, and its barrier packet in flight leaves flight with
     /// its completion signal as it is. Its other packets in flight go on (own). It takes no memory.
     pub fn stop(&mut self, queue: QueueId) -> Result<(), Refusal>
-        ensures met { Meets (Event.Stop queue) self.old.history self.new.history (as_accepted result) }
+        ensures met { Meets (Event.Call (Call.Stop queue)) self.old.history self.new.history (as_accepted result) }
         ensures places { self.new.places ≡ self.old.places }
         ensures room { (id : PacketId) → barrier_in (flight_of (beginning self.old.history) self.old.history.entries queue) ≡ Some id → result ≡ Err Refusal.AuditFull → ⊥ }
     {
         let barrier = self.may_stop(queue)?;
         self.flying -= halt(&mut self.queues, queue, barrier);
         let effects = let_go(&mut self.grants, &mut self.blocks, queue, barrier);
-        let event = Event::Stop { queue };
+        let event = Event::Call(Call::Stop { queue });
         enter(&mut self.audit, event, Outcome::Accepted, effects);
         Ok(())
     }
@@ -38,8 +38,8 @@ impl AccessCore {
     // The barrier packet in flight of a queue that may be stopped, if there is one: then the audit has
     // room for the stop, else it is looked for.
     fn may_stop(&self, queue: QueueId) -> Result<Option<PacketId>, Refusal>
-        ensures may { IfOk result (λ barrier. due self.now.history (Event.Stop queue) ≡ enters Outcome.Accepted (release_of queue barrier)) }
-        ensures why { IfErr result (λ why. due self.now.history (Event.Stop queue) ≡ refuses why) }
+        ensures may { IfOk result (λ barrier. due self.now.history (Event.Call (Call.Stop queue)) ≡ enters Outcome.Accepted (release_of queue barrier)) }
+        ensures why { IfErr result (λ why. due self.now.history (Event.Call (Call.Stop queue)) ≡ refuses why) }
         ensures room { IfErr result (λ why. (id : PacketId) → barrier_in (flight_of (beginning self.now.history) self.now.history.entries queue) ≡ Some id → why ≡ Refusal.AuditFull → ⊥) }
     {
         let kept = match queue_of(self.queues.as_slice(), queue) {

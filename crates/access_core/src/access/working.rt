@@ -18,7 +18,7 @@ use crate::access::lookups::queue_of;
 use crate::access::{AccessCore, enter};
 use crate::queue::Queue;
 use aql_packet::{Packet, PacketId, QueueId};
-use core_model::{Effect, Effects, Event, Outcome, Refusal};
+use core_model::{Call, Effect, Effects, Event, Outcome, Refusal};
 use packet_processor::{Place, Places, completion_signal, is_ready};
 use signals::{SignalOp, Signals};
 
@@ -27,7 +27,7 @@ impl AccessCore {
     /// by 1, and the packet leaves flight (PSA, Signals). It takes no memory, and finds room in the
     /// audit.
     pub fn finish(&mut self, queue: QueueId, packet: PacketId) -> Result<(), Refusal>
-        ensures met { Meets (Event.Finish queue packet) self.old.history self.new.history (as_accepted result) }
+        ensures met { Meets (Event.Call (Call.Finish queue packet)) self.old.history self.new.history (as_accepted result) }
         ensures places { self.new.places ≡ self.old.places }
         ensures room { result ≡ Err Refusal.AuditFull → ⊥ }
     {
@@ -36,16 +36,16 @@ impl AccessCore {
         self.flying -= release(&mut self.queues, queue, packet);
         self.grants.release(queue, packet);
         self.blocks.release(queue, packet);
-        let event = Event::Finish { queue, packet };
+        let event = Event::Call(Call::Finish { queue, packet });
         enter(&mut self.audit, event, Outcome::Accepted, effects);
         Ok(())
     }
 
     // The place of the packet in flight with this queue and id, if its work is done.
     fn may_finish(&self, queue: QueueId, packet: PacketId) -> Result<Place, Refusal>
-        ensures may { IfOk result (λ place. due self.now.history (Event.Finish queue packet) ≡ finish_owed self.now.history queue packet place.packet) }
+        ensures may { IfOk result (λ place. due self.now.history (Event.Call (Call.Finish queue packet)) ≡ finish_owed self.now.history queue packet place.packet) }
         ensures found { IfOk result (λ place. IsInPlace self.now.history queue packet place) }
-        ensures why { IfErr result (λ why. due self.now.history (Event.Finish queue packet) ≡ refuses why) }
+        ensures why { IfErr result (λ why. due self.now.history (Event.Call (Call.Finish queue packet)) ≡ refuses why) }
         ensures room { IfErr result (λ why. why ≡ Refusal.AuditFull → ⊥) }
     {
         let place = self.place_of(queue, packet)?;

@@ -1,6 +1,6 @@
 -- What is kept moves along with the failure, which always finds room: a packet leaves flight for its entry.
 use Rattle.std.proofs.Common.{arith, ◌++◌, refl, [], ◌∷◌, ap, map, ◌∙◌}
-use Rattle.access_core.proofs.Terms.{B1, Failed, PacketId, Poll, QueueId, QueueView, error_places, error_without_place, start_of, with_failure, without_packet}
+use Rattle.access_core.proofs.Terms.{B1, Call, Failed, PacketId, Poll, QueueId, QueueView, error_places, error_without_place, start_of, with_failure, without_packet}
 use Rattle.access_core.proofs.Places.{failed-places, places-kept}
 use Rattle.access_core.proofs.ChangedQueue.{errors-changed}
 use Rattle.access_core.proofs.Seen.{seen}
@@ -32,7 +32,7 @@ invariant_of-self c =
     let is = failure-releases c.args.queue c.args.packet in
     let found = place-inside a _ (seen c.self.view_is) c.args.queue c.args.packet c.args.place c.requires.found in
     let at = is-open a c.self.invariant c.args.queue found.opening found.owner_is in
-    IsCached-more a _ (Poll c.args.queue c.args.packet) (outcome.Polled (Failed (error_without_place c.args.queue c.args.packet.0 B1)))
+    IsCached-more a _ (Call (Poll c.args.queue c.args.packet)) (outcome.Polled (Failed (error_without_place c.args.queue c.args.packet.0 B1)))
     (effect.Release c.args.queue c.args.packet ∷ []) c.self.invariant
     (record {
       same = ((refl, refl, refl), refl);

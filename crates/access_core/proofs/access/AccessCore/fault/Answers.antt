@@ -1,6 +1,6 @@
 -- What is kept moves along with the fault, which always finds room: a packet leaves flight for its entry.
 use Rattle.std.proofs.Common.{arith, ◌++◌, refl, [], ◌∷◌, ap, map, ◌∙◌}
-use Rattle.access_core.proofs.Terms.{Faulted, PacketId, QueueError, QueueView, RunNext, error_places, group_error, start_of, with_failure, without_packet}
+use Rattle.access_core.proofs.Terms.{Call, Faulted, PacketId, QueueError, QueueView, RunNext, error_places, group_error, start_of, with_failure, without_packet}
 use Rattle.access_core.proofs.Places.{failed-places, places-kept}
 use Rattle.access_core.proofs.ChangedQueue.{errors-changed}
 use Rattle.access_core.proofs.Seen.{seen}
@@ -35,7 +35,7 @@ invariant_of-self c =
     let is = fault-releases c.args.queue c.args.packet error in
     let found = place-inside a _ (seen c.self.view_is) c.args.queue c.args.packet c.args.place c.requires.found in
     let at = is-open a c.self.invariant c.args.queue found.opening found.owner_is in
-    IsCached-more a _ (RunNext c.args.queue c.args.packet) (outcome.Worked (Faulted error)) (effect.Release c.args.queue c.args.packet ∷ []) c.self.invariant
+    IsCached-more a _ (Call (RunNext c.args.queue c.args.packet)) (outcome.Worked (Faulted error)) (effect.Release c.args.queue c.args.packet ∷ []) c.self.invariant
     (record {
       same = ((refl, refl, refl), refl);
       audit = rw c.one-effects.ensures at c.enter.ensures;
@@ -52,7 +52,7 @@ invariant_of-self c =
 pub returns-clause-met : goal.returns-clause-met
 returns-clause-met c =
     let error = group_error c.args.queue c.args.packet c.args.group c.args.fault in
-    met-entry c.self.inside _ (seen c.self.view_is) (RunNext c.args.queue c.args.packet) (outcome.Worked (Faulted error)) (effect.Release c.args.queue c.args.packet ∷ []) _
+    met-entry c.self.inside _ (seen c.self.view_is) (Call (RunNext c.args.queue c.args.packet)) (outcome.Worked (Faulted error)) (effect.Release c.args.queue c.args.packet ∷ []) _
     (fault-due c.self.inside c.self.invariant _ (seen c.self.view_is) c.args.queue c.args.packet c.args.place c.requires.found error c.requires.owed)
     (rw c.one-effects.ensures at c.enter.ensures.items)
 

@@ -1,6 +1,6 @@
 -- What is kept moves along with the completion, which always finds room: a packet leaves flight for its entry.
 use Rattle.std.proofs.Common.{arith, refl, ap, map, ◌∙◌}
-use Rattle.access_core.proofs.Terms.{Finish, completion_of, completion_signal, error_places, start_of, with_release, without_packet}
+use Rattle.access_core.proofs.Terms.{Call, Finish, completion_of, completion_signal, error_places, start_of, with_release, without_packet}
 use Rattle.access_core.proofs.Places.{places-kept}
 use Rattle.access_core.proofs.ChangedQueue.{errors-changed}
 use Rattle.access_core.proofs.Seen.{seen}
@@ -27,7 +27,7 @@ invariant_of-self c =
     let p = c.in_ok-place.place.packet in
     let is = finish-releases a.signals c.args.queue c.args.packet p in
     let at = open-of a c.self.invariant _ (seen c.self.view_is) c.args.queue c.args.packet c.in_ok-place.place c.in_ok-place.ensures.found in
-    IsCached-more a _ (Finish c.args.queue c.args.packet) outcome.Accepted (completion_of a.signals c.args.queue c.args.packet p) c.self.invariant
+    IsCached-more a _ (Call (Finish c.args.queue c.args.packet)) outcome.Accepted (completion_of a.signals c.args.queue c.args.packet p) c.self.invariant
     (record {
       same = ((refl, refl, refl), refl);
       audit = rw c.complete-effects.ensures.effects at c.enter.ensures;

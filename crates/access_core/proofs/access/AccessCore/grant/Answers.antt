@@ -6,16 +6,16 @@ use Rattle.access_core.proofs.QueueAt.{IsQuiet, flight-quiet}
 use Rattle.access_core.proofs.Calls.{due-by, met-refusal}
 use Rattle.access_core.proofs.Granting.{grant-due, grant-refused}
 use Rattle.access_core.proofs.HeldAfter.{blocks-still, held-still}
-use Rattle.access_core.proofs.Terms.{ClientId, Grant, Object, Rights, start_of}
+use Rattle.access_core.proofs.Terms.{Call, ClientId, Grant, Object, Rights, start_of}
 use Rattle.core_model.specs.declared.outcome.Outcome.TheVariants as outcome
 use Rattle.access_core.proofs.access.AccessCore.grant.Goals as goal
 
-quiet : (client : ClientId) (on : Object) (rights : Rights) → IsQuiet (Grant client on rights) outcome.Accepted []
+quiet : (client : ClientId) (on : Object) (rights : Rights) → IsQuiet (Call (Grant client on rights)) outcome.Accepted []
 quiet client on rights = record { launches = refl; progress = λ queue id p. refl; stays = λ queue id. refl; releases = λ fs. refl; views = λ m v. refl }
 
 pub returns-in-Err-clause-met : goal.returns-in-Err-clause-met
 returns-in-Err-clause-met c =
-    rw c.refusal_of.ensures (met-refusal (Grant c.args.client c.args.object c.args.rights) _ _
+    rw c.refusal_of.ensures (met-refusal (Call (Grant c.args.client c.args.object c.args.rights)) _ _
     (due-by c.self.inside _ (seen c.self.view_is) _ _ (grant-refused c.self.inside c.self.invariant c.args.client c.args.object c.args.rights c.in-Err.why
     (sym c.in-Err.is ∙ c.may_grant.ensures))))
 
@@ -27,7 +27,7 @@ invariant_of-self c =
     let a = c.self.inside in
     let calm = quiet c.args.client c.args.object c.args.rights in
     let gives = c.put_in_force.ensures in
-    IsCached-more a _ (Grant c.args.client c.args.object c.args.rights) outcome.Accepted [] c.self.invariant
+    IsCached-more a _ (Call (Grant c.args.client c.args.object c.args.rights)) outcome.Accepted [] c.self.invariant
     (record {
       same = ((refl, refl, refl), refl);
       audit = rw c.none.ensures at c.enter.ensures;

@@ -1,6 +1,6 @@
 -- What is kept moves along with a client's write, which is entered where there is room.
 use Rattle.std.proofs.Common.{refl, List, [], ◌∷◌, ℕ}
-use Rattle.access_core.proofs.Terms.{Address, ClientId, HostWrite, Write, start_of}
+use Rattle.access_core.proofs.Terms.{Address, Call, ClientId, HostWrite, Write, start_of}
 use Rattle.access_core.proofs.Seen.{seen}
 use Rattle.access_core.proofs.HeldAfter.{grants-still}
 use Rattle.access_core.proofs.CachedMore.{IsCached-more, queues-still}
@@ -9,14 +9,14 @@ use Rattle.access_core.proofs.HostMemory.{byte_at-written}
 use Rattle.core_model.specs.declared.outcome.Outcome.TheVariants as outcome
 use Rattle.access_core.proofs.access.AccessCore.host_write.Goals as goal
 
-quiet : (client : ClientId) (address : Address) (bytes : List ℕ) → IsQuiet (HostWrite client address bytes) outcome.Accepted (Write address bytes ∷ [])
+quiet : (client : ClientId) (address : Address) (bytes : List ℕ) → IsQuiet (Call (HostWrite client address bytes)) outcome.Accepted (Write address bytes ∷ [])
 quiet client address bytes = record { launches = refl; progress = λ queue id p. refl; stays = λ queue id. refl; releases = λ fs. refl; views = λ m v. refl }
 
 pub invariant_of-self : goal.invariant_of-self
 invariant_of-self c =
     let a = c.self.inside in
     let calm = quiet c.args.client c.args.address c.args.bytes in
-    IsCached-more a _ (HostWrite c.args.client c.args.address c.args.bytes) outcome.Accepted (Write c.args.address c.args.bytes ∷ []) c.self.invariant
+    IsCached-more a _ (Call (HostWrite c.args.client c.args.address c.args.bytes)) outcome.Accepted (Write c.args.address c.args.bytes ∷ []) c.self.invariant
     (record {
       same = ((refl, refl, refl), refl);
       audit = rw (c.one-effects.ensures, c.in_ok-written.ensures) at c.enter.ensures;

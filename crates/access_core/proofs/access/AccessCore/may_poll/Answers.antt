@@ -5,7 +5,7 @@ use Rattle.access_core.proofs.Seen.{seen}
 use Rattle.access_core.proofs.Calls.{due-as}
 use Rattle.access_core.proofs.PollLemmas.{poll-owed}
 use Rattle.access_core.proofs.WorkLemmas.{failure-releases, release-due}
-use Rattle.access_core.proofs.Terms.{Poll, look_owed}
+use Rattle.access_core.proofs.Terms.{Call, Poll, look_owed}
 use Rattle.access_core.proofs.access.AccessCore.may_poll.Goals as goal
 
 pub returns-in_err-place-clause-why : goal.returns-in_err-place-clause-why
@@ -14,7 +14,7 @@ returns-in_err-place-clause-why = grind arith
 
 pub returns-in-Err-clause-why : goal.returns-in-Err-clause-why
 returns-in-Err-clause-why c =
-    due-as c.args.self.now.history (Poll c.args.queue c.args.packet) _
+    due-as c.args.self.now.history (Call (Poll c.args.queue c.args.packet)) _
     (poll-owed c.self.inside c.self.invariant _ (seen c.self.view_is) c.args.queue c.args.packet c.in_ok-place.place c.in_ok-place.ensures.found _ c.in-Err.ensures.why)
 
 pub returns-in-Still-clause-may : goal.returns-in-Still-clause-may

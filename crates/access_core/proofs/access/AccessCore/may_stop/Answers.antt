@@ -4,7 +4,7 @@ use Rattle.access_core.proofs.Seen.{seen}
 use Rattle.access_core.proofs.Calls.{due-by}
 use Rattle.access_core.proofs.StopLemmas.{may-stop, stop-full, stop-known, stop-unknown}
 use Rattle.access_core.proofs.access.AccessCore.may_stop.Goals.{else-is_none-via-then-is_none+else-is_full, else-is_none-via-else-is_none}
-use Rattle.access_core.proofs.Terms.{Stop, due, numbered, refuses}
+use Rattle.access_core.proofs.Terms.{Call, Stop, due, numbered, refuses}
 use Rattle.core_model.proofs.Room.{stop-finds}
 use Rattle.access_core.proofs.Rooms.{never-due, roomy-seen}
 use Rattle.core_model.specs.declared.refusal.Refusal.TheVariants as refusal
@@ -16,7 +16,7 @@ returns-in-None-clause-why = grind (arith, stop-unknown)
 pub returns-then-kept-clause-why : goal.returns-then-kept-clause-why
 returns-then-kept-clause-why c =
     let some : numbered c.self.inside.queues.items c.args.queue.0 ≡ Some c.in-Some.kept.now = cc c.in-Some.ensures in
-    due-by c.self.inside _ (seen c.self.view_is) (Stop c.args.queue) (refuses refusal.QueueDown)
+    due-by c.self.inside _ (seen c.self.view_is) (Call (Stop c.args.queue)) (refuses refusal.QueueDown)
     (stop-known c.self.inside c.self.invariant c.args.queue _ some ∙ (rw c.if-kept.true refl))
 
 pub returns-then-is_full-clause-why : goal.returns-then-is_full-clause-why
@@ -24,8 +24,8 @@ returns-then-is_full-clause-why = grind (arith, stop-full)
 
 pub returns-then-is_full-clause-room : goal.returns-then-is_full-clause-room
 returns-then-is_full-clause-room c = λ id some is.
-    let full : due c.args.self.now.history (Stop c.args.queue) ≡ refuses refusal.AuditFull = grind (arith, stop-full) in
-    never-due c.args.self.now.history (Stop c.args.queue) (stop-finds c.args.self.now.history (roomy-seen c.self.inside c.self.invariant _ (seen c.self.view_is)) c.args.queue id some) full
+    let full : due c.args.self.now.history (Call (Stop c.args.queue)) ≡ refuses refusal.AuditFull = grind (arith, stop-full) in
+    never-due c.args.self.now.history (Call (Stop c.args.queue)) (stop-finds c.args.self.now.history (roomy-seen c.self.inside c.self.invariant _ (seen c.self.view_is)) c.args.queue id some) full
 
 pub returns-clause-may : goal.returns-clause-may
 returns-clause-may c =

@@ -1,7 +1,7 @@
 -- What is kept moves along with the opening, which is entered where there is room.
 use Rattle.core_model.specs.History.{beginning}
 use Rattle.std.proofs.Common.{◌<◌, ◌∙◌, refl, sym, subst, ap, [], length, ℕ, arith}
-use Rattle.access_core.proofs.Terms.{AgentHandle, All-nil, All-push, ClientId, IsSound, OpenQueue, Place, QUEUES, QueueId, cached_opening, cached_view, map-append, openings, start_of}
+use Rattle.access_core.proofs.Terms.{AgentHandle, All-nil, All-push, ClientId, IsSound, Open, Place, QUEUES, QueueId, cached_opening, cached_view, map-append, openings, start_of}
 use Rattle.access_core.proofs.Seen.{seen}
 use Rattle.access_core.proofs.HeldAfter.{grants-still}
 use Rattle.access_core.proofs.QueueLemmas.{openings-count, numbered-push, few_after}
@@ -10,7 +10,7 @@ use Rattle.access_core.proofs.QueueAt.{IsQuiet, flight-quiet, queue_at-quiet}
 use Rattle.core_model.specs.declared.outcome.Outcome.TheVariants as outcome
 use Rattle.access_core.proofs.access.AccessCore.open_queue.Goals as goal
 
-quiet : (client : ClientId) (agent : AgentHandle) (size : ℕ) (queue : QueueId) → IsQuiet (OpenQueue client agent size) (outcome.Opened queue) []
+quiet : (client : ClientId) (agent : AgentHandle) (size : ℕ) (queue : QueueId) → IsQuiet (Open client agent size) (outcome.Opened queue) []
 quiet client agent size queue = record { launches = refl; progress = λ q id p. refl; stays = λ q id. refl; releases = λ fs. refl; views = λ m v. refl }
 
 pub invariant_of-self-2 : goal.invariant_of-self-2
@@ -19,7 +19,7 @@ invariant_of-self-2 c =
     let calm = quiet c.args.client c.args.agent c.args.size c.in_ok-queue.queue in
     let push = c.in_ok-push.ensures.items in
     let none = c.in_ok-errors.ensures.empty in
-    IsCached-more a _ (OpenQueue c.args.client c.args.agent c.args.size) (outcome.Opened c.in_ok-queue.queue) [] c.self.invariant
+    IsCached-more a _ (Open c.args.client c.args.agent c.args.size) (outcome.Opened c.in_ok-queue.queue) [] c.self.invariant
     (record {
       same = ((refl, refl, refl), refl);
       audit = rw c.none.ensures at c.enter.ensures;
@@ -39,7 +39,7 @@ invariant_of-self-2 c =
         few_queues = rw push (few_after a.queues.items _ (openings-count a c.self.invariant
             (subst (λ h. length (openings (beginning h) h.entries) < QUEUES) (sym (seen c.self.view_is)) c.in_ok-queue.ensures.few)));
         flying = c.self.invariant.flying ∙ ap length (sym (flight-quiet (start_of a) a.audit.items _ _ _ calm));
-        within = none-launched (OpenQueue c.args.client c.args.agent c.args.size) (outcome.Opened c.in_ok-queue.queue) refl (start_of a);
+        within = none-launched (Open c.args.client c.args.agent c.args.size) (outcome.Opened c.in_ok-queue.queue) refl (start_of a);
       };
     })
     _ (seen c.self.view_is) c.in_ok-queue.ensures.may

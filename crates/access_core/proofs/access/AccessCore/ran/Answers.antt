@@ -1,7 +1,7 @@
 -- What is kept moves along with the group that ran, which is entered where there is room.
 use Rattle.core_model.specs.History.{beginning}
 use Rattle.std.proofs.Common.{◌≡◌, ◌∙◌, refl, sym, ap, subst, List, length, map, All, true, false, rules, inl, inr}
-use Rattle.access_core.proofs.Terms.{Effect, History, IsChanged, Ran, WrittenRange, RunNext, error_places, is_within, region_lengths, start_of, with_advance, write_of_run}
+use Rattle.access_core.proofs.Terms.{Call, Effect, History, IsChanged, Ran, RunNext, WrittenRange, error_places, is_within, region_lengths, start_of, with_advance, write_of_run}
 use Rattle.access_core.proofs.Places.{places-kept}
 use Rattle.access_core.proofs.ChangedQueue.{errors-changed}
 use Rattle.access_core.proofs.Seen.{seen}
@@ -28,7 +28,7 @@ returns-in_err-changes-clause-met c =
 
 pub returns-then-is_full-clause-met : goal.returns-then-is_full-clause-met
 returns-then-is_full-clause-met c =
-    inl (met-refusal (RunNext c.args.queue c.args.packet) c.args.self.now.history refusal.AuditFull
+    inl (met-refusal (Call (RunNext c.args.queue c.args.packet)) c.args.self.now.history refusal.AuditFull
     (group-due c.args.self.now.history c.args.queue c.args.packet c.args.place.progress.groups_run c.args.left c.args.runs c.requires.owed true
     (sym c.is_full.ensures ∙ c.if-is_full.true)))
 
@@ -53,7 +53,7 @@ invariant_of-self c =
     let at = is-open a c.self.invariant c.args.queue found.opening found.owner_is in
     let is = kernel-advances c.args.queue c.args.packet group c.args.left c.args.runs in
     let owing = group-due c.args.self.now.history c.args.queue c.args.packet group c.args.left c.args.runs c.requires.owed false (sym c.is_full.ensures ∙ c.if-is_full.false) in
-    IsCached-more a _ (RunNext c.args.queue c.args.packet) (outcome.Worked (Ran group c.args.left)) (map write_of_run c.args.runs) c.self.invariant
+    IsCached-more a _ (Call (RunNext c.args.queue c.args.packet)) (outcome.Worked (Ran group c.args.left)) (map write_of_run c.args.runs) c.self.invariant
     (record {
       same = ((refl, refl, refl), refl);
       audit = rw (c.many-effects.ensures ∙ c.in_ok-changes.ensures) at c.enter.ensures;
@@ -73,7 +73,7 @@ pub returns-clause-met : goal.returns-clause-met
 returns-clause-met c =
     let group = c.args.place.progress.groups_run in
     let owing = group-due c.args.self.now.history c.args.queue c.args.packet group c.args.left c.args.runs c.requires.owed false (sym c.is_full.ensures ∙ c.if-is_full.false) in
-    inl (met-entry c.self.inside _ (seen c.self.view_is) (RunNext c.args.queue c.args.packet) (outcome.Worked (Ran group c.args.left)) (map write_of_run c.args.runs) _ owing
+    inl (met-entry c.self.inside _ (seen c.self.view_is) (Call (RunNext c.args.queue c.args.packet)) (outcome.Worked (Ran group c.args.left)) (map write_of_run c.args.runs) _ owing
     (rw (c.many-effects.ensures ∙ c.in_ok-changes.ensures) at c.enter.ensures.items))
 
 pub returns-clause-places : goal.returns-clause-places

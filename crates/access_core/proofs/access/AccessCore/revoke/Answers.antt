@@ -5,11 +5,11 @@ use Rattle.access_core.proofs.CachedMore.{IsCached-more, memory-still, queues-st
 use Rattle.access_core.proofs.QueueAt.{IsQuiet, flight-quiet}
 use Rattle.access_core.proofs.Granting.{revoke-due, revoke-refused}
 use Rattle.access_core.proofs.HeldAfter.{blocks-still, held-still}
-use Rattle.access_core.proofs.Terms.{ClientId, Object, Revoke, RevokeAnswers, Rights, start_of}
+use Rattle.access_core.proofs.Terms.{Call, ClientId, Object, Revoke, RevokeAnswers, Rights, start_of}
 use Rattle.core_model.specs.declared.outcome.Outcome.TheVariants as outcome
 use Rattle.access_core.proofs.access.AccessCore.revoke.Goals as goal
 
-quiet : (client : ClientId) (on : Object) (rights : Rights) → IsQuiet (Revoke client on rights) outcome.Accepted []
+quiet : (client : ClientId) (on : Object) (rights : Rights) → IsQuiet (Call (Revoke client on rights)) outcome.Accepted []
 quiet client on rights = record { launches = refl; progress = λ queue id p. refl; stays = λ queue id. refl; releases = λ fs. refl; views = λ m v. refl }
 
 pub returns-in-Err-clause-met : goal.returns-in-Err-clause-met
@@ -23,7 +23,7 @@ invariant_of-self c =
     let a = c.self.inside in
     let calm = quiet c.args.client c.args.object c.args.rights in
     let takes = c.take_out_of_force.ensures in
-    IsCached-more a _ (Revoke c.args.client c.args.object c.args.rights) outcome.Accepted [] c.self.invariant
+    IsCached-more a _ (Call (Revoke c.args.client c.args.object c.args.rights)) outcome.Accepted [] c.self.invariant
     (record {
       same = ((refl, refl, refl), refl);
       audit = rw c.none.ensures at c.enter.ensures;

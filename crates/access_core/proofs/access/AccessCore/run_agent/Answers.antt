@@ -1,7 +1,7 @@
 -- What is kept moves along with the group that ran, which is entered where there is room.
 use Rattle.core_model.specs.History.{beginning}
 use Rattle.std.proofs.Common.{◌≡◌, ◌∙◌, refl, sym, ap, map, subst, List, true, false, rules, nat_le, inl, inr}
-use Rattle.access_core.proofs.Terms.{Effect, History, IsChanged, Ran, RunNext, agent_writes, due, enters, error_places, lies_in_regions, region_lengths, start_of, with_advance}
+use Rattle.access_core.proofs.Terms.{Call, Effect, History, IsChanged, Ran, RunNext, agent_writes, due, enters, error_places, lies_in_regions, region_lengths, start_of, with_advance}
 use Rattle.access_core.proofs.Places.{places-kept}
 use Rattle.access_core.proofs.ChangedQueue.{errors-changed}
 use Rattle.access_core.proofs.Seen.{seen}
@@ -36,10 +36,10 @@ invariant_of-self c =
     let is = run-advances c.args.queue c.args.packet (start_of a) a.audit.items c.args.dispatch in
     let pieces = pieces-inside a _ (seen c.self.view_is) c.args.dispatch _ _ _ _ c.in_ok-target.ensures.written c.in_ok-result.ensures.written in
     let ran : nat_le 1 c.args.place.progress.groups_run ≡ false = search rules in
-    let owing : due c.args.self.now.history (RunNext c.args.queue c.args.packet) ≡ enters (outcome.Worked (Ran 0 0)) (agent_writes (start_of a) a.audit.items c.args.dispatch) =
+    let owing : due c.args.self.now.history (Call (RunNext c.args.queue c.args.packet)) ≡ enters (outcome.Worked (Ran 0 0)) (agent_writes (start_of a) a.audit.items c.args.dispatch) =
     agent-due c.args.self.now.history c.args.queue c.args.packet c.args.place c.requires.found c.args.dispatch c.requires.packet_is ran false (sym c.is_full.ensures ∙ c.if-is_full.false)
     ∙ ap (λ (h : History). enters (outcome.Worked (Ran 0 0)) (agent_writes (beginning h) h.entries c.args.dispatch)) (sym (seen c.self.view_is)) in
-    IsCached-more a _ (RunNext c.args.queue c.args.packet) (outcome.Worked (Ran 0 0)) (agent_writes (start_of a) a.audit.items c.args.dispatch) c.self.invariant
+    IsCached-more a _ (Call (RunNext c.args.queue c.args.packet)) (outcome.Worked (Ran 0 0)) (agent_writes (start_of a) a.audit.items c.args.dispatch) c.self.invariant
     (record {
       same = ((refl, refl, refl), refl);
       audit = rw (c.lay_both-effects.ensures.effects ∙ pieces) at c.enter.ensures;
@@ -63,7 +63,7 @@ returns-then-place-ge1-clause-met c =
 pub returns-then-is_full-clause-met : goal.returns-then-is_full-clause-met
 returns-then-is_full-clause-met c =
     let ran : nat_le 1 c.args.place.progress.groups_run ≡ false = search rules in
-    inl (met-refusal (RunNext c.args.queue c.args.packet) c.args.self.now.history refusal.AuditFull
+    inl (met-refusal (Call (RunNext c.args.queue c.args.packet)) c.args.self.now.history refusal.AuditFull
     (agent-due c.args.self.now.history c.args.queue c.args.packet c.args.place c.requires.found c.args.dispatch c.requires.packet_is ran true
     (sym c.is_full.ensures ∙ c.if-is_full.true)))
 
@@ -86,10 +86,10 @@ returns-clause-met c =
     let a = c.self.inside in
     let ran : nat_le 1 c.args.place.progress.groups_run ≡ false = search rules in
     let pieces = pieces-inside a _ (seen c.self.view_is) c.args.dispatch _ _ _ _ c.in_ok-target.ensures.written c.in_ok-result.ensures.written in
-    let owing : due c.args.self.now.history (RunNext c.args.queue c.args.packet) ≡ enters (outcome.Worked (Ran 0 0)) (agent_writes (start_of a) a.audit.items c.args.dispatch) =
+    let owing : due c.args.self.now.history (Call (RunNext c.args.queue c.args.packet)) ≡ enters (outcome.Worked (Ran 0 0)) (agent_writes (start_of a) a.audit.items c.args.dispatch) =
     agent-due c.args.self.now.history c.args.queue c.args.packet c.args.place c.requires.found c.args.dispatch c.requires.packet_is ran false (sym c.is_full.ensures ∙ c.if-is_full.false)
     ∙ ap (λ (h : History). enters (outcome.Worked (Ran 0 0)) (agent_writes (beginning h) h.entries c.args.dispatch)) (sym (seen c.self.view_is)) in
-    inl (met-entry a _ (seen c.self.view_is) (RunNext c.args.queue c.args.packet) (outcome.Worked (Ran 0 0)) (agent_writes (start_of a) a.audit.items c.args.dispatch) _ owing
+    inl (met-entry a _ (seen c.self.view_is) (Call (RunNext c.args.queue c.args.packet)) (outcome.Worked (Ran 0 0)) (agent_writes (start_of a) a.audit.items c.args.dispatch) _ owing
     (rw (c.lay_both-effects.ensures.effects ∙ pieces) at c.enter.ensures.items))
 
 pub returns-clause-places : goal.returns-clause-places

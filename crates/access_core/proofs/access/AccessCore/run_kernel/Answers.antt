@@ -1,7 +1,7 @@
 -- Where all groups ran nothing is left to do; else the next is owed what it comes to.
 use Rattle.std.proofs.Common.{◌≡◌, ◌∙◌, ◌+◌, ◌-◌, ℕ, ap, map, refl, subst, sym, rules, true, false, inl, inr, nat_le}
 use Rattle.aql_packet.specs.declared.packet.Packet.TheVariants as packet
-use Rattle.access_core.proofs.Terms.{Done, FaultsAs, Ran, RunNext, answers, broke_rule, due, enters, fault_owed, group_count, group_error, group_owed, next_result, write_of_run}
+use Rattle.access_core.proofs.Terms.{Call, Done, FaultsAs, Ran, RunNext, answers, broke_rule, due, enters, fault_owed, group_count, group_error, group_owed, next_result, write_of_run}
 use Rattle.executor.specs.declared.fault.ItemFault.{ItemFault}
 use Rattle.access_core.proofs.Calls.{due-as}
 use Rattle.access_core.proofs.KernelLemmas.{group-lacks, kernel-owed}
@@ -13,8 +13,8 @@ returns-then-group-count-clause-met c =
     let h = c.args.self.now.history in
     let reached : nat_le c.group_count-count.result c.args.place.progress.groups_run ≡ true = search rules in
     let ran : nat_le (group_count (packet.Kernel c.args.dispatch)) c.args.place.progress.groups_run ≡ true = rw (← c.group_count-count.ensures) reached in
-    let is : due h (RunNext c.args.queue c.args.packet) ≡ answers (outcome.Worked Done) =
-    due-as h (RunNext c.args.queue c.args.packet) (answers (outcome.Worked Done))
+    let is : due h (Call (RunNext c.args.queue c.args.packet)) ≡ answers (outcome.Worked Done) =
+    due-as h (Call (RunNext c.args.queue c.args.packet)) (answers (outcome.Worked Done))
     (kernel-owed h c.args.queue c.args.packet c.args.place c.requires.found c.args.dispatch c.requires.packet_is true ran) in
     inl (record { reply_is = rw is refl; history_is = rw is refl })
 

@@ -8,7 +8,7 @@ use Rattle.core_model.specs.declared.outcome.Outcome.TheVariants as outcome
 use Rattle.core_model.specs.declared.outcome.Worked.TheVariants as worked
 use Rattle.core_model.proofs.Room.{fault-finds}
 use Rattle.access_core.proofs.Rooms.{never-told}
-use Rattle.access_core.proofs.Terms.{RunNext}
+use Rattle.access_core.proofs.Terms.{Call, RunNext}
 use Rattle.access_core.proofs.access.AccessCore.run_next.Goals as goal
 
 pub returns-in_err-place-clause-met : goal.returns-in_err-place-clause-met
@@ -28,10 +28,10 @@ returns-in-BarrierOr-clause-met = grind (arith, no-groups)
 
 pub returns-in-Agent-clause-room : goal.returns-in-Agent-clause-room
 returns-in-Agent-clause-room c = λ error effects owing is.
-    never-told (RunNext c.args.queue c.args.packet) _ _ _ c.run_agent.ensures.met
+    never-told (Call (RunNext c.args.queue c.args.packet)) _ _ _ c.run_agent.ensures.met
     (fault-finds c.args.self.now.history c.keeps_room.ensures c.args.queue c.args.packet error effects owing) (ap (map_ok outcome.Worked) is)
 
 pub returns-in-Kernel-clause-room : goal.returns-in-Kernel-clause-room
 returns-in-Kernel-clause-room c = λ error effects owing is.
-    never-told (RunNext c.args.queue c.args.packet) _ _ _ c.run_kernel.ensures.met
+    never-told (Call (RunNext c.args.queue c.args.packet)) _ _ _ c.run_kernel.ensures.met
     (fault-finds c.args.self.now.history c.keeps_room.ensures c.args.queue c.args.packet error effects owing) (ap (map_ok outcome.Worked) is)

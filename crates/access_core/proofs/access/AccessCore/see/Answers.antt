@@ -1,6 +1,6 @@
 -- What is kept moves along with what is seen, which is entered where there is room.
 use Rattle.std.proofs.Common.{◌∙◌, refl, sym, ap, map, []}
-use Rattle.access_core.proofs.Terms.{Poll, error_places, sight, start_of, with_advance}
+use Rattle.access_core.proofs.Terms.{Call, Poll, error_places, sight, start_of, with_advance}
 use Rattle.access_core.proofs.Places.{places-kept}
 use Rattle.access_core.proofs.ChangedQueue.{errors-changed}
 use Rattle.access_core.proofs.Seen.{seen}
@@ -25,7 +25,7 @@ invariant_of-self c =
     let is = sight-advances c.args.queue c.args.packet c.args.ready c.args.new in
     let found = place-inside a _ (seen c.self.view_is) c.args.queue c.args.packet c.args.place c.requires.found in
     let at = is-open a c.self.invariant c.args.queue found.opening found.owner_is in
-    IsCached-more a _ (Poll c.args.queue c.args.packet) (outcome.Polled (sight c.args.ready c.args.new)) [] c.self.invariant
+    IsCached-more a _ (Call (Poll c.args.queue c.args.packet)) (outcome.Polled (sight c.args.ready c.args.new)) [] c.self.invariant
     (record {
       same = ((refl, refl, refl), refl);
       audit = rw (c.none.ensures, c.sight-told.ensures) at c.enter.ensures;

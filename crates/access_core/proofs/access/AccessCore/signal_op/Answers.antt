@@ -1,6 +1,6 @@
 -- What is kept moves along with the change of a signal, which is entered where there is room.
 use Rattle.std.proofs.Common.{refl, [], ◌∷◌, w64, to_z-of_z, SFits, rules, ℤ}
-use Rattle.access_core.proofs.Terms.{ChangeSignal, ClientId, SignalHandle, applied, old_if_asked, start_of}
+use Rattle.access_core.proofs.Terms.{Call, ChangeSignal, ClientId, SignalHandle, applied, old_if_asked, start_of}
 use Rattle.signals.specs.declared.operation.SignalOp.{SignalOp}
 use Rattle.access_core.proofs.Seen.{seen}
 use Rattle.access_core.proofs.HeldAfter.{grants-still}
@@ -11,7 +11,7 @@ use Rattle.core_model.specs.declared.outcome.Outcome.TheVariants as outcome
 use Rattle.access_core.proofs.access.AccessCore.signal_op.Goals as goal
 
 quiet : (client : ClientId) (signal : SignalHandle) (operation : SignalOp) (old : ℤ)
-    → IsQuiet (ChangeSignal client signal operation) (outcome.Changed (old_if_asked operation old)) (effect.Signal signal old (applied operation old) ∷ [])
+    → IsQuiet (Call (ChangeSignal client signal operation)) (outcome.Changed (old_if_asked operation old)) (effect.Signal signal old (applied operation old) ∷ [])
 quiet client signal operation old = record { launches = refl; progress = λ queue id p. refl; stays = λ queue id. refl; releases = λ fs. refl; views = λ m v. refl }
 
 pub invariant_of-self : goal.invariant_of-self
@@ -24,7 +24,7 @@ invariant_of-self c =
     let told = simp to_z-of_z at c.old_if_asked-answer.ensures in
     let new = simp to_z-of_z at c.change-new.ensures.new in
     let calm = quiet c.args.client c.args.signal c.args.operation c.in_ok-old.old in
-    IsCached-more c.self.inside _ (ChangeSignal c.args.client c.args.signal c.args.operation) (outcome.Changed (old_if_asked c.args.operation c.in_ok-old.old))
+    IsCached-more c.self.inside _ (Call (ChangeSignal c.args.client c.args.signal c.args.operation)) (outcome.Changed (old_if_asked c.args.operation c.in_ok-old.old))
     (effect.Signal c.args.signal c.in_ok-old.old (applied c.args.operation c.in_ok-old.old) ∷ []) c.self.invariant
     (record {
       same = ((refl, refl, refl), refl);

@@ -1,6 +1,6 @@
 -- What is cached follows the stop.
 use Rattle.std.proofs.Common.{refl, sym, ap, map, ◌∙◌, arith}
-use Rattle.access_core.proofs.Terms.{Stop, error_places, release_of, with_stop}
+use Rattle.access_core.proofs.Terms.{Call, Stop, error_places, release_of, with_stop}
 use Rattle.access_core.proofs.Places.{places-kept}
 use Rattle.access_core.proofs.ChangedQueue.{errors-changed}
 use Rattle.access_core.proofs.Seen.{seen}
@@ -20,7 +20,7 @@ invariant_of-self c =
     let a = c.self.inside in
     let barrier = c.in_ok-barrier.barrier in
     let at = stop-open a c.self.invariant c.args.queue _ _ (owed-inside a c.self.invariant _ (seen c.self.view_is) _ _ _ c.in_ok-barrier.ensures.may) in
-    IsCached-more a _ (Stop c.args.queue) outcome.Accepted (release_of c.args.queue barrier) c.self.invariant
+    IsCached-more a _ (Call (Stop c.args.queue)) outcome.Accepted (release_of c.args.queue barrier) c.self.invariant
     (record {
       same = ((refl, refl, refl), refl);
       audit = rw c.let_go-effects.ensures.effects at c.enter.ensures;
