@@ -134,6 +134,7 @@ module _ (start : Start) (es : List Entry) (told : Outcome) (effects : List Effe
     pub is_quiet : IsQuiet
     pub granted : in_force start es client (object.Agent agent) right.Use ≡ true
     pub outcome_is : told ≡ outcome.Opened (record { 0 = length (openings start es) + 1 })
+    pub few : length (openings start es) < QUEUES
 
   pub open-effects : (client : ClientId) (agent : AgentHandle) (size : ℕ) → owed start es (Open client agent size) ≡ enters told effects → HasOpened client agent
   unfolding owed
@@ -142,7 +143,7 @@ module _ (start : Start) (es : List Entry) (told : Outcome) (effects : List Effe
       let two = refuse_unless-passed (in_force start es client (object.Agent agent) right.Use) _ _ told effects one.rest_is in
       let three = refuse_unless-passed (is_ring_size size) _ _ told effects two.rest_is in
       let last = refuse_if-passed (nat_le QUEUES (length (openings start es))) _ _ told effects three.rest_is in
-      record { is_quiet = quiet (outcome.Opened (record { 0 = length (openings start es) + 1 })) refl last; granted = two.test_is; outcome_is = cc }
+      record { is_quiet = quiet (outcome.Opened (record { 0 = length (openings start es) + 1 })) refl last; granted = two.test_is; outcome_is = cc; few = leb-false _ _ (refused-not (nat_le QUEUES (length (openings start es))) _ _ told effects three.rest_is).0 }
 
   -- ---- a stop releases at most
 

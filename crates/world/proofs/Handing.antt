@@ -7,7 +7,7 @@ use Rattle.aql_packet.specs.declared.ids.QueueId.{QueueId}
 use Rattle.kernel_check.specs.Programs.{Program}
 use Rattle.policy.specs.Policy.{Declared, numbered}
 use Rattle.core_model.specs.declared.event.Event.TheVariants.{Open, Take}
-use Rattle.core_model.specs.declared.outcome.Outcome.{Outcome}
+use Rattle.core_model.specs.declared.outcome.Outcome.TheVariants as outcome
 use Rattle.core_model.specs.declared.refusal.Refusal as cores
 use Rattle.core_model.specs.History.{beginning, History}
 use Rattle.core_model.specs.Owed.{Owed, refuses, answers, enters}
@@ -23,7 +23,7 @@ use Rattle.world.specs.Bytes.{bytes_of}
 use Rattle.world.specs.Dues.{asked_size}
 use Rattle.world.specs.InStep.{IsJoined, IsJoinedBehind}
 use Rattle.world.specs.Making.{AreDecided}
-use Rattle.world.specs.Obeying.{HandsOver, TakesAt, next_of, next_where}
+use Rattle.world.specs.Obeying.{HandsOver, MayOpen, TakesAt, next_of, next_where}
 use Rattle.world.proofs.Numbering.{numbered_none, numbered_set}
 use Rattle.world.proofs.Entering.{due_answers, due_enters}
 use Rattle.world.proofs.OpeningKept.{opening_owed, size_asked}
@@ -46,23 +46,15 @@ handed_refused core core' rings queue r next bytes why found is filled meets =
           sym (numbered_set rings queue.0 r found),
         )
 
--- a queue whose ring there can't be is not opened
-pub never_opened : (core core' : History) (client : ClientId) (agent : AgentHandle) (size producers asked : ℕ) (told : Outcome) → (is_producer_count producers && is_ring_size size) ≡ false → asked ≡ asked_size size producers
-    → MeetsOrLacks (Open client agent asked) core core' (Ok told) → ⊥
-never_opened core core' client agent size producers asked told unfit is (inr lacks) = let e = lacks.reply_is in cc
-never_opened core core' client agent size producers asked told unfit is (inl meets) = by_owing (due core (Open client agent asked)) refl meets.reply_is
-  where
-    fits_not : is_ring_size asked ≡ true → ⊥
-    fits_not fits =
-        let good = size_asked size producers (ap is_ring_size (sym is) ∙ fits) in
-        let size_good : is_ring_size size ≡ true = ap is_ring_size (sym good.0 ∙ sym is) ∙ fits in
-        let both_good : (is_producer_count producers && is_ring_size size) ≡ true = (λ i. good.1 i && size_good i) in
-        cc
-
-    by_owing : (owing : Owed) → due core (Open client agent asked) ≡ owing → Ok told ≡ reply_of owing → ⊥
-    by_owing (refuses why) e reply = cc
-    by_owing (answers other) e reply = fits_not (opening_owed (beginning core) core.entries client agent asked (answers other) (λ w x. cc) (due_answers core (Open client agent asked) other e)).0
-    by_owing (enters other effects) e reply = fits_not (opening_owed (beginning core) core.entries client agent asked (enters other effects) (λ w x. cc) (due_enters core (Open client agent asked) other effects e)).0
+-- a queue that the core allows to be opened can have its ring
+pub allowed_fits : (core : History) (client : ClientId) (agent : AgentHandle) (size producers : ℕ) (queue : QueueId) → MayOpen core client agent size producers queue
+    → (is_ring_size size ≡ true) × (is_producer_count producers ≡ true)
+allowed_fits core client agent size producers queue may =
+    let asked : ℕ = asked_size size producers in
+    let owing = due_enters core (Open client agent asked) (outcome.Opened queue) [] may in
+    let fits : is_ring_size asked ≡ true = (opening_owed (beginning core) core.entries client agent asked (enters (outcome.Opened queue) []) (λ w x. cc) owing).0 in
+    let good = size_asked size producers fits in
+    (ap is_ring_size (sym good.0) ∙ fits, good.1)
 
 -- a world begins joined
 pub starts : (policy : Declared) (kernels : List Program) (capacity : ℕ) (core : History) (rings : List QueueRing) → IsOpening core policy kernels capacity → rings ≡ [] → IsJoined (World core rings) × AreDecided core rings

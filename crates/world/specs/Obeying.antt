@@ -17,7 +17,8 @@ use Rattle.core_model.specs.History.{History}
 use Rattle.core_model.specs.History.{Part as Handed}
 use Rattle.core_model.specs.Rotation.{Rotates}
 use Rattle.policy.specs.Results.{map_ok}
-use Rattle.core_model.specs.Legal.{MeetsOrLacks, due, may_lack_memory}
+use Rattle.core_model.specs.Legal.{MeetsOrLacks, due}
+use Rattle.core_model.specs.Owed.{enters}
 use Rattle.core_model.specs.Queries.{AnswerOrRefusal}
 use Rattle.core_model.specs.Legal as cores_law
 use Rattle.ring_core.specs.Parts.{collected_packet}
@@ -92,10 +93,9 @@ abbrev pub rings_opened : List QueueRing → ℕ → ℕ → Result QueueId core
 rings_opened rings size producers (Ok queue) = rings ++ new_ring size producers ∷ []
 rings_opened rings size producers (Err why) = rings
 
--- the core will open a queue, memory aside
-abbrev pub MayOpen : History → ClientId → AgentHandle → ℕ → ℕ → Type 0
-MayOpen core client agent size producers =
-    may_lack_memory (Open client agent (asked_size size producers)) (due core (Open client agent (asked_size size producers))) ≡ true
+-- the core allows a queue to be opened, under this number
+abbrev pub MayOpen : History → ClientId → AgentHandle → ℕ → ℕ → QueueId → Type 0
+MayOpen core client agent size producers queue = due core (Open client agent (asked_size size producers)) ≡ enters (outcome.Opened queue) []
 
 -- a queue was opened with its ring, or refused by the core
 abbrev pub Opens : ClientId → AgentHandle → ℕ → ℕ → History → List QueueRing → Reply → History → List QueueRing → Type 0

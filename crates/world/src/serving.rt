@@ -1,6 +1,6 @@
 //! Requests are served: each by the core, by a queue's ring, or by both.
 
-ghost use Rattle.std.specs.Prelude.{◌≡◌, ◌&&◌, false, true};
+ghost use Rattle.std.specs.Prelude.{◌≡◌, ◌<◌, IfOk, OnOk, true, vec_capacity, vec_len};
 ghost use Rattle.policy.specs.Policy.{numbered};
 ghost use Rattle.core_model.specs.declared.answer.Answer.TheVariants as told;
 ghost use Rattle.core_model.specs.declared.outcome.Outcome.TheVariants as outcome;
@@ -16,10 +16,10 @@ use crate::reply::{Answer, Refusal, Reply};
 use crate::request::Request;
 use crate::rings::{make_step, next_packet, note_taken};
 use access_core::AccessCore;
-use aql_packet::{AgentHandle, ClientId, QueueId, is_ring_size};
+use aql_packet::{AgentHandle, ClientId, QueueId};
 use core_model::{Event, Outcome};
 use ring_core::{RingState, is_producer_count};
-use std::alloc::Global;
+use std::alloc::{AllocError, Global};
 
 /// Who opens a queue, on which agent, and with which ring.
 #[derive(Clone, Copy)]
@@ -116,13 +116,6 @@ fn hand_over(
     }
 }
 
-// Whether a ring may have so many slots and producers.
-fn is_ring(size: u64, producers: u64) -> bool
-    ensures { result ≡ (is_producer_count producers && is_ring_size size) }
-{
-    is_producer_count(producers) & is_ring_size(size)
-}
-
 // The size that the core is asked for: none, where the number of producers is wrong.
 fn asked_size(size: u64, producers: u64) -> u64
     ensures { result ≡ asked_size size producers }
@@ -134,83 +127,61 @@ fn asked_size(size: u64, producers: u64) -> u64
     }
 }
 
-// Opens a queue, with its ring. Memory for the ring is got where the core will open the queue.
+// Opens a queue, with its ring. Whether it opens is decided once, by the core.
 fn open(alloc: Global, core: &mut AccessCore, rings: &mut Vec<QueueRing>, opening: Opening) -> Reply
     ensures { Opens opening.client opening.agent opening.size opening.producers core.old.history rings.old.items result core.new.history rings.new.items }
 {
-    if !is_ring(opening.size, opening.producers) {
-        return refuse_opening(alloc, core, rings, opening);
-    }
     let size = asked_size(opening.size, opening.producers);
     match core.may_open(opening.client, opening.agent, size) {
-        Ok(_) => open_fit(alloc, core, rings, opening),
+        Ok(queue) => open_allowed(alloc, core, rings, opening, queue),
         Err(why) => Err(Refusal::Core(why)),
     }
 }
 
-// Opens a queue that the core will open, with its ring.
-fn open_fit(
+// Opens a queue that the core has just allowed, with its ring. All that can want memory is got before the first
+// change.
+fn open_allowed(
     alloc: Global,
     core: &mut AccessCore,
     rings: &mut Vec<QueueRing>,
     opening: Opening,
+    queue: QueueId,
 ) -> Reply
-    requires fits { (is_producer_count opening.producers && is_ring_size opening.size) ≡ true }
-    requires due { MayOpen core.old.history opening.client opening.agent opening.size opening.producers }
+    requires { MayOpen core.old.history opening.client opening.agent opening.size opening.producers queue }
     ensures { Opens opening.client opening.agent opening.size opening.producers core.old.history rings.old.items result core.new.history rings.new.items }
 {
-    match RingState::new(alloc, opening.size, opening.producers) {
-        Ok(ring) => open_with(alloc, core, rings, opening, ring),
-        Err(_) => Err(Refusal::Core(core_model::Refusal::OutOfMemory)),
-    }
-}
-
-// Has the core refuse to open a queue whose ring there can't be.
-fn refuse_opening(
-    alloc: Global,
-    core: &mut AccessCore,
-    rings: &mut Vec<QueueRing>,
-    opening: Opening,
-) -> Reply
-    requires { (is_producer_count opening.producers && is_ring_size opening.size) ≡ false }
-    ensures { Opens opening.client opening.agent opening.size opening.producers core.old.history rings.old.items result core.new.history rings.new.items }
-{
-    let _ = rings;
-    let size = asked_size(opening.size, opening.producers);
-    match core.open_queue(alloc, opening.client, opening.agent, size) {
-        Ok(queue) => Ok(opened(queue)),
-        Err(why) => Err(Refusal::Core(why)),
-    }
-}
-
-// Has the core open a queue, which gets this ring.
-fn open_with(
-    alloc: Global,
-    core: &mut AccessCore,
-    rings: &mut Vec<QueueRing>,
-    opening: Opening,
-    ring: RingState,
-) -> Reply
-    requires ring { ring ≡ opened opening.size opening.producers }
-    requires due { MayOpen core.old.history opening.client opening.agent opening.size opening.producers }
-    ensures { Opens opening.client opening.agent opening.size opening.producers core.old.history rings.old.items result core.new.history rings.new.items }
-{
-    let new = QueueRing {
-        ring,
-        decided: false,
-    };
-    match rings.push(new) {
-        Ok(()) => {}
+    let ring = match make_ring(alloc, rings, opening.size, opening.producers) {
+        Ok(ring) => ring,
         Err(_) => return Err(Refusal::Core(core_model::Refusal::OutOfMemory)),
-    }
+    };
     let size = asked_size(opening.size, opening.producers);
-    match core.open_queue(alloc, opening.client, opening.agent, size) {
-        Ok(queue) => Ok(opened(queue)),
-        Err(why) => {
-            rings.pop();
-            Err(Refusal::Core(why))
+    match core.open_allowed(alloc, opening.client, opening.agent, size, queue) {
+        Ok(queue) => {
+            rings.push_reserved(QueueRing {
+                ring,
+                decided: false,
+            });
+            Ok(opened(queue))
         }
+        Err(why) => Err(Refusal::Core(why)),
     }
+}
+
+// A ring in which nothing has happened, and room for it behind the others.
+fn make_ring(
+    alloc: Global,
+    rings: &mut Vec<QueueRing>,
+    size: u64,
+    producers: u64,
+) -> Result<RingState, AllocError>
+    requires size { is_ring_size size ≡ true }
+    requires producers { is_producer_count producers ≡ true }
+    ensures ring { IfOk result (λ ring. ring ≡ opened size producers) }
+    ensures room { OnOk result (vec_len rings.new < vec_capacity rings.new) }
+    ensures rings { rings.new.items ≡ rings.old.items }
+{
+    rings.reserve(1)?;
+    RingState::new(alloc, size, producers)
 }
 
 // What a queue that was opened is answered.

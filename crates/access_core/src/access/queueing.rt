@@ -31,6 +31,23 @@ impl AccessCore {
         ensures places { KeepsPlaces (Event.Open client agent size) self.old self.new }
     {
         let queue = self.may_open(client, agent, size)?;
+        self.open_allowed(alloc, client, agent, size, queue)
+    }
+
+    /// Opens a queue that `may_open` has just said may be opened, and under what number. Only want of memory
+    /// can keep it from that, after which all is as before.
+    pub fn open_allowed(
+        &mut self,
+        alloc: Global,
+        client: ClientId,
+        agent: AgentHandle,
+        size: u64,
+        queue: QueueId,
+    ) -> Result<QueueId, Refusal>
+        requires may { due self.old.history (Event.Open client agent size) ≡ enters (Outcome.Opened queue) [] }
+        ensures met { MeetsOrLacks (Event.Open client agent size) self.old.history self.new.history (map_ok Outcome.Opened result) }
+        ensures lacks { IfErr result (λ why. why ≡ Refusal.OutOfMemory) }
+    {
         let errors = Reserved::with_room(alloc, SLOTS)?;
         self.queues.push(Queue {
             client,

@@ -1,14 +1,15 @@
 -- What is kept moves along with the opening, which is entered where there is room.
 use Rattle.core_model.specs.History.{beginning}
 use Rattle.std.proofs.Common.{◌<◌, ◌∙◌, refl, sym, subst, ap, [], length, ℕ, arith}
-use Rattle.access_core.proofs.Terms.{AgentHandle, All-nil, All-push, ClientId, IsSound, Open, Place, QUEUES, QueueId, cached_opening, cached_view, map-append, openings, start_of}
+use Rattle.access_core.proofs.Terms.{AgentHandle, All-nil, All-push, ClientId, IsSound, Open, Place, QUEUES, QueueId, cached_opening, cached_view, entered-owed, map-append, openings, start_of}
+use Rattle.core_model.proofs.Entered.{open-effects}
 use Rattle.access_core.proofs.Seen.{seen}
 use Rattle.access_core.proofs.HeldAfter.{grants-still}
 use Rattle.access_core.proofs.QueueLemmas.{openings-count, numbered-push, few_after}
 use Rattle.access_core.proofs.CachedMore.{IsCached-more, memory-still, none-launched}
 use Rattle.access_core.proofs.QueueAt.{IsQuiet, flight-quiet, queue_at-quiet}
 use Rattle.core_model.specs.declared.outcome.Outcome.TheVariants as outcome
-use Rattle.access_core.proofs.access.AccessCore.open_queue.Goals as goal
+use Rattle.access_core.proofs.access.AccessCore.open_allowed.Goals as goal
 
 quiet : (client : ClientId) (agent : AgentHandle) (size : ℕ) (queue : QueueId) → IsQuiet (Open client agent size) (outcome.Opened queue) []
 quiet client agent size queue = record { launches = refl; progress = λ q id p. refl; stays = λ q id. refl; releases = λ fs. refl; views = λ m v. refl }
@@ -16,10 +17,13 @@ quiet client agent size queue = record { launches = refl; progress = λ q id p. 
 pub invariant_of-self-2 : goal.invariant_of-self-2
 invariant_of-self-2 c =
     let a = c.self.inside in
-    let calm = quiet c.args.client c.args.agent c.args.size c.in_ok-queue.queue in
+    let calm = quiet c.args.client c.args.agent c.args.size c.args.queue in
     let push = c.in_ok-push.ensures.items in
     let none = c.in_ok-errors.ensures.empty in
-    IsCached-more a _ (Open c.args.client c.args.agent c.args.size) (outcome.Opened c.in_ok-queue.queue) [] c.self.invariant
+    let h = c.args.self.now.history in
+    let owing = entered-owed h (Open c.args.client c.args.agent c.args.size) (outcome.Opened c.args.queue) [] c.requires in
+    let fewer = open-effects (beginning h) h.entries (outcome.Opened c.args.queue) [] c.args.client c.args.agent c.args.size owing.0 in
+    IsCached-more a _ (Open c.args.client c.args.agent c.args.size) (outcome.Opened c.args.queue) [] c.self.invariant
     (record {
       same = ((refl, refl, refl), refl);
       audit = rw c.none.ensures at c.enter.ensures;
@@ -37,9 +41,9 @@ invariant_of-self-2 c =
               below = rw c.new.ensures (All-nil (λ (p : Place). p.id.0 < 0));
             }));
         few_queues = rw push (few_after a.queues.items _ (openings-count a c.self.invariant
-            (subst (λ h. length (openings (beginning h) h.entries) < QUEUES) (sym (seen c.self.view_is)) c.in_ok-queue.ensures.few)));
+            (subst (λ h. length (openings (beginning h) h.entries) < QUEUES) (sym (seen c.self.view_is)) fewer.few)));
         flying = c.self.invariant.flying ∙ ap length (sym (flight-quiet (start_of a) a.audit.items _ _ _ calm));
-        within = none-launched (Open c.args.client c.args.agent c.args.size) (outcome.Opened c.in_ok-queue.queue) refl (start_of a);
+        within = none-launched (Open c.args.client c.args.agent c.args.size) (outcome.Opened c.args.queue) refl (start_of a);
       };
     })
-    _ (seen c.self.view_is) c.in_ok-queue.ensures.may
+    _ (seen c.self.view_is) c.requires

@@ -1,1 +1,0 @@
--- What the core refuses leaves all as it was; what it will open is opened.
