@@ -4,7 +4,7 @@ use Rattle.std.proofs.Common.{◌≡◌, refl, Bool, true, false, [], arith}
 use Rattle.core_model.specs.declared.outcome.Satisfied.{Satisfied}
 use Rattle.core_model.specs.Owed.{owed}
 use Rattle.access_core.proofs.QueueAt.{IsAdvance}
-use Rattle.access_core.proofs.Terms.{Call, History, Inside, IsCached, IsInPlace, Owed, PacketId, Place, Poll, Progress, QueueId, history_of, owed_poll, satisfied_by_either, sight}
+use Rattle.access_core.proofs.Terms.{Call, History, Inside, IsCached, IsInPlace, Owed, PacketId, Place, Poll, Progress, QueueId, history_of, owed_poll, satisfied_by_either, polled_as}
 use Rattle.core_model.specs.declared.outcome.Outcome.TheVariants as outcome
 
 -- how far a packet has come once it has seen this
@@ -12,9 +12,9 @@ abbrev pub seen_further : Satisfied → Progress → Progress
 seen_further new so_far = record so_far { satisfied = satisfied_by_either so_far.satisfied new }
 
 -- by the entry the packet comes as far
-pub sight-advances : (queue : QueueId) (id : PacketId) (ready : Bool) (new : Satisfied) → IsAdvance queue id (seen_further new) (Call (Poll queue id)) (outcome.Polled (sight ready new)) []
-sight-advances queue id true new = record { launches = refl; progress = λ q i so_far. refl; stays = λ q i. refl; releases = λ fs. refl; views = λ m v places. refl }
-sight-advances queue id false new = record { launches = refl; progress = λ q i so_far. refl; stays = λ q i. refl; releases = λ fs. refl; views = λ m v places. refl }
+pub polled_as-advances : (queue : QueueId) (id : PacketId) (ready : Bool) (new : Satisfied) → IsAdvance queue id (seen_further new) (Call (Poll queue id)) (outcome.Polled (polled_as ready new)) []
+polled_as-advances queue id true new = record { launches = refl; progress = λ q i so_far. refl; stays = λ q i. refl; releases = λ fs. refl; views = λ m v places. refl }
+polled_as-advances queue id false new = record { launches = refl; progress = λ q i so_far. refl; stays = λ q i. refl; releases = λ fs. refl; views = λ m v places. refl }
 
 -- what a poll is owed, by the values that are cached
 pub poll-owed : (a : Inside) → IsCached a → (old : History) → history_of a ≡ old → (queue : QueueId) (id : PacketId) (place : Place) → IsInPlace old queue id place → (owing : Owed)

@@ -5,7 +5,7 @@ use Rattle.std.proofs.Common.{◌≡◌, ℕ, ◌<◌, ◌≤◌, ◌^◌, List,
 use Rattle.std.proofs.Common.{length-append, subst, nat_lt, All, ◌||◌, ◌==◌, map, option_map, if◌then◌else◌}
 use Rattle.access_core.proofs.Terms.{All-head, All-push, All-tail, All-weaker, CanFail, ClientId, Denied, Effect, Entry, Event, Facts, History, InFlight, Inside, IsBlockPlaced, IsCached}
 use Rattle.access_core.proofs.Terms.{IsInPlace, IsSound, Launched, MayReach, MayReachRange, ObjectRight, Opening, Outcome, Packet, PacketId, Place, Queue, QueueError, QueueId, QueueView}
-use Rattle.access_core.proofs.Terms.{Read, Rule, SLOTS, Start, Take, TakesNext, and_parts, argument_ranges, arguments-held, as_launched, barrier_bit, cached_opening, cached_view}
+use Rattle.access_core.proofs.Terms.{Read, Rule, MOST_IN_FLIGHT, Start, Take, TakesNext, and_parts, argument_ranges, arguments-held, as_launched, barrier_bit, cached_opening, cached_view}
 use Rattle.access_core.proofs.Terms.{count_by-le-length, decoded, due, entered-owed, enters, entry_of, error_without_place, facts_of, first_failing_rule, flight, flight_of}
 use Rattle.access_core.proofs.Terms.{hands_over_packet_of, held_by_arguments, held_by_needs, history_of, in_force, is_placed, kernel_of, lacks_room, launched_by, length-map}
 use Rattle.access_core.proofs.Terms.{lies_in_regions}
@@ -138,7 +138,7 @@ pub room-launched : (h : History) (queue : QueueId) (id : PacketId) (bytes : Lis
 room-launched h queue id bytes p reads = rw (reads, length-append) refl
 
 -- a packet that may start finds a slot free
-may_start-few : (ps : List Packet) (barrier : Bool) → cause_to_wait ps barrier ≡ None → length ps < SLOTS
+may_start-few : (ps : List Packet) (barrier : Bool) → cause_to_wait ps barrier ≡ None → length ps < MOST_IN_FLIGHT
 unfolding cause_to_wait
 may_start-few ps barrier none = grind arith
 
@@ -191,7 +191,7 @@ open-of a kept old seen_as queue id place found = is-open a kept queue found.ope
 pub record CanTake (a : Inside) (queue : QueueId) : Type 0 where
   pub opened : IsOpen a queue
   pub none : opened.q.errors.items ≡ []
-  pub few : length opened.q.places < SLOTS
+  pub few : length opened.q.places < MOST_IN_FLIGHT
 
 pub can-take : (a : Inside) (kept : IsCached a) (queue : QueueId) → TakesNext (history_of a) queue → CanTake a queue
 can-take a kept queue takes =

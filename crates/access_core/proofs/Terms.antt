@@ -12,7 +12,7 @@ pub use Rattle.access_core.specs.inner.Deciding.{IsBlockPlaced, MayHold, TakesNe
 pub use Rattle.access_core.specs.inner.InPlace.{IsChanged, IsInPlace, IsSized, RefusedAt, finish_owed, is_placed}
 pub use Rattle.access_core.specs.inner.Laying.{LiesWithin}
 pub use Rattle.access_core.specs.inner.LiesInRegions.{lies_in_regions}
-pub use Rattle.access_core.specs.inner.Polling.{look_owed, sight}
+pub use Rattle.access_core.specs.inner.Polling.{look_owed, polled_as}
 pub use Rattle.access_core.specs.inner.QueueChanges.{CanFail, freed_by, places_freed, with_advance, with_denied, with_failure, with_queue, with_release, with_stop, without_one}
 pub use Rattle.access_core.specs.inner.Running.{FaultsAs, IsHolder, fault_owed, lent_if_held, lent_whole, next_result, region_numbered, view_whole}
 pub use Rattle.aql_packet.specs.Ids.{same_packet}
@@ -65,7 +65,7 @@ pub use Rattle.core_model.specs.declared.event.Request.{Request}
 pub use Rattle.core_model.specs.declared.flight.InFlight.{InFlight}
 pub use Rattle.core_model.specs.declared.flight.Progress.{Progress}
 pub use Rattle.core_model.specs.declared.flight.TheConstants.{LAUNCH_PROGRESS}
-pub use Rattle.core_model.specs.declared.limits.TheConstants.{MOST_ENTRIES, MOST_SEGMENT_BYTES, QUEUES, SLOTS}
+pub use Rattle.core_model.specs.declared.limits.TheConstants.{MOST_ENTRIES, MOST_SEGMENT_BYTES, QUEUES, MOST_IN_FLIGHT}
 pub use Rattle.core_model.specs.declared.outcome.Outcome.{Outcome}
 pub use Rattle.core_model.specs.declared.outcome.Polled.TheVariants.{Failed}
 pub use Rattle.core_model.specs.declared.outcome.Taken.TheVariants.{Denied, Launched, Waiting}

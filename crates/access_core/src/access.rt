@@ -6,10 +6,10 @@ ghost use Rattle.core_model.specs.Flight.{flight};
 ghost use Rattle.core_model.specs.Legal.{entry_of};
 ghost use Rattle.access_core.specs.inner.Cached.{IsEntered, is_full};
 
+mod completing;
 mod granting;
+mod group_writes;
 mod host;
-mod kernels;
-mod laying;
 mod lookups;
 mod opening;
 mod polling;
@@ -18,11 +18,11 @@ mod queueing;
 mod reloading;
 mod rotating;
 mod running;
+mod running_kernels;
 mod serving;
 mod stopping;
 mod taking;
 mod viewing;
-mod working;
 
 use crate::argument_blocks::ArgumentBlocks;
 use crate::kernel::Kernel;

@@ -13,11 +13,11 @@ use std::thread::Threads;
 use std::time::{Clock, Duration, Instant};
 
 /// How many slots the measured rings have.
-const SLOTS: u64 = 64;
+const MOST_IN_FLIGHT: u64 = 64;
 
 /// Sends packets through a ring and takes each at once, all on one thread, and tells how long it took.
 pub fn one_thread(rt: &impl Clock, alloc: Global, packets: u64) -> Result<Duration, Fault> {
-    let (ring, mut passes, mut processor) = Ring::new(alloc, SLOTS, 1)?;
+    let (ring, mut passes, mut processor) = Ring::new(alloc, MOST_IN_FLIGHT, 1)?;
     let Some(mut producer) = passes.pop() else {
         return Err(Fault::Refused);
     };
@@ -57,7 +57,7 @@ pub fn many_threads<R: Threads + Clock + Sync>(
     producers: u64,
     packets: u64,
 ) -> Result<Duration, Fault> {
-    let (ring, mut passes, mut processor) = Ring::new(alloc, SLOTS, producers)?;
+    let (ring, mut passes, mut processor) = Ring::new(alloc, MOST_IN_FLIGHT, producers)?;
     let start = Instant::now(rt)?;
     send_and_take(rt, &ring, &mut processor, packets, passes.as_mut_slice())?;
     Ok(start.elapsed(rt)?)

@@ -16,7 +16,7 @@ use Rattle.policy.specs.declared.rights.Right.TheVariants.{Read}
 use Rattle.policy.specs.declared.row.Takes.{Takes}
 use Rattle.queue_error.specs.declared.rule.Rule.{Rule}
 use Rattle.queue_error.specs.declared.rule.Rule.TheVariants.{L1, L2, L3, L4, L5, L6, L7, L8, L9, L10}
-use Rattle.core_model.specs.declared.limits.TheConstants.{MOST_GROUP_ITEMS, MOST_SEGMENT_BYTES, SLOTS}
+use Rattle.core_model.specs.declared.limits.TheConstants.{MOST_GROUP_ITEMS, MOST_SEGMENT_BYTES, MOST_IN_FLIGHT}
 use Rattle.core_model.specs.declared.kernel.KernelSegments.{KernelSegments}
 use Rattle.core_model.specs.declared.need.Need.{Need}
 use Rattle.core_model.specs.declared.need.Subject.{Subject}
@@ -136,5 +136,5 @@ unfoldable pub cause_to_wait : List Packet → Bool → Option WaitCause
 cause_to_wait flying barrier_bit =
     if list_any is_barrier flying then Some cause.Barrier
     else if barrier_bit && nat_lt 0 (length flying) then Some cause.Active
-    else if nat_le SLOTS (length flying) then Some cause.Slots
+    else if nat_le MOST_IN_FLIGHT (length flying) then Some cause.Slots
     else None

@@ -39,7 +39,7 @@ pub use laws::{
     what_leaves_flight_finds_room, whole_histories_begin_at_an_opening,
 };
 pub use limits::{
-    MOST_BEFORE, MOST_ENTRIES, MOST_GROUP_ITEMS, MOST_HOST_BYTES, MOST_SEGMENT_BYTES, QUEUES, SLOTS,
+    MOST_BEFORE, MOST_ENTRIES, MOST_GROUP_ITEMS, MOST_HOST_BYTES, MOST_SEGMENT_BYTES, QUEUES, MOST_IN_FLIGHT,
 };
 pub use need::{ADD64, AgentFunction, COPY, FILL, Need, Range, Subject};
 pub use origin::{Opening, Origin, PacketOrigin, QueueOrigin};

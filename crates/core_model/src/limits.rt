@@ -2,7 +2,7 @@
 
 /// How many packets of one queue are in flight at the most. So many errors a queue can have, too: it
 /// launches nothing more after the first, and each packet in flight leaves one at the most.
-pub const SLOTS: usize = 8;
+pub const MOST_IN_FLIGHT: usize = 8;
 
 /// How many queues are opened at the most.
 pub const QUEUES: usize = 64;

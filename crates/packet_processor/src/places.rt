@@ -2,14 +2,14 @@
 
 ghost use Rattle.std.specs.Prelude.{◌≡◌, ◌==◌, ◌<◌, ◌++◌, ◌∷◌, [], find, length, map, option_map};
 ghost use Rattle.std.specs.Option.{option_copied};
-ghost use Rattle.core_model.specs.declared.limits.TheConstants.{SLOTS};
+ghost use Rattle.core_model.specs.declared.limits.TheConstants.{MOST_IN_FLIGHT};
 ghost use Rattle.core_model.specs.LaunchRules.{is_barrier};
 ghost use Rattle.packet_processor.specs.Queueing.{as_launched, is_place_of, with_progress, without_packet};
 
 use crate::packets::is_barrier;
 use aql_packet::{Barrier, Header, Packet, PacketId, Scope, SignalHandle};
 use arrayvec::ArrayVec;
-use core_model::{LAUNCH_PROGRESS, Progress, SLOTS};
+use core_model::{LAUNCH_PROGRESS, Progress, MOST_IN_FLIGHT};
 use std::marker::Model;
 
 /// What lies in a place that isn't taken.
@@ -38,7 +38,7 @@ pub struct Place {
 /// places of the value itself, and take no memory. A contract sees the list.
 #[derive(Drop)]
 pub struct Places {
-    taken: ArrayVec<Place, SLOTS>,
+    taken: ArrayVec<Place, MOST_IN_FLIGHT>,
 }
 
 impl Model for Places {
@@ -108,7 +108,7 @@ impl Places {
 
     /// Puts a packet that is launched into a place that is free.
     pub fn launch(&mut self, id: PacketId, packet: Packet)
-        requires { length self.old < SLOTS }
+        requires { length self.old < MOST_IN_FLIGHT }
         ensures { self.new ≡ self.old ++ as_launched id packet ∷ [] }
     {
         self.taken.push(Place {

@@ -8,7 +8,7 @@ ghost use Rattle.packet_processor.specs.Queueing.{may_launch_unless, packets, st
 use crate::packets::is_barrier;
 use crate::places::Place;
 use aql_packet::RawHeader;
-use core_model::{SLOTS, WaitCause};
+use core_model::{MOST_IN_FLIGHT, WaitCause};
 use queue_error::QueueError;
 
 /// Whether a queue's packets are launched.
@@ -77,7 +77,7 @@ impl QueueState<'_> {
         if header.barrier && count > 0 {
             return MayLaunch::Waiting(WaitCause::Active);
         }
-        if count >= SLOTS {
+        if count >= MOST_IN_FLIGHT {
             return MayLaunch::Waiting(WaitCause::Slots);
         }
         MayLaunch::Go

@@ -6,7 +6,7 @@ ghost use Rattle.aql_packet.specs.Reading.{decoded};
 
 use crate::element::{Element, Ending, Sign, Spot, Work};
 use aql_packet::{Packet, PacketId, QueueId, decode};
-use core_model::{Call, Effect, Entry, Event, Outcome, Polled, QUEUES, SLOTS, Taken, Worked};
+use core_model::{Call, Effect, Entry, Event, Outcome, Polled, QUEUES, MOST_IN_FLIGHT, Taken, Worked};
 
 /// Where a sign ends, and how its packet ended.
 #[derive(Clone, Copy)]
@@ -44,7 +44,7 @@ fn at_packet(at: u32, queue: QueueId, packet: PacketId) -> Spot
     Spot {
         at,
         lane: lane_of_queue(queue),
-        row: (packet.0 % SLOTS as u64) as u32,
+        row: (packet.0 % MOST_IN_FLIGHT as u64) as u32,
     }
 }
 

@@ -12,7 +12,7 @@ use core_model::Refusal;
 use std::alloc::{AllocError, Global};
 
 /// How many slots a queue of the load has.
-const SLOTS: u64 = 16;
+const MOST_IN_FLIGHT: u64 = 16;
 
 /// A broker, with the ends and the lanes of its queues.
 #[derive(Drop)]
@@ -29,10 +29,10 @@ fn open_queue(
     planned: PlannedQueue,
     producers: u64,
 ) -> Result<Opened, Refusal>
-    ensures opened { IfOk result (λ o. IsOpened broker.old SLOTS producers o.0 o.1.items o.2 broker.new) }
+    ensures opened { IfOk result (λ o. IsOpened broker.old MOST_IN_FLIGHT producers o.0 o.1.items o.2 broker.new) }
     ensures refused { IfErr result (λ _. broker.new ≡ broker.old) }
 {
-    broker.open_queue(alloc, planned.client, planned.agent, SLOTS, producers)
+    broker.open_queue(alloc, planned.client, planned.agent, MOST_IN_FLIGHT, producers)
 }
 
 // Puts ends of a broker behind others.

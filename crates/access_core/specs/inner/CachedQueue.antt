@@ -5,7 +5,7 @@ use Rattle.aql_packet.specs.declared.ids.QueueId.{QueueId}
 use Rattle.queue_error.specs.declared.error.QueueError.{QueueError}
 use Rattle.core_model.specs.declared.entry.Entry.{Entry}
 use Rattle.core_model.specs.declared.flight.InFlight.{InFlight}
-use Rattle.core_model.specs.declared.limits.TheConstants.{SLOTS}
+use Rattle.core_model.specs.declared.limits.TheConstants.{MOST_IN_FLIGHT}
 use Rattle.core_model.specs.History.{beginning, Start, History}
 use Rattle.core_model.specs.Queues.{next_id, errors, is_stopped, owner}
 use Rattle.core_model.specs.declared.origin.Opening.{Opening}
@@ -45,8 +45,8 @@ queue_at start entries queue = record {
 -- A queue has as many places for errors as packets of it can be in flight, one of them free for each that is, and each packet in
 -- flight has an id below the next (own).
 pub record IsSound (q : Queue) : Type 0 where
-  pub room : length q.errors.items + q.errors.room ≡ SLOTS
-  pub free : length q.errors.items + length q.places ≤ SLOTS
+  pub room : length q.errors.items + q.errors.room ≡ MOST_IN_FLIGHT
+  pub free : length q.errors.items + length q.places ≤ MOST_IN_FLIGHT
   pub below : All (λ place. place.id.0 < q.next) q.places
 
 -- this is what is cached of a queue of the history: who opened it, and what became of it since

@@ -13,7 +13,7 @@ use Rattle.core_model.specs.declared.origin.Opening.{Opening}
 use Rattle.core_model.specs.Flight.{flight_of}
 use Rattle.core_model.specs.Owed.{answers, enters, error_without_place}
 use Rattle.core_model.specs.Legal.{due}
-use Rattle.core_model.specs.declared.limits.TheConstants.{SLOTS}
+use Rattle.core_model.specs.declared.limits.TheConstants.{MOST_IN_FLIGHT}
 use Rattle.access_core.specs.inner.LiesInRegions.{lies_in_regions}
 use Rattle.std.specs.List.{list_all}
 use Rattle.aql_packet.specs.declared.packet.Packet.{Packet}
@@ -35,7 +35,7 @@ use Rattle.core_model.specs.declared.refusal.Refusal.TheVariants as refusal
 abbrev pub TakesNext : History → QueueId → Type 0
 TakesNext history queue =
     (opening : Opening) × (owner (beginning history) history.entries queue ≡ Some opening) × (is_down (beginning history) history.entries queue ≡ false)
-    × (length (flight_of (beginning history) history.entries queue) < SLOTS)
+    × (length (flight_of (beginning history) history.entries queue) < MOST_IN_FLIGHT)
 
 -- the opening of the queue whose packet is launched
 abbrev pub opening_of : Launching → Opening

@@ -13,12 +13,12 @@ use Rattle.access_core.specs.declared.access.polling.Look.{Look}
 use Rattle.access_core.specs.declared.access.polling.Look.TheVariants.{Still, Fails, Sees}
 
 -- what is answered of positions that are seen as 0 for the first time, with which the barrier is ready or not
-abbrev pub sight : Bool → Satisfied → Polled
-sight true new = Ready new
-sight false new = Pending new
+abbrev pub polled_as : Bool → Satisfied → Polled
+polled_as true new = Ready new
+polled_as false new = Pending new
 
 -- what a poll is owed by what it finds
 abbrev pub look_owed : QueueId → PacketId → Look → Owed
 look_owed queue id (Still told) = answers (outcome.Polled told)
 look_owed queue id Fails = enters (outcome.Polled (Failed (error_without_place queue id.0 B1))) (effect.Release queue id ∷ [])
-look_owed queue id (Sees new ready) = enters (outcome.Polled (sight ready new)) []
+look_owed queue id (Sees new ready) = enters (outcome.Polled (polled_as ready new)) []

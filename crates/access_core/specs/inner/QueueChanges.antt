@@ -6,7 +6,7 @@ use Rattle.aql_packet.specs.declared.packet.Packet.{Packet}
 use Rattle.queue_error.specs.declared.error.QueueError.{QueueError}
 use Rattle.policy.specs.Policy.{numbered}
 use Rattle.core_model.specs.declared.flight.Progress.{Progress}
-use Rattle.core_model.specs.declared.limits.TheConstants.{SLOTS}
+use Rattle.core_model.specs.declared.limits.TheConstants.{MOST_IN_FLIGHT}
 use Rattle.packet_processor.specs.declared.places.Place.{Place}
 use Rattle.packet_processor.specs.Queueing.{as_launched, with_progress, without_packet}
 use Rattle.sequences.specs.Room.{Roomy}
@@ -61,4 +61,4 @@ CanFail queues queue = (q : Queue) × (numbered queues queue.0 ≡ Some q) × (0
 
 -- the queue is there, and has a place for a packet
 abbrev pub CanLaunch : List Queue → QueueId → Type 0
-CanLaunch queues queue = (q : Queue) × (numbered queues queue.0 ≡ Some q) × (length q.places < SLOTS) × (q.next < 2 ^ 63)
+CanLaunch queues queue = (q : Queue) × (numbered queues queue.0 ≡ Some q) × (length q.places < MOST_IN_FLIGHT) × (q.next < 2 ^ 63)

@@ -120,8 +120,8 @@ fn first_state(alloc: Global, policy: &Policy) -> Result<State, AllocError>
     ensures { IfOk result (IsFirst policy.now) }
 {
     let grants = Grants::new(alloc, policy)?;
-    let memory = zeroed(alloc, policy)?;
-    let signals = begun(alloc, policy)?;
+    let memory = zero_memory(alloc, policy)?;
+    let signals = begin_signals(alloc, policy)?;
     Ok(State {
         grants,
         memory,
@@ -142,16 +142,16 @@ fn segments(alloc: Global, kernels: &[Kernel]) -> Result<Vec<KernelSegments>, Al
 }
 
 // A policy's regions, all zeros.
-fn zeroed(alloc: Global, policy: &Policy) -> Result<Regions, AllocError>
+fn zero_memory(alloc: Global, policy: &Policy) -> Result<Regions, AllocError>
     ensures { IfOk result (λ memory. memory ≡ zeros (region_lengths policy.now)) }
 {
     let lengths = region_lengths(alloc, policy)?;
-    lengths_fit(policy, lengths.as_slice());
+    law_of_lengths(policy, lengths.as_slice());
     Regions::new(alloc, lengths.as_slice())
 }
 
 // A policy's signals, with their initial values.
-fn begun(alloc: Global, policy: &Policy) -> Result<Signals, AllocError>
+fn begin_signals(alloc: Global, policy: &Policy) -> Result<Signals, AllocError>
     ensures { IfOk result (λ signals. signals ≡ initial_values policy.now) }
 {
     let values = signal_values(alloc, policy)?;
@@ -171,14 +171,14 @@ fn region_lengths(alloc: Global, policy: &Policy) -> Result<Sequence<u32>, Alloc
 {
     let mut lengths = Sequence::new(alloc);
     for before in 0..policy.object_count(Kind::Region) {
-        lengths.push(length_behind(policy, before))?;
+        lengths.push(length_at(policy, before))?;
     }
     Ok(lengths)
 }
 
 // The length of the region behind so many others.
 #[tactic(auto, using(crate::proofs::PolicyRows::rows_none))]
-fn length_behind(policy: &Policy, before: usize) -> u32
+fn length_at(policy: &Policy, before: usize) -> u32
     requires there { before < length policy.now.regions }
     requires small { before < 1024 }
     ensures { row_of policy.now.regions (before + 1) ≡ Some result }
@@ -190,7 +190,7 @@ fn length_behind(policy: &Policy, before: usize) -> u32
 
 // Memory takes the lengths of a policy's regions: each policy is within its limits.
 #[tactic(none)]
-fn lengths_fit(policy: &Policy, lengths: &[u32])
+fn law_of_lengths(policy: &Policy, lengths: &[u32])
     requires { lengths.now ≡ region_lengths policy.now }
     ensures { IsTrue (are_region_lengths lengths.now) }
 {
@@ -203,14 +203,14 @@ fn signal_values(alloc: Global, policy: &Policy) -> Result<Sequence<i64>, AllocE
 {
     let mut values = Sequence::new(alloc);
     for before in 0..policy.object_count(Kind::Signal) {
-        values.push(value_behind(policy, before))?;
+        values.push(value_at(policy, before))?;
     }
     Ok(values)
 }
 
 // The initial value of the signal behind so many others.
 #[tactic(auto, using(crate::proofs::PolicyRows::rows_none))]
-fn value_behind(policy: &Policy, before: usize) -> i64
+fn value_at(policy: &Policy, before: usize) -> i64
     requires there { before < length policy.now.signals }
     requires small { before < 1024 }
     ensures { row_of policy.now.signals (before + 1) ≡ Some result }

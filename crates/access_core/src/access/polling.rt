@@ -12,11 +12,11 @@ ghost use Rattle.core_model.specs.Owed.{enters, owed, owed_poll, refuses};
 ghost use Rattle.policy.specs.Results.{map_ok};
 ghost use Rattle.core_model.specs.Legal.{Meets, due};
 ghost use Rattle.access_core.specs.inner.QueueChanges.{CanFail, freed_by, with_failure, with_queue};
-ghost use Rattle.access_core.specs.inner.Polling.{look_owed, sight};
+ghost use Rattle.access_core.specs.inner.Polling.{look_owed, polled_as};
 ghost use Rattle.access_core.specs.inner.InPlace.{IsInPlace};
 
 use crate::access::running::advance;
-use crate::access::working::free_place;
+use crate::access::completing::free_place;
 use crate::access::{AccessCore, enter};
 use crate::queue::Queue;
 use aql_packet::{Packet, PacketId, QueueId, SignalHandle};
@@ -125,7 +125,7 @@ impl AccessCore {
             ..place.progress
         };
         advance(&mut self.queues, queue, packet, progress);
-        let told = sight(ready, new);
+        let told = polled_as(ready, new);
         let event = Event::Call(Call::Poll { queue, packet });
         enter(
             &mut self.audit,
@@ -248,8 +248,8 @@ fn satisfied_by_either(before: &Satisfied, new: &Satisfied) -> Satisfied
 }
 
 // What is told of positions that are seen as 0 for the first time.
-fn sight(ready: bool, new: Satisfied) -> Polled
-    ensures { result ≡ sight ready new }
+fn polled_as(ready: bool, new: Satisfied) -> Polled
+    ensures { result ≡ polled_as ready new }
 {
     if ready {
         Polled::Ready(new)

@@ -109,7 +109,7 @@ impl AccessCore {
             address,
             size: length,
         };
-        Ok(self.copied(alloc, range)?)
+        Ok(self.copy_range(alloc, range)?)
     }
 
     /// A signal's value. Refused in this order: no client has the number; the client's right to

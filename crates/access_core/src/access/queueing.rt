@@ -12,7 +12,7 @@ ghost use Rattle.access_core.specs.Keeping.{KeepsPlaces};
 use crate::access::{AccessCore, enter};
 use crate::queue::Queue;
 use aql_packet::{AgentHandle, ClientId, QueueId, is_ring_size};
-use core_model::{Effects, Event, Outcome, QUEUES, Refusal, SLOTS};
+use core_model::{Effects, Event, Outcome, QUEUES, Refusal, MOST_IN_FLIGHT};
 use packet_processor::Places;
 use policy::{Object, Right};
 use sequences::Reserved;
@@ -48,7 +48,7 @@ impl AccessCore {
         ensures met { MeetsOrLacks (Event.Open client agent size) self.old.history self.new.history (map_ok Outcome.Opened result) }
         ensures lacks { IfErr result (λ why. why ≡ Refusal.OutOfMemory) }
     {
-        let errors = Reserved::with_room(alloc, SLOTS)?;
+        let errors = Reserved::with_room(alloc, MOST_IN_FLIGHT)?;
         self.queues.push(Queue {
             client,
             agent,

@@ -103,11 +103,11 @@ impl AccessCore {
         match function_of(dispatch) {
             Some(AgentFunction::Fill { target, byte }) => Ok(Piece {
                 address: target.address,
-                bytes: filled(alloc, target.size, byte)?,
+                bytes: fill(alloc, target.size, byte)?,
             }),
             Some(AgentFunction::Copy { source, target }) => Ok(Piece {
                 address: target.address,
-                bytes: self.copied(alloc, source)?,
+                bytes: self.copy_range(alloc, source)?,
             }),
             Some(AgentFunction::Add64 { number, addend }) => Ok(Piece {
                 address: number.address,
@@ -152,7 +152,7 @@ impl AccessCore {
     }
 
     // The bytes of a range, as a list of its own.
-    pub(crate) fn copied(&self, alloc: Global, range: Range) -> Result<Sequence<u8>, AllocError>
+    pub(crate) fn copy_range(&self, alloc: Global, range: Range) -> Result<Sequence<u8>, AllocError>
         requires { IsPlaced self.now.history range.address.0 range.size }
         ensures { IfOk result (λ bytes.
             bytes ≡ memory_from (beginning self.now.history) self.now.history.entries range.address.0 range.size) }
@@ -196,7 +196,7 @@ pub(crate) fn advance(queues: &mut Vec<Queue>, queue: QueueId, id: PacketId, pro
 }
 
 // The same byte again and again.
-fn filled(alloc: Global, size: u64, byte: u8) -> Result<Sequence<u8>, AllocError>
+fn fill(alloc: Global, size: u64, byte: u8) -> Result<Sequence<u8>, AllocError>
     ensures { IfOk result (λ bytes. bytes ≡ replicate size byte) }
 {
     Ok(Sequence::from_vec(vec![in alloc; byte; size as usize]?))

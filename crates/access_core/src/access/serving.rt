@@ -20,8 +20,8 @@ impl AccessCore {
         ensures legal { IsLegal (beginning self.new.history) self.new.history.entries }
         ensures places { ServedInPlace request self.old self.new }
     {
-        let reply = self.obey(alloc, request);
-        self.ensure_legal();
+        let reply = self.dispatch(alloc, request);
+        self.law_of_legality();
         reply
     }
 
@@ -39,7 +39,7 @@ impl AccessCore {
         match Reserved::with_room(alloc, requests.len()) {
             Ok(replies) => Ok(self.serve_each(alloc, requests, replies)),
             Err(want) => {
-                self.ensure_legal();
+                self.law_of_legality();
                 Err(want)
             }
         }
@@ -59,22 +59,22 @@ impl AccessCore {
         ensures legal { IsLegal (beginning self.new.history) self.new.history.entries }
     {
         for request in requests {
-            let reply = self.obey(alloc, request);
+            let reply = self.dispatch(alloc, request);
             replies.push(reply);
         }
-        self.ensure_legal();
+        self.law_of_legality();
         replies
     }
 
     // Does nothing but say to callers what holds of each core: its audit is a legal history.
-    fn ensure_legal(&self)
+    fn law_of_legality(&self)
         ensures { IsLegal (beginning self.now.history) self.now.history.entries }
     {
         self.audit.as_slice();
     }
 
     // Makes the call that a request names.
-    fn obey(&mut self, alloc: Global, request: Request) -> Reply
+    fn dispatch(&mut self, alloc: Global, request: Request) -> Reply
         ensures served { IsServed self.old.history request result self.new.history }
         ensures places { ServedInPlace request self.old self.new }
     {

@@ -11,7 +11,7 @@ ghost use Rattle.core_model.specs.Legal.{Meets, as_accepted, due};
 ghost use Rattle.access_core.specs.inner.QueueChanges.{IsThere, freed_by, with_queue, with_stop};
 
 use crate::access::lookups::queue_of;
-use crate::access::working::free_place;
+use crate::access::completing::free_place;
 use crate::access::{AccessCore, enter};
 use crate::argument_blocks::ArgumentBlocks;
 use crate::queue::Queue;
@@ -28,8 +28,8 @@ impl AccessCore {
         ensures room { (id : PacketId) → barrier_in (flight_of (beginning self.old.history) self.old.history.entries queue) ≡ Some id → result ≡ Err Refusal.AuditFull → ⊥ }
     {
         let barrier = self.may_stop(queue)?;
-        self.flying -= halt(&mut self.queues, queue, barrier);
-        let effects = let_go(&mut self.grants, &mut self.blocks, queue, barrier);
+        self.flying -= mark_stopped(&mut self.queues, queue, barrier);
+        let effects = release_barrier(&mut self.grants, &mut self.blocks, queue, barrier);
         let event = Event::Call(Call::Stop { queue });
         enter(&mut self.audit, event, Outcome::Accepted, effects);
         Ok(())
@@ -59,7 +59,7 @@ impl AccessCore {
 
 // Stops a queue of the list, takes a packet of it out of flight, if one is named, and answers how many
 // places that frees.
-fn halt(queues: &mut Vec<Queue>, queue: QueueId, barrier: Option<PacketId>) -> usize
+fn mark_stopped(queues: &mut Vec<Queue>, queue: QueueId, barrier: Option<PacketId>) -> usize
     requires { IsThere queues.old.items queue }
     ensures queues { queues.new.items ≡ with_queue queues.old.items queue (with_stop barrier) }
     ensures freed { result ≡ freed_by barrier queues.old.items queue }
@@ -71,7 +71,7 @@ fn halt(queues: &mut Vec<Queue>, queue: QueueId, barrier: Option<PacketId>) -> u
 }
 
 // Drops what is kept of a packet's launch, if one is named, and tells its release.
-fn let_go(
+fn release_barrier(
     grants: &mut Grants,
     blocks: &mut ArgumentBlocks,
     queue: QueueId,

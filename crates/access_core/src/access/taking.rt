@@ -99,7 +99,7 @@ impl AccessCore {
     }
 
     // Judges a packet of a client's queue on an agent.
-    fn judged(&self, client: ClientId, agent: AgentHandle, bytes: &[u8; 64]) -> Verdict
+    fn judge(&self, client: ClientId, agent: AgentHandle, bytes: &[u8; 64]) -> Verdict
         ensures { Judges (facts_of (beginning self.now.history) self.now.history.entries (record { client = client; agent = agent })) bytes.now result }
     {
         let facts = self.facts(client, agent);
@@ -134,7 +134,7 @@ impl AccessCore {
         match state.may_launch(&header(bytes)) {
             MayLaunch::Waiting(cause) => Ok(Decision::Wait(cause)),
             MayLaunch::Go => {
-                match self.judged(kept.client, kept.agent, bytes) {
+                match self.judge(kept.client, kept.agent, bytes) {
                     Verdict::Launch(packet) => {
                         if self.is_full_for_launch() {
                             return Err(Refusal::AuditFull);
@@ -218,7 +218,7 @@ impl AccessCore {
                     address: dispatch.kernarg_address,
                     size: program.kernarg_bytes() as u64,
                 };
-                self.copied(alloc, range)
+                self.copy_range(alloc, range)
             }
         }
     }

@@ -18,8 +18,8 @@ returns-then-group-count-clause-met c =
     (kernel-owed h c.args.queue c.args.packet c.args.place c.requires.found c.args.dispatch c.requires.packet_is true ran) in
     inl (record { reply_is = rw is refl; history_is = rw is refl })
 
-pub ran-requires-clause-owed : goal.ran-requires-clause-owed
-ran-requires-clause-owed c =
+pub enter_group-requires-clause-owed : goal.enter_group-requires-clause-owed
+enter_group-requires-clause-owed c =
     let h = c.args.self.now.history in
     let d = c.args.dispatch in
     let group = c.args.place.progress.groups_run in

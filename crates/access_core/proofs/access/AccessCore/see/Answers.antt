@@ -1,12 +1,12 @@
 -- What is kept moves along with what is seen, which is entered where there is room.
 use Rattle.std.proofs.Common.{◌∙◌, refl, sym, ap, map, []}
-use Rattle.access_core.proofs.Terms.{Call, Poll, error_places, sight, start_of, with_advance}
+use Rattle.access_core.proofs.Terms.{Call, Poll, error_places, polled_as, start_of, with_advance}
 use Rattle.access_core.proofs.Places.{places-kept}
 use Rattle.access_core.proofs.ChangedQueue.{errors-changed}
 use Rattle.access_core.proofs.Seen.{seen}
 use Rattle.access_core.proofs.HeldAfter.{grants-still}
 use Rattle.access_core.proofs.CachedMore.{IsCached-more, memory-still}
-use Rattle.access_core.proofs.PollLemmas.{seen_further, sight-advances}
+use Rattle.access_core.proofs.PollLemmas.{seen_further, polled_as-advances}
 use Rattle.access_core.proofs.QueueAt.{flight-advanced}
 use Rattle.access_core.proofs.TakeLemmas.{is-open, open-of}
 use Rattle.access_core.proofs.WorkLemmas.{place-inside, queues-advanced}
@@ -22,13 +22,13 @@ advance-requires c =
 pub invariant_of-self : goal.invariant_of-self
 invariant_of-self c =
     let a = c.self.inside in
-    let is = sight-advances c.args.queue c.args.packet c.args.ready c.args.new in
+    let is = polled_as-advances c.args.queue c.args.packet c.args.ready c.args.new in
     let found = place-inside a _ (seen c.self.view_is) c.args.queue c.args.packet c.args.place c.requires.found in
     let at = is-open a c.self.invariant c.args.queue found.opening found.owner_is in
-    IsCached-more a _ (Call (Poll c.args.queue c.args.packet)) (outcome.Polled (sight c.args.ready c.args.new)) [] c.self.invariant
+    IsCached-more a _ (Call (Poll c.args.queue c.args.packet)) (outcome.Polled (polled_as c.args.ready c.args.new)) [] c.self.invariant
     (record {
       same = ((refl, refl, refl), refl);
-      audit = rw (c.none.ensures, c.sight-told.ensures) at c.enter.ensures;
+      audit = rw (c.none.ensures, c.polled_as-told.ensures) at c.enter.ensures;
       grants = grants-still a c.self.invariant _ _ _ refl is.stays (λ client on right b. refl) (λ rows. refl) (flight-advanced (start_of a) a.audit.items _ _ _ c.args.queue c.args.packet _ is);
       memory = memory-still a.memory _ (λ x byte. refl);
       values = refl;

@@ -9,8 +9,8 @@ use Rattle.access_core.proofs.StopLemmas.{freed-stopped, grants-stopped, memory-
 use Rattle.core_model.specs.declared.outcome.Outcome.TheVariants as outcome
 use Rattle.access_core.proofs.access.AccessCore.stop.Goals as goal
 
-pub halt-requires : goal.halt-requires
-halt-requires = grind (arith, stop-open)
+pub mark_stopped-requires : goal.mark_stopped-requires
+mark_stopped-requires = grind (arith, stop-open)
 
 pub overflow_sub-self : goal.overflow_sub-self
 overflow_sub-self = grind (arith, stop-open, freed-stopped)
@@ -23,12 +23,12 @@ invariant_of-self c =
     IsCached-more a _ (Call (Stop c.args.queue)) outcome.Accepted (release_of c.args.queue barrier) c.self.invariant
     (record {
       same = ((refl, refl, refl), refl);
-      audit = rw c.let_go-effects.ensures.effects at c.enter.ensures;
-      grants = grants-stopped a c.self.invariant c.args.queue barrier _ _ c.let_go-effects.ensures.released c.let_go-effects.ensures.dropped c.let_go-effects.ensures.same
-          c.let_go-effects.ensures.same_blocks;
+      audit = rw c.release_barrier-effects.ensures.effects at c.enter.ensures;
+      grants = grants-stopped a c.self.invariant c.args.queue barrier _ _ c.release_barrier-effects.ensures.released c.release_barrier-effects.ensures.dropped c.release_barrier-effects.ensures.same
+          c.release_barrier-effects.ensures.same_blocks;
       memory = memory-still a.memory _ (λ x byte. memory-released c.args.queue barrier x byte);
       values = sym (values-released c.args.queue barrier a.signals);
-      queues = rw (c.halt.ensures.queues, c.halt.ensures.freed) (queues-stopped a c.self.invariant c.args.queue at barrier);
+      queues = rw (c.mark_stopped.ensures.queues, c.mark_stopped.ensures.freed) (queues-stopped a c.self.invariant c.args.queue at barrier);
     })
     _ (seen c.self.view_is) c.in_ok-barrier.ensures.may
 
@@ -37,6 +37,6 @@ returns-clause-places c =
     let a = c.self.inside in
     let barrier = c.in_ok-barrier.barrier in
     let at = stop-open a c.self.invariant c.args.queue _ _ (owed-inside a c.self.invariant _ (seen c.self.view_is) _ _ _ c.in_ok-barrier.ensures.may) in
-    places-kept a _ c.self.view_is c.halt.new.queues c.let_go-effects.new.grants c.let_go-effects.new.blocks c.enter.new.audit _ c.halt.ensures.capacity
-    (ap (map error_places) c.halt.ensures.queues ∙ errors-changed a.queues.items c.args.queue (with_stop barrier) at.q at.found refl)
-    c.let_go-effects.ensures.places c.let_go-effects.ensures.block_places c.enter.ensures
+    places-kept a _ c.self.view_is c.mark_stopped.new.queues c.release_barrier-effects.new.grants c.release_barrier-effects.new.blocks c.enter.new.audit _ c.mark_stopped.ensures.capacity
+    (ap (map error_places) c.mark_stopped.ensures.queues ∙ errors-changed a.queues.items c.args.queue (with_stop barrier) at.q at.found refl)
+    c.release_barrier-effects.ensures.places c.release_barrier-effects.ensures.block_places c.enter.ensures

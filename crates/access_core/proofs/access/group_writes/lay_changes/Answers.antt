@@ -1,7 +1,7 @@
 -- The next change lies where it did before, and is laid over the others.
 use Rattle.std.proofs.Common.{List, subst}
 use Rattle.access_core.proofs.Terms.{Effect, IsChanged, take_all}
-use Rattle.access_core.proofs.access.laying.lay_changes.Goals as goal
+use Rattle.access_core.proofs.access.group_writes.lay_changes.Goals as goal
 
 pub returns-clause-changed : goal.returns-clause-changed
 returns-clause-changed c =

@@ -1,6 +1,6 @@
 -- A write is laid over memory as it says.
 use Rattle.access_core.proofs.HostMemory.{byte_at-written}
-use Rattle.access_core.proofs.access.laying.lay_change.Goals as goal
+use Rattle.access_core.proofs.access.group_writes.lay_change.Goals as goal
 
 pub returns-in-Write-clause-changed : goal.returns-in-Write-clause-changed
 returns-in-Write-clause-changed c =

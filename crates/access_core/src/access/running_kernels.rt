@@ -51,7 +51,7 @@ impl AccessCore {
             return Ok(Worked::Done);
         }
         match self.group_runs(alloc, queue, packet, place, dispatch) {
-            Ok(runs) => self.ran(alloc, queue, packet, place, count - (group + 1), runs),
+            Ok(runs) => self.enter_group(alloc, queue, packet, place, count - (group + 1), runs),
             Err(RunFault::Fault(fault)) => Ok(self.fault(queue, packet, place, group, fault)),
             Err(RunFault::OutOfMemory) => Err(Refusal::OutOfMemory),
         }

@@ -16,7 +16,7 @@ use Rattle.access_core.proofs.TakeLemmas.{is-open, open-of}
 use Rattle.access_core.proofs.WorkLemmas.{place-inside, queues-advanced}
 use Rattle.core_model.specs.declared.outcome.Outcome.TheVariants as outcome
 use Rattle.core_model.specs.declared.refusal.Refusal.TheVariants as refusal
-use Rattle.access_core.proofs.access.AccessCore.ran.Goals as goal
+use Rattle.access_core.proofs.access.AccessCore.enter_group.Goals as goal
 
 pub returns-in_err-changes-clause-met : goal.returns-in_err-changes-clause-met
 returns-in_err-changes-clause-met c =

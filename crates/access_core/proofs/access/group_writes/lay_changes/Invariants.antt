@@ -1,7 +1,7 @@
 -- the changes so far are laid over memory, and its regions are as long as before
 use Rattle.std.proofs.Common.{◌≡◌, take}
 use Rattle.access_core.proofs.Terms.{IsChanged, lengths_of}
-use Rattle.access_core.proofs.access.laying.lay_changes.Given as goal
+use Rattle.access_core.proofs.access.group_writes.lay_changes.Given as goal
 
 abbrev pub invariant-loop-change : goal.invariant-loop-change
 invariant-loop-change l =

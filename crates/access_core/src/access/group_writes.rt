@@ -24,7 +24,7 @@ use std::alloc::{AllocError, Global};
 impl AccessCore {
     // Enters a group of a kernel dispatch that ran: its runs are laid over memory, and its packet is one
     // group further.
-    pub(crate) fn ran(
+    pub(crate) fn enter_group(
         &mut self,
         alloc: Global,
         queue: QueueId,
