@@ -64,7 +64,7 @@ IsCached-opened a policy opened fresh ruled memory values blocks queues flying e
 -- the history of a core that was just opened
 pub IsOpening-empty : (policy : Declared) (origin : Origin) → IsOpeningOrigin policy origin → (kernels : List Program) (capacity : ℕ) (entries : List Entry) → entries ≡ []
     → IsOpening (record { origin = origin; kernels = kernels; capacity = capacity; entries = entries }) policy kernels capacity
-IsOpening-empty policy origin opened kernels capacity entries none = record { policy_is = opened.policy_is; start_is = begin-opening policy kernels origin opened; kernels_are = refl; capacity_is = refl; entries_are = none }
+IsOpening-empty policy origin opened kernels capacity entries none = record { origin_is = opened; kernels_are = refl; capacity_is = refl; entries_are = none }
 
 -- a capacity is at most 2^20
 pub few_places : (capacity : ℕ) → is_capacity capacity ≡ true → capacity ≤ MOST_ENTRIES

@@ -51,6 +51,7 @@ use Rattle.core_model.specs.Legal.{AreReplies, IsOpening, IsServed, MeetsOrLacks
 use Rattle.core_model.specs.Queries.{AnswerOrRefusal}
 use Rattle.core_model.specs.Room.{FindsRoom, HasRoom}
 use Rattle.core_model.proofs.Lists.{found-passes}
+use Rattle.core_model.proofs.States.{begin-opening}
 use Rattle.core_model.proofs.More.{flight-more}
 use Rattle.core_model.specs.View.{GivenAtLaunch, given_at_launch, group_input}
 use Rattle.core_model.specs.Memory.{signals}
@@ -295,7 +296,7 @@ pub opening-roomy : (history : History) (policy : Declared) (kernels : List Prog
 unfolding flight
 opening-roomy history policy kernels capacity is =
     let none : length history.entries ≡ 0 = ap length is.entries_are in
-    let quiet : length (flight (beginning history) history.entries) ≡ 0 = ap (λ (es : List Entry). length (fold flight_after (beginning history).flight es)) is.entries_are ∙ ap (λ (now : Start). length now.flight) is.start_is in
+    let quiet : length (flight (beginning history) history.entries) ≡ 0 = ap (λ (es : List Entry). length (fold flight_after (beginning history).flight es)) is.entries_are ∙ ap (λ (now : Start). length now.flight) (begin-opening policy history.kernels history.origin is.origin_is) in
     omega (arith, none, quiet)
 
 module _ (old : History) (room : HasRoom old) (event : Event) where

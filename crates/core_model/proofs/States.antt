@@ -14,7 +14,7 @@ use Rattle.core_model.specs.declared.entry.Entry.{Entry}
 use Rattle.core_model.specs.declared.event.Event.{Event}
 use Rattle.core_model.specs.declared.event.Query.{Query}
 use Rattle.core_model.specs.declared.flight.InFlight.{InFlight}
-use Rattle.core_model.specs.History.{IsOpeningOrigin, Opening, Origin, PacketOrigin, Part, QueueOrigin, Start, begin, effects_of, no_queue, opening_state, packet_in, queue_in}
+use Rattle.core_model.specs.History.{History, IsOpeningOrigin, Opening, Origin, PacketOrigin, Part, QueueOrigin, Start, begin, beginning, effects_of, no_queue, opening_state, packet_in, queue_in}
 use Rattle.regions.specs.Memory.{byte_at, lies_in_region, zeros}
 use Rattle.regions.proofs.Laws.{byte_at-outside, byte_at-zeros, lengths_of-zeros}
 use Rattle.policy.specs.Policy.{Declared, numbered, region_lengths}
@@ -31,6 +31,7 @@ use Rattle.core_model.specs.Holds.{along, arguments, arguments_after, arguments_
 use Rattle.core_model.specs.States.{state_after}
 use Rattle.core_model.specs.Owed.{enters, owed}
 use Rattle.core_model.specs.Queries.{query_answer}
+use Rattle.core_model.specs.Rotation.{IsRotated}
 use Rattle.core_model.specs.Legal.{IsFollowedBy, SameOrigin, IsLegal, IsLegalAfter, IsLegalPart, IsWhole, joined}
 use Rattle.core_model.proofs.More.{along-append, effects_of-append}
 
@@ -402,3 +403,23 @@ joined-part kernels first second one two follows =
       legal = join-legal (begin kernels first.start) first.entries (begin kernels second.start) second.entries one.legal two.legal here;
       end_is = two.end_is ∙ join-end (begin kernels first.start) first.entries (begin kernels second.start) second.entries here;
     }
+
+-- ---- rotations
+
+-- a rotated history goes on from the state behind the old one
+pub rotated-start : (old new : History) (part : Part) → IsRotated old part new → beginning new ≡ state_after (beginning old) old.entries
+rotated-start old new part is = ap (λ (kernels : List Program). begin kernels new.origin) is.kernels_are ∙ same-begin old.kernels new.origin part.end is.goes_on ∙ is.end_is
+
+-- what it hands out of a legal one is legal
+pub rotated-part : (old new : History) (part : Part) → IsLegal (beginning old) old.entries → IsRotated old part new → IsLegalPart old.kernels part
+rotated-part old new part legal is =
+    let began : begin old.kernels part.start ≡ beginning old = ap (begin old.kernels) is.start_is in
+    record {
+      legal = subst (λ (s : Start). IsLegal s part.entries) (sym began) (subst (IsLegal (beginning old)) (sym is.entries_are) legal);
+      end_is = is.end_is ∙ sym (λ i. state_after (began i) (is.entries_are i));
+    }
+
+-- and so is what is left
+pub rotated-rest : (old new : History) (part : Part) → IsLegal (beginning old) old.entries → IsRotated old part new → IsLegal (beginning new) new.entries
+rotated-rest old new part legal is =
+    subst (IsLegal (beginning new)) (sym is.empty) (subst (λ (s : Start). IsLegal s []) (sym (rotated-start old new part is)) (rotate-legal (beginning old) old.entries legal))

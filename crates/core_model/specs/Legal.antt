@@ -18,7 +18,7 @@ use Rattle.kernel_check.specs.Programs.{Program}
 use Rattle.policy.specs.Policy.{Declared}
 use Rattle.policy.specs.Declaring.{DeclaresAs}
 use Rattle.policy.specs.Results.{map_ok}
-use Rattle.core_model.specs.History.{History, Origin, Part, Start, begin, beginning, opening_state, policy_in}
+use Rattle.core_model.specs.History.{History, IsOpeningOrigin, Origin, Part, Start, begin, beginning, opening_state, policy_in}
 use Rattle.grants.specs.Ledger as ledger
 use Rattle.aql_packet.specs.declared.ids.ClientId.{ClientId}
 use Rattle.aql_packet.specs.declared.ids.QueueId.{QueueId}
@@ -30,10 +30,9 @@ use Rattle.core_model.specs.Flight.{flight, flight_after}
 use Rattle.core_model.specs.Owed.{Owed, refuses, answers, enters, owed}
 use Rattle.core_model.specs.Queries.{AnswerOrRefusal, query_answer}
 
--- the history of a core that was just opened: it begins from the opening state, over this policy, and has no entry yet (own)
+-- the history of a core that was just opened: it begins from what a core begins from that is opened over this policy, and has no entry yet (own)
 pub record IsOpening (history : History) (policy : Declared) (kernels : List Program) (capacity : ℕ) : Type 0 where
-  pub policy_is : history.origin.policy ≡ policy
-  pub start_is : beginning history ≡ opening_state policy kernels
+  pub origin_is : IsOpeningOrigin policy history.origin
   pub kernels_are : history.kernels ≡ kernels
   pub capacity_is : history.capacity ≡ capacity
   pub entries_are : history.entries ≡ []

@@ -1,6 +1,8 @@
 -- How a history is parted, by a rotation, and how parts are joined.
 use Rattle.std.specs.Prelude.{◌≡◌, ◌+◌, ℕ, Bool, true, false, nat_lt, List, [], ◌∷◌, length, Result, Ok, Err}
 use Rattle.std.specs.List.{flat_map}
+use Rattle.policy.specs.Policy.{region_lengths}
+use Rattle.regions.specs.Memory.{lengths_of}
 use Rattle.core_model.specs.declared.limits.TheConstants.{MOST_BEFORE}
 use Rattle.core_model.specs.declared.entry.Entry.{Entry}
 use Rattle.core_model.specs.declared.part.JoinFault.{JoinFault}
@@ -18,12 +20,14 @@ use Rattle.core_model.specs.Legal.{IsFollowedBy, SameOrigin, joined}
 abbrev pub lies_too_far : History → Bool
 lies_too_far history = nat_lt MOST_BEFORE (history.origin.before + length history.entries)
 
--- a history was rotated: the part is what it began from, its entries, and what follows from both; the new one begins from the same as
--- that part ends in, with no entry, and with places for as many (own)
+-- a history was rotated: the part is what it began from, its entries, and what follows from both, in regions as long and under the
+-- policy that was declared; the new one begins from the same as that part ends in, with no entry, and with places for as many (own)
 pub record IsRotated (old : History) (part : Part) (new : History) : Type 0 where
   pub start_is : part.start ≡ old.origin
   pub entries_are : part.entries ≡ old.entries
   pub end_is : begin old.kernels part.end ≡ state_after (beginning old) old.entries
+  pub lengths : lengths_of part.end.memory ≡ region_lengths old.origin.policy
+  pub declared : (part.end.policy ≡ old.origin.policy) × (new.origin.policy ≡ old.origin.policy)
   pub goes_on : SameOrigin new.origin part.end
   pub kernels_are : new.kernels ≡ old.kernels
   pub capacity_is : new.capacity ≡ old.capacity
@@ -44,15 +48,15 @@ abbrev pub number_of_fault : JoinFault → ℕ
 number_of_fault fault.OutOfMemory = 0
 number_of_fault fault.NotNext = 1
 
--- why two parts aren't joined: just where the second doesn't begin from what the first ends in, it isn't next (own)
-abbrev pub Explains : JoinFault → Part → Part → Type 0
-Explains fault.OutOfMemory first second = IsFollowedBy first second
-Explains fault.NotNext first second = IsFollowedBy first second → ⊥
+-- why two parts can't be joined: just where the second doesn't begin from what the first ends in, it isn't next (own)
+abbrev pub IsUnjoinedFor : JoinFault → Part → Part → Type 0
+IsUnjoinedFor fault.OutOfMemory first second = IsFollowedBy first second
+IsUnjoinedFor fault.NotNext first second = IsFollowedBy first second → ⊥
 
 -- what joining two parts comes to: both in one, or the two as they were (own)
 abbrev pub Joins : Part → Part → Result Part NotJoined → Type 0
 Joins first second (Ok both) = IsFollowedBy first second × (both ≡ joined first second)
-Joins first second (Err refused) = Explains refused.why first second × (refused.first ≡ first) × (refused.second ≡ second)
+Joins first second (Err refused) = IsUnjoinedFor refused.why first second × (refused.first ≡ first) × (refused.second ≡ second)
 
 -- ---- all parts that were handed out
 

@@ -92,7 +92,7 @@ pub enum Query {
     Errors {
         queue: QueueId,
     },
-    /// All entries, in order.
+    /// The audit's entries, in order, and how many came before them.
     Audit,
 }
 

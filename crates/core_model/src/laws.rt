@@ -46,7 +46,7 @@ ghost use Rattle.core_model.specs.declared.refusal.Refusal.TheVariants as refusa
 ghost use Rattle.core_model.specs.declared.served.Served.{Served};
 ghost use Rattle.core_model.specs.History.{History, IsOpeningOrigin, Origin, Part, Start, begin, beginning, opening_state};
 ghost use Rattle.core_model.specs.Policies.{policy_at};
-ghost use Rattle.core_model.specs.Rotation.{LeadTo, entries_in, first_start};
+ghost use Rattle.core_model.specs.Rotation.{IsRotated, LeadTo, entries_in, first_start};
 ghost use Rattle.core_model.specs.States.{state_after};
 ghost use Rattle.core_model.specs.Takes.{takes};
 ghost use Rattle.kernel_check.specs.Programs.{Program};
@@ -288,6 +288,13 @@ pub fn serving_keeps_a_history_legal()
 /// it, and none since, the launch's own among them, released it.
 pub fn law_of_flight()
     ensures { LawOfFlight }
+{}
+
+/// What a rotation of a legal history hands out is a part that is legal for its kernels, and what is left goes
+/// on legally.
+pub fn rotations_hand_out_legal_parts()
+    ensures part { (old new : History) (part : Part) → IsLegal (beginning old) old.entries → IsRotated old part new → IsLegalPart old.kernels part }
+    ensures rest { (old new : History) (part : Part) → IsLegal (beginning old) old.entries → IsRotated old part new → IsLegal (beginning new) new.entries }
 {}
 
 /// Two parts of a history of which the second begins where the first ends, both legal for the same

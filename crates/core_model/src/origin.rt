@@ -94,7 +94,8 @@ impl PacketOrigin {
 impl Origin {
     /// The same to begin from, in memory of its own.
     pub fn copy(&self, alloc: Global) -> Result<Origin, AllocError>
-        ensures { IfOk result (λ copy. SameOrigin copy self.now) }
+        ensures same { IfOk result (λ copy. SameOrigin copy self.now) }
+        ensures policy { IfOk result (λ copy. copy.policy ≡ self.now.policy) }
     {
         Ok(Origin {
             policy: self.policy.copy(alloc)?,

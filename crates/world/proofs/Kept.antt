@@ -12,7 +12,7 @@ use Rattle.core_model.specs.declared.event.Event.TheVariants.{Open, Reload}
 use Rattle.core_model.specs.Legal.{IsOpening, IsWhole}
 use Rattle.core_model.specs.Queues.{next_id, openings}
 use Rattle.core_model.specs.declared.entry.Entry.{Entry}
-use Rattle.core_model.proofs.States.{same-begin, state-join, state-now}
+use Rattle.core_model.proofs.States.{begin-opening, rotated-start, state-join, state-now}
 use Rattle.ring_core.specs.declared.access.Step.{Step}
 use Rattle.ring_core.specs.Parts.{collected_packet}
 use Rattle.ring_core.specs.Machine.{Machine, found, is_allowed, made, read_index}
@@ -35,7 +35,7 @@ use Rattle.world.proofs.Entering.{no_openings, no_sizes, no_takes, none_next}
 use Rattle.world.proofs.Joining.{IsAside, aside_kept, ring_replaced, stands_along, step_in_step}
 use Rattle.world.proofs.Taking.{take_kept}
 use Rattle.world.proofs.OpeningKept.{opening_kept}
-use Rattle.core_model.specs.History.{History, Start, begin, beginning, opening_state}
+use Rattle.core_model.specs.History.{History, Start, beginning, opening_state}
 use Rattle.core_model.specs.History.{Part as Handed}
 use Rattle.core_model.specs.Legal.{as_reply, due, reply_of}
 use Rattle.core_model.specs.Queries.{AnswerOrRefusal, query_answer}
@@ -80,13 +80,9 @@ reload_aside rows = record { opens = refl; sizes = refl; takes = λ q. refl; han
 
 -- ---- rotations
 
--- a rotated history goes on from the state behind the old one
-rotated_start : (old new : History) (part : Handed) → IsRotated old part new → beginning new ≡ state_after (beginning old) old.entries
-rotated_start old new part is = ap (λ (kernels : List Program). begin kernels new.origin) is.kernels_are ∙ same-begin old.kernels new.origin part.end is.goes_on ∙ is.end_is
-
--- so each queue's next id stays
+-- each queue's next id stays
 pub rotated_next : (old new : History) (part : Handed) → IsRotated old part new → (queue : QueueId) → next_id (beginning new) new.entries queue ≡ next_id (beginning old) old.entries queue
-rotated_next old new part is queue = (λ i. next_id (rotated_start old new part is i) (is.empty i) queue) ∙ none_next (state_after (beginning old) old.entries) queue
+rotated_next old new part is queue = (λ i. next_id (rotated-start old new part is i) (is.empty i) queue) ∙ none_next (state_after (beginning old) old.entries) queue
 
 -- one that is refused leaves the history
 pub unrotated : (old new : History) (why : cores.Refusal) → Rotates old (Err why) new → new ≡ old
@@ -148,7 +144,7 @@ module _ (first : Declared) (prior : List Entry) (world : Joined) (h : IsJoinedB
 
   rotated_kept : (part : Handed) (new : Joined) → IsRotated world.core part new.core → new.rings ≡ world.rings → IsJoinedBehind first (prior ++ part.entries) new
   rotated_kept part new is rings =
-      let start : beginning new.core ≡ state_after (beginning world.core) world.core.entries = rotated_start world.core new.core part is in
+      let start : beginning new.core ≡ state_after (beginning world.core) world.core.entries = rotated-start world.core new.core part is in
       let all : (prior ++ part.entries) ++ new.core.entries ≡ prior ++ world.core.entries =
       ap (λ (es : List Entry). (prior ++ part.entries) ++ es) is.empty ∙ append-nil (prior ++ part.entries) ∙ ap (λ (es : List Entry). prior ++ es) is.entries_are in
       let opened : openings (beginning new.core) new.core.entries ≡ openings (beginning world.core) world.core.entries =
@@ -216,13 +212,16 @@ replies_kept first prior world new (asked ∷ requests) [] h are = absurd are
 -- ---- the opening
 
 module _ (policy : Declared) (kernels : List Program) (capacity : ℕ) (core : History) (opening : IsOpening core policy kernels capacity) where
+  opened : beginning core ≡ opening_state policy kernels
+  opened = begin-opening policy core.kernels core.origin opening.origin_is ∙ ap (opening_state policy) opening.kernels_are
+
   -- what holds where an opening begins, and of no entry, holds of its history
   of_none : (P : Start → List Entry → Type 0) → P (opening_state policy kernels) [] → P (beginning core) core.entries
-  of_none P none = subst (P (beginning core)) (sym opening.entries_are) (subst (λ (now : Start). P now []) (sym opening.start_is) none)
+  of_none P none = subst (P (beginning core)) (sym opening.entries_are) (subst (λ (now : Start). P now []) (sym opened) none)
 
   pub begins : IsJoinedBehind policy [] (joined core [])
   begins = record {
-    start_is = opening.start_is ∙ ap (opening_state policy) (sym opening.kernels_are) ∙ sym (state-now (opening_state policy core.kernels));
+    start_is = begin-opening policy core.kernels core.origin opening.origin_is ∙ sym (state-now (opening_state policy core.kernels));
     whole = subst (IsWhole (opening_state policy core.kernels)) (sym opening.entries_are) (record { opens = refl; legal = tt });
     count = sym (of_none (λ now es. length (openings now es) ≡ 0) (ap length (no_openings (opening_state policy kernels))));
     sizes = sym (of_none (λ now es. sizes es ≡ []) no_sizes);

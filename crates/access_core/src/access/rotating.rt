@@ -5,6 +5,9 @@ ghost use Rattle.std.specs.List.{filter_map};
 ghost use Rattle.std.specs.Option.{option_copied};
 ghost use Rattle.policy.specs.Policy.{numbered};
 ghost use Rattle.core_model.specs.History.{begin, beginning};
+ghost use Rattle.policy.specs.Policy.{region_lengths};
+ghost use Rattle.regions.specs.Memory.{lengths_of};
+ghost use Rattle.core_model.specs.Legal.{IsLegalPart};
 ghost use Rattle.core_model.specs.Rotation.{Rotates, lies_too_far};
 ghost use Rattle.core_model.specs.States.{state_after};
 ghost use Rattle.access_core.specs.inner.Origins.{packet_origin, queue_origin, sought_in, told_origin};
@@ -29,6 +32,7 @@ impl AccessCore {
     /// before the new start; memory for the state, twice, and for the audit isn't to be had.
     pub fn rotate(&mut self, alloc: Global) -> Result<Part, Refusal>
         ensures rotated { Rotates self.old.history result self.new.history }
+        ensures legal { IfOk result (λ part. IsLegalPart self.old.history.kernels part) }
         ensures places { self.new.places ≡ self.old.places }
     {
         if self.lies_too_far() {
@@ -52,8 +56,10 @@ impl AccessCore {
     // What the history goes on from behind the audit, as data.
     fn origin_behind(&self, alloc: Global) -> Result<Origin, AllocError>
         requires { lies_too_far self.now.history ≡ false }
-        ensures { IfOk result (λ origin.
-            (begin self.now.history.kernels origin ≡ state_after (beginning self.now.history) self.now.history.entries)) }
+        ensures begins { IfOk result (λ origin.
+            begin self.now.history.kernels origin ≡ state_after (beginning self.now.history) self.now.history.entries) }
+        ensures policy { IfOk result (λ origin. origin.policy ≡ self.now.history.origin.policy) }
+        ensures lengths { IfOk result (λ origin. lengths_of origin.memory ≡ region_lengths self.now.history.origin.policy) }
     {
         self.regions_fit();
         Ok(Origin {

@@ -4,14 +4,15 @@ use Rattle.std.specs.List.{filter_map}
 use Rattle.core_model.specs.declared.origin.Origin.{Origin}
 use Rattle.core_model.specs.History.{History, begin, beginning}
 use Rattle.core_model.specs.States.{state_after}
+use Rattle.regions.specs.Memory.{lengths_of}
 use Rattle.access_core.specs.inner.Origins.{packet_origin, queue_origin}
 use Rattle.access_core.proofs.Rotating.{copied-behind}
 use Rattle.access_core.proofs.Seen.{seen}
 use Rattle.access_core.proofs.Terms.{are_region_lengths, region_lengths}
 use Rattle.access_core.proofs.access.AccessCore.origin_behind.Goals as goal
 
-pub returns : goal.returns
-returns c =
+pub returns-clause-begins : goal.returns-clause-begins
+returns-clause-begins c =
     let a = c.self.inside in
     let o : Origin = record {
       policy = c.in_ok-copy.field-0;
@@ -29,3 +30,9 @@ returns c =
     (c.in_ok-queue_origins.ensures ∙ ap (map queue_origin) c.as_slice.ensures.value)
     (c.in_ok-packet_origins.ensures ∙ (λ i. filter_map (packet_origin (c.as_slice-2.ensures.value i)) (c.as_slice-3.ensures i)))
     (ap (λ (n : ℕ). a.start.before + n) c.len.ensures) fit)
+
+pub returns-clause-policy : goal.returns-clause-policy
+returns-clause-policy c = c.in_ok-copy.ensures ∙ ap (λ (h : History). h.origin.policy) (seen c.self.view_is)
+
+pub returns-clause-lengths : goal.returns-clause-lengths
+returns-clause-lengths c = ap lengths_of c.in_ok-copy-3.ensures ∙ c.self.invariant.lengths ∙ ap (λ (h : History). region_lengths h.origin.policy) (seen c.self.view_is)

@@ -3,10 +3,11 @@ use Rattle.std.proofs.Common.{◌≡◌, ◌∙◌, sym, ap, subst, false, map}
 use Rattle.core_model.specs.declared.entry.Entry.{Entry}
 use Rattle.core_model.specs.declared.origin.Origin.{Origin}
 use Rattle.core_model.specs.History.{History, Part, begin, beginning}
-use Rattle.core_model.specs.Legal.{SameOrigin}
+use Rattle.core_model.specs.Legal.{IsLegal, SameOrigin}
 use Rattle.core_model.specs.Rotation.{lies_too_far}
 use Rattle.core_model.specs.States.{state_after}
-use Rattle.core_model.proofs.States.{same-begin}
+use Rattle.core_model.proofs.States.{rotated-part, same-begin}
+use Rattle.regions.specs.Memory.{lengths_of}
 use Rattle.sequences.specs.Room.{Roomy}
 use Rattle.access_core.proofs.Rotating.{IsCached-rotated, few-behind}
 use Rattle.access_core.proofs.Seen.{seen}
@@ -18,10 +19,10 @@ invariant_of-self c =
     let a = c.self.inside in
     let near : lies_too_far (history_of a) ≡ false = ap lies_too_far (seen c.self.view_is) ∙ sym c.lies_too_far.ensures ∙ c.if-lies_too_far.false in
     let ends : begin (map program_of a.kernels.items) c.in_ok-end.end ≡ state_after (start_of a) a.audit.items =
-    subst (λ (h : History). begin h.kernels c.in_ok-end.end ≡ state_after (beginning h) h.entries) (sym (seen c.self.view_is)) c.in_ok-end.ensures in
+    subst (λ (h : History). begin h.kernels c.in_ok-end.end ≡ state_after (beginning h) h.entries) (sym (seen c.self.view_is)) c.in_ok-end.ensures.begins in
     let begins : begin (map program_of a.kernels.items) c.replace-start.new.dest ≡ state_after (start_of a) a.audit.items =
     ap (begin (map program_of a.kernels.items)) c.replace-start.ensures.after
-    ∙ same-begin (map program_of a.kernels.items) c.in_ok-next.next c.in_ok-end.end c.in_ok-next.ensures ∙ ends in
+    ∙ same-begin (map program_of a.kernels.items) c.in_ok-next.next c.in_ok-end.end c.in_ok-next.ensures.same ∙ ends in
     IsCached-rotated a c.self.invariant c.replace-start.new.dest c.replace-entries.new.dest begins
     (ap (λ (list : Roomy Entry). list.items) c.replace-entries.ensures.after ∙ c.in_ok-empty.ensures.empty)
     (ap (λ (list : Roomy Entry). list.room) c.replace-entries.ensures.after ∙ c.in_ok-empty.ensures.room)
@@ -34,10 +35,19 @@ returns-clause-rotated c =
       record {
         start_is = ap (λ (p : Part). p.start) c.new.ensures ∙ c.replace-start.ensures.value ∙ ap (λ (h : History). h.origin) (seen c.self.view_is);
         entries_are = ap (λ (p : Part). p.entries) c.new.ensures ∙ ap (λ (list : Roomy Entry). list.items) c.replace-entries.ensures.value ∙ ap (λ (h : History). h.entries) (seen c.self.view_is);
-        end_is = ap (begin c.args.self.now.history.kernels) end ∙ c.in_ok-end.ensures;
-        goes_on = subst (SameOrigin c.replace-start.new.dest) (sym end) (subst (λ (o : Origin). SameOrigin o c.in_ok-end.end) (sym c.replace-start.ensures.after) c.in_ok-next.ensures);
+        end_is = ap (begin c.args.self.now.history.kernels) end ∙ c.in_ok-end.ensures.begins;
+        lengths = ap (λ (o : Origin). lengths_of o.memory) end ∙ c.in_ok-end.ensures.lengths;
+        declared = (
+          ap (λ (o : Origin). o.policy) end ∙ c.in_ok-end.ensures.policy,
+          ap (λ (o : Origin). o.policy) c.replace-start.ensures.after ∙ c.in_ok-next.ensures.policy ∙ c.in_ok-end.ensures.policy,
+        );
+        goes_on = subst (SameOrigin c.replace-start.new.dest) (sym end) (subst (λ (o : Origin). SameOrigin o c.in_ok-end.end) (sym c.replace-start.ensures.after) c.in_ok-next.ensures.same);
         kernels_are = ap (λ (h : History). h.kernels) (seen c.self.view_is);
         capacity_is = ap (λ (h : History). h.capacity) (seen c.self.view_is);
         empty = ap (λ (list : Roomy Entry). list.items) c.replace-entries.ensures.after ∙ c.in_ok-empty.ensures.empty;
       },
     )
+
+pub returns-clause-legal : goal.returns-clause-legal
+returns-clause-legal c =
+    rotated-part c.args.self.now.history _ _ (subst (λ (h : History). IsLegal (beginning h) h.entries) (seen c.self.view_is) c.self.invariant.legal) (returns-clause-rotated c).1
