@@ -89,8 +89,8 @@ number_of_fault fault.OutOfMemory = 0
 number_of_fault fault.MissingPass = 3
 number_of_fault fault.NotNext = 4
 
--- why a broker isn't settled, in this order: a pass is missing; all are there, and the parts don't lead to its core's audit; they do,
--- and memory was wanted and not to be had
+-- why a broker isn't settled, in this order: a pass is missing; all are there, and the parts don't lead to the audit of its core, of
+-- which no more is known than that it is some legal one; they do, and memory was wanted and not to be had (own)
 abbrev pub IsUnsettledFor : List QueueRing → List Part → List ClientEnd → List LaneSeen → SettleAllFault → Type 0
 IsUnsettledFor rings parts ends lanes fault.MissingPass = has_all_passes rings ends lanes ≡ false
 IsUnsettledFor rings parts ends lanes fault.NotNext =

@@ -7,7 +7,7 @@ use Rattle.core_model.specs.declared.served.Served.{Served}
 use Rattle.core_model.specs.Takes as of_queue
 use Rattle.client_threads.specs.Lanes.{LaneSeen}
 
--- the packet of the queue with a number that an event hands over, if it does
+-- of the queue with this number, the packet that an event hands over, if it does
 abbrev pub taken_by : ℕ → Event → Option Served
 taken_by queue event = of_queue.taken_by (record { 0 = queue }) event
 

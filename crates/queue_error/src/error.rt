@@ -8,7 +8,9 @@ use std::fmt;
 /// far it lies behind the first byte of the work-group's group segment.
 #[derive(Clone, Copy, Debug, PartialEq, Eq)]
 pub enum SegmentAddress {
+    /// An address of memory.
     Global(u64),
+    /// So many bytes behind the first of the group segment.
     Group(u32),
 }
 

@@ -4,7 +4,8 @@ ghost use Rattle.std.specs.Prelude.{◌≡◌, ℕ, List, Some, true};
 ghost use Rattle.std.specs.List.{list_all};
 ghost use Rattle.kernel_check.specs.Programs.{Program};
 ghost use Rattle.policy.specs.Policy.{Declared};
-ghost use Rattle.world.specs.Dues.{Reply, handed_out};
+ghost use Rattle.world.specs.declared.request.Request.{Request};
+ghost use Rattle.world.specs.Dues.{AreReplies, Reply, handed_out};
 ghost use Rattle.world.specs.Headline.{Headline, IsBegun};
 ghost use Rattle.world.specs.States.{Joined};
 ghost use Rattle.script.specs.declared.command.Command.{Command};
@@ -34,7 +35,8 @@ pub fn numbers_are_sums_of_their_digits()
 pub fn scripts_are_requests(policy: &Policy)
     ensures line { (later : List Declared) (asked : Command) (old : Joined) (told : Told) (new : Joined) → does later asked old told new → Reaches old new }
     ensures headline { (later : List Declared) (kernels : List Program) (capacity : ℕ) (lines : List (List ℕ)) (text : List ℕ) (opened world : Joined) →
-        IsBegun opened policy.now kernels capacity → Runs (worlds later) opened lines text world → (replies : List Reply) × Headline policy.now (handed_out replies) world }
+        IsBegun opened policy.now kernels capacity → Runs (worlds later) opened lines text world →
+        (requests : List Request) × (replies : List Reply) × AreReplies opened requests replies world × Headline policy.now (handed_out replies) world }
 {
     the_headline(policy);
 }

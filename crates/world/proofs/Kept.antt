@@ -8,6 +8,7 @@ use Rattle.kernel_check.specs.Programs.{Program}
 use Rattle.policy.specs.Policy.{Declared, numbered}
 use Rattle.policy.specs.declared.rows.PolicyRows.{PolicyRows}
 use Rattle.core_model.specs.declared.event.Event.{Event}
+use Rattle.core_model.specs.declared.event.Query.{Query}
 use Rattle.core_model.specs.declared.event.Event.TheVariants.{Open, Reload}
 use Rattle.core_model.specs.Legal.{IsOpening, IsWhole}
 use Rattle.core_model.specs.Queues.{next_id, openings}
@@ -27,7 +28,7 @@ use Rattle.world.specs.declared.reply.Refusal.{Refusal}
 use Rattle.world.specs.declared.reply.Refusal.TheVariants as refusal
 use Rattle.world.specs.States.{Joined, joined, ring_of}
 use Rattle.core_model.specs.declared.event.Event.TheVariants as event
-use Rattle.world.specs.Dues.{AreReplies, Due, IsServed, Meets, Reply, answer_to, asked_size, due_collected, due_event, due_opening, due_query, due_step, due_take, due_where, handed, handed_out, has_spent, hindrance, is_decided, may_follow, of_core, reserves, rotated_reply, taken_reply, taking}
+use Rattle.world.specs.Dues.{AreReplies, Due, IsServed, Meets, Reply, answer_to, asked_size, due_collected, due_event, due_opening, due_query, due_step, due_take, due_where, handed, handed_out, has_spent, hindrance, is_decided, may_follow, of_core, part_of, reserves, rotated_reply, taken_reply, taking}
 use Rattle.world.specs.Headline.{IsBegun}
 use Rattle.world.specs.InStep.{IsJoinedBehind, Stands, sizes, takes}
 use Rattle.world.proofs.Numbering.{numbered_none}
@@ -37,7 +38,8 @@ use Rattle.world.proofs.Taking.{take_kept}
 use Rattle.world.proofs.OpeningKept.{opening_kept}
 use Rattle.core_model.specs.History.{History, Start, beginning, opening_state}
 use Rattle.core_model.specs.History.{Part as Handed}
-use Rattle.core_model.specs.Legal.{as_reply, due, reply_of}
+use Rattle.core_model.specs.Legal.{as_reply, due, history_after, reply_of}
+use Rattle.core_model.specs.Owed.{Owed, answers, enters, refuses}
 use Rattle.core_model.specs.Queries.{AnswerOrRefusal, query_answer}
 use Rattle.core_model.specs.Rotation.{IsRotated, Rotates}
 use Rattle.core_model.specs.States.{state_after}
@@ -92,35 +94,69 @@ unrotated old new _ is = absurd is
 
 -- ---- what is handed out: only by a rotation
 
-handed_of_core : (made : AnswerOrRefusal) → handed (of_core made) ≡ []
-handed_of_core (Ok answered) = refl
-handed_of_core (Err why) = refl
+-- a history begins where another does, with the same kernels
+pub record BeginsAlike (one other : History) : Type 0 where
+  pub origin_is : one.origin ≡ other.origin
+  pub kernels_are : one.kernels ≡ other.kernels
 
-handed_by_step : (access : Access) (index old : ℕ) → handed (Ok (answer_to access index old)) ≡ []
-handed_by_step Reserve index old = refl
-handed_by_step LoadHeader index old = refl
-handed_by_step _ index old = refl
+-- what is owed hands out no part, and the history still begins where it began
+pub record IsUnparted (world : Joined) (owed : Due) : Type 0 where
+  pub no_part : part_of owed.reply ≡ None
+  pub begins : BeginsAlike owed.after.core world.core
 
-handed_where : (world : Joined) (queue : QueueId) (ring : Machine) (step : Step) (o : Option Refusal) → handed (due_where world queue ring step o).reply ≡ []
-handed_where world queue ring step None = handed_by_step step.access (read_index ring) (found ring step)
-handed_where world queue ring step (Some why) = refl
+begins_self : (history : History) → BeginsAlike history history
+begins_self history = record { origin_is = refl; kernels_are = refl }
 
-handed_at_step : (world : Joined) (queue : QueueId) (step : Step) (o : Option Machine) → handed (due_step world queue step o).reply ≡ []
-handed_at_step world queue step None = refl
-handed_at_step world queue step (Some ring) = handed_where world queue ring step (hindrance (is_decided world.core queue ring) ring step)
+begins_after : (history : History) (event : Event) (owing : Owed) → BeginsAlike (history_after history event owing) history
+begins_after history event (refuses why) = begins_self history
+begins_after history event (answers told) = begins_self history
+begins_after history event (enters told effects) = record { origin_is = refl; kernels_are = refl }
 
-handed_taken : (id : ℕ) (made : Result Outcome cores.Refusal) → handed (taken_reply id made) ≡ []
-handed_taken id (Ok (outcome.Taken taken)) = refl
-handed_taken id (Ok _) = refl
-handed_taken id (Err why) = refl
+no_part_of_core : (made : AnswerOrRefusal) → part_of (of_core made) ≡ None
+no_part_of_core (Ok answered) = refl
+no_part_of_core (Err why) = refl
 
-handed_collected : (world : Joined) (queue : QueueId) (id : ℕ) (packet : Option (List ℕ)) → handed (due_collected world queue id packet).reply ≡ []
-handed_collected world queue id None = refl
-handed_collected world queue id (Some words) = handed_taken id (reply_of (due world.core (taking queue id words)))
+no_part_by_step : (access : Access) (index old : ℕ) → part_of (Ok (answer_to access index old)) ≡ None
+no_part_by_step Reserve index old = refl
+no_part_by_step LoadHeader index old = refl
+no_part_by_step _ index old = refl
 
-handed_at_take : (world : Joined) (queue : QueueId) (o : Option Machine) → handed (due_take world queue o).reply ≡ []
-handed_at_take world queue None = refl
-handed_at_take world queue (Some ring) = handed_collected world queue (read_index ring) (collected_packet (processor_of ring.parts))
+unparted_where : (world : Joined) (queue : QueueId) (ring : Machine) (step : Step) (o : Option Refusal) → IsUnparted world (due_where world queue ring step o)
+unparted_where world queue ring step None = record { no_part = no_part_by_step step.access (read_index ring) (found ring step); begins = begins_self world.core }
+unparted_where world queue ring step (Some why) = record { no_part = refl; begins = begins_self world.core }
+
+pub unparted_at_step : (world : Joined) (queue : QueueId) (step : Step) (o : Option Machine) → IsUnparted world (due_step world queue step o)
+unparted_at_step world queue step None = record { no_part = refl; begins = begins_self world.core }
+unparted_at_step world queue step (Some ring) = unparted_where world queue ring step (hindrance (is_decided world.core queue ring) ring step)
+
+no_part_taken : (id : ℕ) (made : Result Outcome cores.Refusal) → part_of (taken_reply id made) ≡ None
+no_part_taken id (Ok (outcome.Taken taken)) = refl
+no_part_taken id (Ok _) = refl
+no_part_taken id (Err why) = refl
+
+unparted_collected : (world : Joined) (queue : QueueId) (id : ℕ) (packet : Option (List ℕ)) → IsUnparted world (due_collected world queue id packet)
+unparted_collected world queue id None = record { no_part = refl; begins = begins_self world.core }
+unparted_collected world queue id (Some words) = record {
+  no_part = no_part_taken id (reply_of (due world.core (taking queue id words)));
+  begins = begins_after world.core (taking queue id words) (due world.core (taking queue id words));
+}
+
+pub unparted_at_take : (world : Joined) (queue : QueueId) (o : Option Machine) → IsUnparted world (due_take world queue o)
+unparted_at_take world queue None = record { no_part = refl; begins = begins_self world.core }
+unparted_at_take world queue (Some ring) = unparted_collected world queue (read_index ring) (collected_packet (processor_of ring.parts))
+
+pub unparted_opening : (world : Joined) (size producers : ℕ) (event : Event) (owing : Owed) → IsUnparted world (due_opening world size producers event owing)
+unparted_opening world size producers event owing = record { no_part = no_part_of_core (as_reply (reply_of owing)); begins = begins_after world.core event owing }
+
+pub unparted_event : (world : Joined) (event : Event) (owing : Owed) → IsUnparted world (due_event world event owing)
+unparted_event world event owing = record { no_part = no_part_of_core (as_reply (reply_of owing)); begins = begins_after world.core event owing }
+
+pub unparted_query : (world : Joined) (asked : Query) → IsUnparted world (due_query world asked)
+unparted_query world asked = record { no_part = no_part_of_core (query_answer (beginning world.core) world.core.entries asked); begins = begins_self world.core }
+
+-- without a part no entry is handed out
+handed_none : (reply : Reply) → part_of reply ≡ None → handed reply ≡ []
+handed_none reply none = ap (λ (o : Option Handed). elim o [ None ↦ [] | Some part ↦ part.entries ]) none
 
 module _ (first : Declared) (prior : List Entry) (world : Joined) (h : IsJoinedBehind first prior world) where
   step_kept : (queue : QueueId) (step : Step) (o : Option Machine) → ring_of world queue ≡ o → IsJoinedBehind first prior (due_step world queue step o).after
@@ -168,10 +204,10 @@ module _ (first : Declared) (prior : List Entry) (world : Joined) (h : IsJoinedB
   none_more : (more : List Entry) (new : Joined) → more ≡ [] → IsJoinedBehind first prior new → IsJoinedBehind first (prior ++ more) new
   none_more more new none kept = subst (λ (es : List Entry). IsJoinedBehind first es new) (sym (append-nil prior) ∙ ap (λ (es : List Entry). prior ++ es) (sym none)) kept
 
-  meets_kept : (owed : Due) (reply : Reply) (new : Joined) → handed owed.reply ≡ [] → IsJoinedBehind first prior owed.after → Meets world owed reply new → IsJoinedBehind first (prior ++ handed reply) new
-  meets_kept owed reply new none kept (inl served) =
-      none_more (handed reply) new (ap handed served.0 ∙ none) (subst (IsJoinedBehind first prior) (sym served.1) kept)
-  meets_kept owed reply new none kept (inr lacked) = none_more (handed reply) new (ap handed lacked.1) (subst (IsJoinedBehind first prior) (sym lacked.2) h)
+  meets_kept : (owed : Due) (reply : Reply) (new : Joined) → IsUnparted world owed → IsJoinedBehind first prior owed.after → Meets world owed reply new → IsJoinedBehind first (prior ++ handed reply) new
+  meets_kept owed reply new unparted kept (inl served) =
+      none_more (handed reply) new (ap handed served.0 ∙ handed_none owed.reply unparted.no_part) (subst (IsJoinedBehind first prior) (sym served.1) kept)
+  meets_kept owed reply new unparted kept (inr lacked) = none_more (handed reply) new (ap handed lacked.1) (subst (IsJoinedBehind first prior) (sym lacked.2) h)
 
   rotates_kept : (reply : Reply) (new : Joined) (made : Result Handed cores.Refusal) → reply ≡ rotated_reply made → Rotates world.core made new.core → new.rings ≡ world.rings → IsJoinedBehind first (prior ++ handed reply) new
   rotates_kept reply new (Ok part) told is rings =
@@ -183,18 +219,18 @@ module _ (first : Declared) (prior : List Entry) (world : Joined) (h : IsJoinedB
   -- one request
   pub served_kept : (asked : Request) (reply : Reply) (new : Joined) → IsServed world asked reply new → IsJoinedBehind first (prior ++ handed reply) new
   served_kept (request.Step queue step) reply new is =
-      meets_kept (due_step world queue step (ring_of world queue)) reply new (handed_at_step world queue step (ring_of world queue)) (step_kept queue step (ring_of world queue) refl) is
+      meets_kept (due_step world queue step (ring_of world queue)) reply new (unparted_at_step world queue step (ring_of world queue)) (step_kept queue step (ring_of world queue) refl) is
   served_kept (request.Take queue) reply new is =
-      meets_kept (due_take world queue (ring_of world queue)) reply new (handed_at_take world queue (ring_of world queue)) (taking_kept queue (ring_of world queue) refl) is
+      meets_kept (due_take world queue (ring_of world queue)) reply new (unparted_at_take world queue (ring_of world queue)) (taking_kept queue (ring_of world queue) refl) is
   served_kept (request.OpenQueue client agent size producers) reply new is =
       let event : Event = Open client agent (asked_size size producers) in
-      meets_kept (due_opening world size producers event (due world.core event)) reply new (handed_of_core (as_reply (reply_of (due world.core event)))) (opening_kept first prior world h client agent size producers) is
+      meets_kept (due_opening world size producers event (due world.core event)) reply new (unparted_opening world size producers event (due world.core event)) (opening_kept first prior world h client agent size producers) is
   served_kept (request.Call asked) reply new is =
-      meets_kept (due_event world (event.Call asked) (due world.core (event.Call asked))) reply new (handed_of_core (as_reply (reply_of (due world.core (event.Call asked)))))
+      meets_kept (due_event world (event.Call asked) (due world.core (event.Call asked))) reply new (unparted_event world (event.Call asked) (due world.core (event.Call asked)))
       (aside_kept first prior world h (event.Call asked) (call_aside asked)) is
-  served_kept (request.Query asked) reply new is = meets_kept (due_query world asked) reply new (handed_of_core (query_answer (beginning world.core) world.core.entries asked)) h is
+  served_kept (request.Query asked) reply new is = meets_kept (due_query world asked) reply new (unparted_query world asked) h is
   served_kept (request.Reload policy) reply new (inl is) =
-      meets_kept (due_event world (Reload policy.rows) (due world.core (Reload policy.rows))) reply new (handed_of_core (as_reply (reply_of (due world.core (Reload policy.rows)))))
+      meets_kept (due_event world (Reload policy.rows) (due world.core (Reload policy.rows))) reply new (unparted_event world (Reload policy.rows) (due world.core (Reload policy.rows)))
       (aside_kept first prior world h (Reload policy.rows) (reload_aside policy.rows)) is.1
   served_kept (request.Reload policy) reply new (inr others) = none_more (handed reply) new (ap handed others.1) (subst (IsJoinedBehind first prior) (sym others.2) h)
   served_kept request.Rotate reply new is = rotates_kept reply new is.0 is.1 is.2 is.3

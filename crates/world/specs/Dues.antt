@@ -1,7 +1,7 @@
 -- What each request of the world is owed: its reply, and the world after it.
 use Rattle.std.specs.Prelude.{◌≡◌, ℕ, ◌==◌, ◌&&◌, ◌⊎◌, Bool, true, false, nat_lt, List, [], ◌∷◌, ◌++◌, slice_get, Option, Some, None, Result, Ok, Err, if◌then◌else◌}
 use Rattle.aql_packet.specs.declared.ids.QueueId.{QueueId}
-use Rattle.std.specs.List.{flat_map}
+use Rattle.std.specs.List.{filter_map, flat_map}
 use Rattle.policy.specs.Declaring.{DeclaresAs}
 use Rattle.policy.specs.Policy.{Declared}
 use Rattle.core_model.specs.declared.entry.Entry.{Entry}
@@ -70,7 +70,7 @@ may_follow decided ClearHeader = decided
 may_follow decided _ = true
 
 -- why a step on a ring isn't made, if it isn't: the producer has reserved all that it may, or the step is none that is allowed
--- ("Ring steps"); `decided` tells whether the packet at the read index was launched or denied (own)
+-- (PSA, User Mode Queuing); `decided` tells whether the packet at the read index was launched or denied (own)
 abbrev pub hindrance : Bool → Machine → Step → Option Refusal
 hindrance decided ring step =
     if reserves step.access && has_spent (slice_get ring.parts step.seat) then Some refusal.Spent
@@ -185,13 +185,13 @@ Reloads old policy reply new =
 
 -- ---- rotations
 
--- the reply to a rotation that came to this
+-- the reply to a rotation that came to this (own)
 abbrev pub rotated_reply : Result Handed cores.Refusal → Reply
 rotated_reply (Ok part) = Ok (answer.Rotated part)
 rotated_reply (Err why) = Err (refusal.Core why)
 
--- the core's audit was handed out, or that was refused; no ring tells of it. Which part it is, is told by what it says of grants, so it is
--- no function of the history (own)
+-- the core's audit was handed out, or that was refused; the rings stay. A part tells its grants by their look-ups alone, so it is no function
+-- of the history (own)
 abbrev pub RotatesTo : Joined → Reply → Joined → Type 0
 RotatesTo old reply new = (made : Result Handed cores.Refusal) × (reply ≡ rotated_reply made) × Rotates old.core made new.core × (new.rings ≡ old.rings)
 
@@ -215,11 +215,19 @@ AreReplies old (asked ∷ requests) (reply ∷ replies) new = (mid : Joined) × 
 AreReplies old [] (reply ∷ replies) new = ⊥
 AreReplies old (asked ∷ requests) [] new = ⊥
 
+-- the part that a reply hands out, if it does (own)
+abbrev pub part_of : Reply → Option Handed
+part_of (Ok (answer.Rotated part)) = Some part
+part_of (Ok _) = None
+part_of (Err why) = None
+
+-- the parts that replies hand out, in order (own)
+abbrev pub parts_out : List Reply → List Handed
+parts_out replies = filter_map part_of replies
+
 -- the entries that a reply hands out: those of its part (own)
 abbrev pub handed : Reply → List Entry
-handed (Ok (answer.Rotated part)) = part.entries
-handed (Ok _) = []
-handed (Err why) = []
+handed reply = elim (part_of reply) [ None ↦ [] | Some part ↦ part.entries ]
 
 -- those that replies hand out, in order (own)
 abbrev pub handed_out : List Reply → List Entry

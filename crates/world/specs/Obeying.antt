@@ -107,7 +107,7 @@ Opens client agent size producers core old reply core' new =
 abbrev pub Asks : Asked → History → Reply → History → Type 0
 Asks wanted core reply core' = (replied : AnswerOrRefusal) × cores_law.IsServed core wanted replied core' × (reply ≡ of_core replied)
 
--- the core's audit was handed out, and told so
+-- the core's audit was handed out, and told so (own)
 abbrev pub HandsOut : History → Reply → History → Type 0
 HandsOut core reply core' = (made : Result Handed cores.Refusal) × Rotates core made core' × (reply ≡ rotated_reply made)
 

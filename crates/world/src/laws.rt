@@ -1,12 +1,15 @@
 //! The headline, as a law of all lists of requests.
 
-ghost use Rattle.std.specs.Prelude.{◌≡◌, ℕ, List, Err};
+ghost use Rattle.std.specs.Prelude.{◌≡◌, ◌++◌, ℕ, List, Err};
 ghost use Rattle.policy.specs.Policy.{Declared, region_lengths};
 ghost use Rattle.core_model.specs.declared.entry.Entry.{Entry};
+ghost use Rattle.core_model.specs.History.{beginning};
+ghost use Rattle.core_model.specs.Legal.{IsLegal};
+ghost use Rattle.core_model.specs.Rotation.{GoOn, entries_in};
 ghost use Rattle.kernel_check.specs.Programs.{Program};
 ghost use Rattle.world.specs.declared.reply.Refusal.{Refusal};
 ghost use Rattle.world.specs.declared.request.Request.{Request};
-ghost use Rattle.world.specs.Dues.{AreReplies, IsServed, Reply, handed_out};
+ghost use Rattle.world.specs.Dues.{AreReplies, IsServed, Reply, handed_out, parts_out};
 ghost use Rattle.world.specs.Headline.{Headline, IsBegun};
 ghost use Rattle.world.specs.InStep.{IsJoinedBehind};
 ghost use Rattle.world.specs.States.{Joined};
@@ -51,6 +54,20 @@ pub(crate) fn headline_of(policy: &Policy)
     each_listed_right_is_in_force();
     calls_without_their_right_are_denied();
 }
+
+/// Whatever came before, a list of requests goes on from it. The entries that its replies hand out, in order, and
+/// then those of the audit at its end are a legal history from where the audit began; the parts begin each where the
+/// one before it ends, and the audit where the last of them does. Behind all that was handed out, before and now,
+/// the world is in step, and so the headline holds of it (`World::headline`).
+pub fn each_run_goes_on()
+    ensures joined { (first : Declared) (prior : List Entry) (requests : List Request) (replies : List Reply) (old new : Joined) →
+        IsJoinedBehind first prior old → AreReplies old requests replies new → IsJoinedBehind first (prior ++ handed_out replies) new }
+    ensures legal { (first : Declared) (prior : List Entry) (requests : List Request) (replies : List Reply) (old new : Joined) →
+        IsJoinedBehind first prior old → AreReplies old requests replies new → IsLegal (beginning old.core) (handed_out replies ++ new.core.entries) }
+    ensures parts { (requests : List Request) (replies : List Reply) (old new : Joined) →
+        AreReplies old requests replies new → GoOn old.core.origin (parts_out replies) new.core.origin }
+    ensures entries { (replies : List Reply) → entries_in (parts_out replies) ≡ handed_out replies }
+{}
 
 /// What is refused, for whatever cause, leaves the world as it was.
 pub fn refusals_change_nothing()

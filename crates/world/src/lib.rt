@@ -13,7 +13,7 @@ mod rings;
 mod serving;
 mod world;
 
-pub use laws::{refusals_change_nothing, the_headline};
+pub use laws::{each_run_goes_on, refusals_change_nothing, the_headline};
 pub use reply::{Answer, Refusal, Reply};
 pub use request::Request;
 pub use world::World;

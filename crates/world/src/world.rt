@@ -5,7 +5,7 @@ ghost use Rattle.policy.specs.Policy.{Declared};
 ghost use Rattle.core_model.specs.declared.entry.Entry.{Entry};
 ghost use Rattle.world.specs.Dues.{AreReplies, IsServed};
 ghost use Rattle.world.specs.Headline.{Headline};
-ghost use Rattle.world.specs.InStep.{IsJoined};
+ghost use Rattle.world.specs.InStep.{IsJoined, IsJoinedBehind};
 ghost use Rattle.world.specs.Starting.{Begins};
 ghost use Rattle.std.specs.Option.{option_copied};
 ghost use Rattle.world.specs.States.{ring_of, slots_of};
@@ -104,9 +104,12 @@ impl World {
         }
     }
 
-    /// Does nothing but say to callers what holds of each world, at any moment: the headline, as `the_headline` tells it.
+    /// Does nothing but say to callers what holds of each world, at any moment: it is in step behind what was handed
+    /// out before; and behind whatever it is in step, the headline holds, as `the_headline` tells it. What is handed
+    /// out by more requests goes on from that (`each_run_goes_on`).
     pub fn headline(&self)
-        ensures { (first : Declared) × (prior : List Entry) × Headline first prior self.now }
+        ensures joined { IsJoined self.now }
+        ensures headline { (first : Declared) (prior : List Entry) → IsJoinedBehind first prior self.now → Headline first prior self.now }
     {
         let _ = &self.rings;
         headline_of(self.core.policy());

@@ -1,4 +1,4 @@
--- What the history of a core goes on from behind its audit, as data: what its fields tell.
+-- What the history of a core goes on from behind its audit, as data: what its fields tell (own).
 use Rattle.std.specs.Prelude.{◌+◌, List, find, length, map, Option, None, Some, option_map}
 use Rattle.std.specs.List.{filter_map}
 use Rattle.aql_packet.specs.declared.ids.PacketId.{PacketId}

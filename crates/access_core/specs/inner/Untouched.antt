@@ -1,4 +1,4 @@
--- The parts that a core is made of, as they begin.
+-- The parts that a core is made of, as they begin (own).
 use Rattle.std.specs.Prelude.{ℕ, ◌≡◌, List, [], map}
 use Rattle.policy.specs.Policy.{Declared, initial_values, region_lengths, rules_of}
 use Rattle.core_model.specs.Kernels.{segments_of}

@@ -1,4 +1,4 @@
--- Where what was taken parts from what was served.
+-- Where what was taken parts from what was served (own).
 use Rattle.std.specs.Prelude.{◌≡◌, ◌≢◌, List, ◌∷◌, ◌++◌, Some, slice_get}
 use Rattle.core_model.specs.declared.served.Served.{Served}
 
