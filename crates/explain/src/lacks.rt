@@ -47,16 +47,20 @@ fn in_force_after(
     ensures { result ≡ in_force_after client object right before event.now }
 {
     match event {
-        Event::Call(Call::Grant {
-            client: holder,
-            object: on,
-            rights,
-        }) => before || is_one_of(client, object, right, *holder, *on, *rights),
-        Event::Call(Call::Revoke {
-            client: holder,
-            object: on,
-            rights,
-        }) => before && !is_one_of(client, object, right, *holder, *on, *rights),
+        Event::Call(
+            Call::Grant {
+                client: holder,
+                object: on,
+                rights,
+            },
+        ) => before || is_one_of(client, object, right, *holder, *on, *rights),
+        Event::Call(
+            Call::Revoke {
+                client: holder,
+                object: on,
+                rights,
+            },
+        ) => before && !is_one_of(client, object, right, *holder, *on, *rights),
         Event::Reload { rows } => before && rows.allowed(client, object).has(right),
         _ => before,
     }

@@ -127,14 +127,18 @@ pub fn how_far(entries: &[Entry], queue: QueueId, packet: PacketId) -> Come {
     };
     for entry in entries {
         let is_its = match &entry.event {
-            Event::Call(Call::RunNext {
-                queue: of,
-                packet: id,
-            }) => *of == queue && *id == packet,
-            Event::Call(Call::Poll {
-                queue: of,
-                packet: id,
-            }) => *of == queue && *id == packet,
+            Event::Call(
+                Call::RunNext {
+                    queue: of,
+                    packet: id,
+                },
+            ) => *of == queue && *id == packet,
+            Event::Call(
+                Call::Poll {
+                    queue: of,
+                    packet: id,
+                },
+            ) => *of == queue && *id == packet,
             _ => false,
         };
         if is_its {

@@ -9,7 +9,7 @@ ghost use Rattle.packet_processor.specs.Queueing.{as_launched, is_place_of, with
 use crate::packets::is_barrier;
 use aql_packet::{Barrier, Header, Packet, PacketId, Scope, SignalHandle};
 use arrayvec::ArrayVec;
-use core_model::{LAUNCH_PROGRESS, Progress, MOST_IN_FLIGHT};
+use core_model::{LAUNCH_PROGRESS, MOST_IN_FLIGHT, Progress};
 use std::marker::Model;
 
 /// What lies in a place that isn't taken.

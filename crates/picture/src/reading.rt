@@ -6,7 +6,9 @@ ghost use Rattle.aql_packet.specs.Reading.{decoded};
 
 use crate::element::{Element, Ending, Sign, Spot, Work};
 use aql_packet::{Packet, PacketId, QueueId, decode};
-use core_model::{Call, Effect, Entry, Event, Outcome, Polled, QUEUES, MOST_IN_FLIGHT, Taken, Worked};
+use core_model::{
+    Call, Effect, Entry, Event, MOST_IN_FLIGHT, Outcome, Polled, QUEUES, Taken, Worked,
+};
 
 /// Where a sign ends, and how its packet ended.
 #[derive(Clone, Copy)]

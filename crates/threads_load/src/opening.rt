@@ -32,7 +32,13 @@ fn open_queue(
     ensures opened { IfOk result (λ o. IsOpened broker.old MOST_IN_FLIGHT producers o.0 o.1.items o.2 broker.new) }
     ensures refused { IfErr result (λ _. broker.new ≡ broker.old) }
 {
-    broker.open_queue(alloc, planned.client, planned.agent, MOST_IN_FLIGHT, producers)
+    broker.open_queue(
+        alloc,
+        planned.client,
+        planned.agent,
+        MOST_IN_FLIGHT,
+        producers,
+    )
 }
 
 // Puts ends of a broker behind others.

@@ -13,8 +13,8 @@ ghost use Rattle.access_core.specs.inner.LiesInRegions.{lies_in_regions};
 ghost use Rattle.access_core.specs.inner.InPlace.{finish_owed, IsInPlace, IsSized, RefusedAt};
 
 use crate::access::host::change;
-use crate::access::running_kernels::group_count;
 use crate::access::lookups::queue_of;
+use crate::access::running_kernels::group_count;
 use crate::access::{AccessCore, enter};
 use crate::queue::Queue;
 use aql_packet::{Packet, PacketId, QueueId};

@@ -15,8 +15,8 @@ ghost use Rattle.access_core.specs.inner.QueueChanges.{CanFail, freed_by, with_f
 ghost use Rattle.access_core.specs.inner.Polling.{look_owed, polled_as};
 ghost use Rattle.access_core.specs.inner.InPlace.{IsInPlace};
 
-use crate::access::running::advance;
 use crate::access::completing::free_place;
+use crate::access::running::advance;
 use crate::access::{AccessCore, enter};
 use crate::queue::Queue;
 use aql_packet::{Packet, PacketId, QueueId, SignalHandle};

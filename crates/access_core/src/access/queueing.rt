@@ -12,7 +12,7 @@ ghost use Rattle.access_core.specs.Keeping.{KeepsPlaces};
 use crate::access::{AccessCore, enter};
 use crate::queue::Queue;
 use aql_packet::{AgentHandle, ClientId, QueueId, is_ring_size};
-use core_model::{Effects, Event, Outcome, QUEUES, Refusal, MOST_IN_FLIGHT};
+use core_model::{Effects, Event, MOST_IN_FLIGHT, Outcome, QUEUES, Refusal};
 use packet_processor::Places;
 use policy::{Object, Right};
 use sequences::Reserved;

@@ -10,8 +10,8 @@ ghost use Rattle.core_model.specs.Owed.{barrier_in, enters, refuses, release_of}
 ghost use Rattle.core_model.specs.Legal.{Meets, as_accepted, due};
 ghost use Rattle.access_core.specs.inner.QueueChanges.{IsThere, freed_by, with_queue, with_stop};
 
-use crate::access::lookups::queue_of;
 use crate::access::completing::free_place;
+use crate::access::lookups::queue_of;
 use crate::access::{AccessCore, enter};
 use crate::argument_blocks::ArgumentBlocks;
 use crate::queue::Queue;

@@ -16,6 +16,6 @@ pub returns-clause-headline : goal.returns-clause-headline
 returns-clause-headline c =
     subst (λ (world : Joined). (first : Declared) (prior : List Entry) → IsJoinedBehind first prior world → Headline first prior world) c.self.view_is
     (λ first prior behind.
-      let lengths : region_lengths first ≡ region_lengths c.policy.result.now =
-      sym (ap (λ (now : Start). region_lengths now.policy) behind.start_is) ∙ sym (ap region_lengths c.policy.ensures) in
-      c.headline_of.ensures first prior (World c.self.inside.core.history c.self.inside.rings.items) lengths behind)
+    let lengths : region_lengths first ≡ region_lengths c.policy.result.now =
+    sym (ap (λ (now : Start). region_lengths now.policy) behind.start_is) ∙ sym (ap region_lengths c.policy.ensures) in
+    c.headline_of.ensures first prior (World c.self.inside.core.history c.self.inside.rings.items) lengths behind)
