@@ -198,12 +198,9 @@ fn put_about(
 }
 
 // Whether the packet holds a right on the region in which an access begins: the client had it at the launch, and an
-// argument points into the region; or it is READ where the argument block lies.
+// argument points into the region.
 fn is_held(launch: &Launch<'_>, region: Object, right: Right) -> bool {
-    if launch.is_pointed && is_in_force(launch.before, launch.opening.client, region, right) {
-        return true;
-    }
-    launch.has_block && right == Right::Read
+    launch.is_pointed && is_in_force(launch.before, launch.opening.client, region, right)
 }
 
 // The first right that an access wants and that the packet doesn't hold on the region in which it begins.
@@ -389,8 +386,6 @@ struct Launch<'a> {
     region: Option<Object>,
     /// Whether an argument of 64 bits points into that region.
     is_pointed: bool,
-    /// Whether the argument block lies in it.
-    has_block: bool,
 }
 
 // A right that an access wants and that the client lacks on a region.
@@ -476,7 +471,7 @@ fn tell_unpointed(
         scene,
         "no argument of 64 bits points into ",
         region,
-        ": a packet holds rights on regions into which one does, and READ where its argument block lies\n",
+        ": a packet holds rights on regions into which one does\n",
     )
 }
 
@@ -502,7 +497,7 @@ fn tell_pointers(
         return say(
             out,
             scene,
-            "the kernel has no argument of 64 bits: its packet holds no right on a region, but READ where its argument block lies",
+            "the kernel has no argument of 64 bits: its packet holds no right on a region",
         );
     }
     for offset in shape.wide.as_slice() {
@@ -526,10 +521,8 @@ fn tell_block(
     shape: &Shape,
     block: &[u8],
 ) -> Result<(), AllocError> {
-    let region = region_at(scene, dispatch.kernarg_address.0);
     let launch = Launch {
         is_pointed: is_pointed(scene, shape, block, launch.region),
-        has_block: shape.arguments > 0 && region.is_some() && region == launch.region,
         ..*launch
     };
     tell_place(out, scene, dispatch, launch.rule, place)?;
@@ -586,7 +579,6 @@ fn tell_dispatch(
         reach: reach_at(alloc, scene, dispatch, place),
         region: region_of(scene, place.address),
         is_pointed: false,
-        has_block: false,
     };
     match shape_of(alloc, scene.policy, dispatch.kernel_object)? {
         Some(shape) => tell_shape(alloc, out, scene, dispatch, place, &launch, &shape),
