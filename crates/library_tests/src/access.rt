@@ -81,7 +81,7 @@ fn core_over(alloc: Global, text: &str, kernels: Vec<Kernel>) -> Result<AccessCo
     }
 }
 
-fn fresh(alloc: Global) -> Result<AccessCore, Fail> {
+pub(crate) fn fresh(alloc: Global) -> Result<AccessCore, Fail> {
     core_over(alloc, POLICY, kernels(alloc)?)
 }
 
@@ -90,7 +90,7 @@ fn granted(core: &mut AccessCore, object: Object, rights: Rights) -> Result<(), 
 }
 
 /// Whether Nora is granted rights.
-fn grants(core: &mut AccessCore, object: Object, rights: Rights) -> bool {
+pub(crate) fn grants(core: &mut AccessCore, object: Object, rights: Rights) -> bool {
     granted(core, object, rights).is_ok()
 }
 

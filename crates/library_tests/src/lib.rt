@@ -29,6 +29,8 @@ mod policies;
 #[cfg(test)]
 mod rings;
 #[cfg(test)]
+mod rotations;
+#[cfg(test)]
 mod streams;
 #[cfg(test)]
 mod studio;
