@@ -35,8 +35,8 @@ pub struct SettledQueue {
 /// What a broker came to.
 #[derive(Drop)]
 pub enum Settlement {
-    /// Of each queue the audit has just the packets that its lane served, ids and bytes, and each ring is
-    /// settled.
+    /// Of each queue the parts and the audit have just the packets that its lane served, ids and bytes, and each
+    /// ring is settled.
     Settled {
         core: AccessCore,
         rings: Vec<SettledQueue>,

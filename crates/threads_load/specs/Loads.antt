@@ -1,9 +1,10 @@
 -- What a load comes to (own).
 use Rattle.std.specs.Prelude.{◌≡◌, List, [], ◌∷◌, ◌++◌, string_bytes, ⊤}
+use Rattle.kernel_check.specs.Programs.{Program}
 use Rattle.policy.specs.Policy.{Declared}
 use Rattle.core_model.specs.History.{History, Part, beginning}
 use Rattle.core_model.specs.Rotation.{LeadTo}
-use Rattle.core_model.specs.Legal.{IsLegal}
+use Rattle.core_model.specs.Legal.{IsLegal, IsLegalPart}
 use Rattle.core_model.specs.declared.entry.Entry.{Entry}
 use Rattle.client_threads.specs.declared.client_end.ClientEnd.{ClientEnd}
 use Rattle.client_threads.specs.declared.settling.Settlement.{Settlement}
@@ -35,9 +36,14 @@ EndsAs entries lanes (ending.Mismatch queue packet) = IsLeastMismatch entries la
 abbrev pub IsSomeSettlement : Part → Settlement → Type 0
 IsSomeSettlement part settlement = (rings : List QueueRing) × (ends : List ClientEnd) × (lanes : List LaneSeen) × IsSettlement rings (part ∷ []) ends lanes settlement
 
--- a history is legal, a part leads to it, and a load that left both ended so with some lanes (own)
+-- a part is legal, for some kernels (own)
+abbrev pub IsSomeLegalPart : Part → Type 0
+IsSomeLegalPart part = (kernels : List Program) × IsLegalPart kernels part
+
+-- a history is legal, a legal part leads to it, and a load that left both ended so with some lanes (own)
 pub record EndsWith (part : Part) (history : History) (ended : Ending) : Type 0 where
   pub legal : IsLegal (beginning history) history.entries
+  pub part_legal : IsSomeLegalPart part
   pub lead : LeadTo (part ∷ []) history.origin
   pub lanes : List LaneSeen
   pub ends : EndsAs (part.entries ++ history.entries) lanes ended

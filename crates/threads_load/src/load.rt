@@ -1,7 +1,7 @@
 //! The load, from a policy to its report.
 
 ghost use Rattle.std.specs.Prelude.{◌≡◌, IfOk, Ok};
-ghost use Rattle.threads_load.specs.Loads.{EndsLoad, IsAgreed, IsSomeSettlement, TellsLoad, TellsPlan};
+ghost use Rattle.threads_load.specs.Loads.{EndsLoad, IsAgreed, IsSomeLegalPart, IsSomeSettlement, TellsLoad, TellsPlan};
 ghost use Rattle.threads_load.specs.Stages.{IsStage};
 
 use crate::fault::LoadFault;
@@ -53,7 +53,8 @@ fn ending_by(gate: &LoadGate) -> Ending
 // How a load ended, by what its broker came to.
 #[tactic(auto, using(crate::proofs::Endings::settled_ends, crate::proofs::Endings::mismatch_ends))]
 fn ended_by(settlement: Settlement, part: Part, gate: &LoadGate) -> Ended
-    requires { IsSomeSettlement part settlement }
+    requires settlement { IsSomeSettlement part settlement }
+    requires part { IsSomeLegalPart part }
     ensures { EndsLoad result }
 {
     match settlement {
@@ -94,7 +95,8 @@ fn settle(alloc: Global, stage: Stage, part: &Part) -> Result<Settlement, Unsett
 
 // Settles it, and tells how the load ended.
 fn finish(alloc: Global, stage: Stage, part: Part, gate: &LoadGate) -> Result<Ended, LoadFault>
-    requires { IsStage stage }
+    requires stage { IsStage stage }
+    requires part { IsSomeLegalPart part }
     ensures { IfOk result EndsLoad }
 {
     match settle(alloc, stage, &part) {
@@ -124,7 +126,8 @@ fn finish_rotated(
     rotated: (Stage, Result<Part, Refusal>),
     gate: &LoadGate,
 ) -> Result<Ended, LoadFault>
-    requires { IsStage rotated.0 }
+    requires stage { IsStage rotated.0 }
+    requires part { IfOk rotated.1 IsSomeLegalPart }
     ensures { IfOk result EndsLoad }
 {
     match rotated {

@@ -1,14 +1,16 @@
 //! Producers and lanes run, each on a thread of its own.
 
-ghost use Rattle.std.specs.Prelude.{◌≡◌, ◌<◌, All, length};
+ghost use Rattle.std.specs.Prelude.{◌≡◌, ◌<◌, All, IfOk, length};
 ghost use Rattle.std.specs.Thread.{IsSync};
 ghost use Rattle.client_threads.specs.Running.{IsEndOf, IsLaneOf};
+ghost use Rattle.threads_load.specs.Loads.{IsSomeLegalPart};
 ghost use Rattle.threads_load.specs.Stages.{EachStaysOf, IsStage};
 
 use crate::gate::LoadGate;
 use crate::opening::Stage;
 use crate::plan::PlannedQueue;
 use crate::producing::produce;
+use access_core::AccessCore;
 use client_threads::{Broker, ClientEnd, Lane, run_lanes};
 use core_model::{Part, Refusal};
 use std::alloc::Global;
@@ -113,15 +115,25 @@ fn run_both<R: Threads + Wait + Sync>(
     )
 }
 
-// Hands out what the audit tells so far, once a packet is finished.
+// Hands out what the audit of a core tells so far.
+#[tactic(auto, using(crate::proofs::Endings::some_legal))]
+fn rotate(alloc: Global, core: &mut AccessCore) -> Result<Part, Refusal>
+    ensures { IfOk result IsSomeLegalPart }
+{
+    core.rotate(alloc)
+}
+
+// Hands out what the audit of a broker's core tells so far, once a packet is finished.
 fn rotate_once<R: Wait>(
     rt: &R,
     alloc: Global,
     broker: &Broker,
     gate: &LoadGate,
-) -> Result<Part, Refusal> {
+) -> Result<Part, Refusal>
+    ensures { IfOk result IsSomeLegalPart }
+{
     gate.wait_for_first();
-    broker.with_core(rt, |core| core.rotate(alloc))
+    broker.with_core(rt, |core| rotate(alloc, core))
 }
 
 // Producers and lanes run at once, and this thread rotates the audit meanwhile.
@@ -139,6 +151,7 @@ fn run_beside<R: Threads + Wait + Sync>(
     requires lanes { All (λ lane. IsLaneOf broker.now lane) lanes.items }
     ensures ends { All (λ end. IsEndOf broker.now end) result.0.0.items }
     ensures lanes { All (λ lane. IsLaneOf broker.now lane) result.0.1.items }
+    ensures part { IfOk result.1 IsSomeLegalPart }
 {
     thread::join(
         rt,
@@ -146,7 +159,9 @@ fn run_beside<R: Threads + Wait + Sync>(
             requires { IsSync R.row × All (λ end. IsEndOf broker.now end) ends.items × All (λ lane. IsLaneOf broker.now lane) lanes.items }
             ensures { All (λ end. IsEndOf broker.entry.now end) result.0.items × All (λ lane. IsLaneOf broker.entry.now lane) result.1.items }
         { run_both(rt, alloc, broker, plan, packets, gate, ends, lanes) },
-        move || -> Result<Part, Refusal> { rotate_once(rt, alloc, broker, gate) },
+        move || -> Result<Part, Refusal>
+            ensures { IfOk result IsSomeLegalPart }
+        { rotate_once(rt, alloc, broker, gate) },
     )
 }
 
@@ -176,8 +191,8 @@ pub fn run_stage<R: Threads + Wait + Sync>(
     }
 }
 
-/// Runs them just so, while this thread rotates the audit once, when a packet is finished. The part is what the audit
-/// told until then.
+/// Runs them just so, while this thread rotates the audit once, when a packet is finished. The part is a legal one:
+/// what the audit told until then.
 pub fn run_rotated<R: Threads + Wait + Sync>(
     rt: &R,
     alloc: Global,
@@ -187,7 +202,8 @@ pub fn run_rotated<R: Threads + Wait + Sync>(
     gate: &LoadGate,
 ) -> (Stage, Result<Part, Refusal>)
     requires { IsStage stage }
-    ensures { IsStage result.0 }
+    ensures stage { IsStage result.0 }
+    ensures part { IfOk result.1 IsSomeLegalPart }
 {
     let Stage {
         broker,
