@@ -209,11 +209,11 @@ fn enter_queue(
     ensures entered { IfOk result (λ o. HasEntered made (map seen desks.old.items) (map seen desks.new.items) o.0 o.1.items o.2) }
     ensures refused { IfErr result (λ _. desks.new.items ≡ desks.old.items) }
 {
-    match core.open_queue(alloc, client, agent, size) {
+    let queue = made.desk.queue;
+    match core.open_allowed(alloc, client, agent, size, queue) {
         Err(why) => Err(why),
         Ok(_) => {
             let Beside { desk, ends, lane } = made;
-            let queue = desk.queue;
             desks.push_reserved(desk);
             Ok((queue, ends, lane))
         }
