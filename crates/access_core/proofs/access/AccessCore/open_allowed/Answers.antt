@@ -21,7 +21,7 @@ invariant_of-self-2 c =
     let push = c.in_ok-push.ensures.items in
     let none = c.in_ok-errors.ensures.empty in
     let h = c.args.self.now.history in
-    let owing = entered-owed h (Open c.args.client c.args.agent c.args.size) (outcome.Opened c.args.queue) [] c.requires in
+    let owing = entered-owed h (Open c.args.client c.args.agent c.args.size) (outcome.Opened c.args.queue) [] c.requires.may in
     let fewer = open-effects (beginning h) h.entries (outcome.Opened c.args.queue) [] c.args.client c.args.agent c.args.size owing.0 in
     IsCached-more a _ (Open c.args.client c.args.agent c.args.size) (outcome.Opened c.args.queue) [] c.self.invariant
     (record {
@@ -46,4 +46,4 @@ invariant_of-self-2 c =
         within = none-launched (Open c.args.client c.args.agent c.args.size) (outcome.Opened c.args.queue) refl (start_of a);
       };
     })
-    _ (seen c.self.view_is) c.requires
+    _ (seen c.self.view_is) c.requires.may
