@@ -48,7 +48,7 @@ use Rattle.core_model.specs.declared.call.Call.{Call}
 use Rattle.world.specs.declared.request.Request.{Request}
 use Rattle.world.specs.declared.request.Request.TheVariants as request
 use Rattle.world.specs.declared.reply.Refusal.{Refusal}
-use Rattle.world.specs.Bytes.{bytes_of}
+use Rattle.aql_packet.specs.Words.{bytes_of}
 use Rattle.core_model.specs.declared.event.Event.TheVariants as event
 use Rattle.world.specs.Dues.{Reply, asked_size, hindrance, is_decided, taking}
 use Rattle.world.specs.InStep.{IsInStep, IsJoinedBehind, IsUntouched, Stands}

@@ -1,7 +1,7 @@
 -- Eight words written behind one another fill 64 bytes.
 use Rattle.std.proofs.Common.{◌≡◌, ℕ, List, [], ◌∷◌, length, get_or, replicate, refl, ap, ◌∙◌, arith}
 use Rattle.aql_packet.specs.Numbers.{written}
-use Rattle.world.specs.Bytes.{bytes_of}
+use Rattle.aql_packet.specs.Words.{bytes_of}
 
 written_eight : (a b c d e f g h : ℕ) →
     written (written (written (written (written (written (written (written (replicate 64 0) 0 8 a) 8 8 b) 16 8 c) 24 8 d) 32 8 e) 40 8 f) 48 8 g) 56 8 h

@@ -8,7 +8,8 @@ use Rattle.core_model.specs.declared.event.Event.{Event}
 use Rattle.core_model.specs.declared.event.Event.TheVariants as event
 use Rattle.core_model.specs.declared.refusal.Refusal as cores
 use Rattle.core_model.specs.declared.refusal.Refusal.TheVariants as core_refusal
-use Rattle.core_model.specs.History.{History, Origin, Start, beginning, opening_state}
+use Rattle.core_model.specs.declared.origin.Origin.{Origin}
+use Rattle.core_model.specs.History.{History, Start, beginning, opening_state}
 use Rattle.core_model.specs.History.{Part as Handed}
 use Rattle.core_model.specs.Legal.{IsLegal, IsWhole, SameOrigin, due}
 use Rattle.core_model.specs.Rotation.{GoOn, Rotates, entries_in}
@@ -98,11 +99,12 @@ parts-go_on old new (asked ∷ requests) [] are = absurd are
 -- their entries are those that are handed out
 pub entries-of-parts : (replies : List Reply) → entries_in (parts_out replies) ≡ handed_out replies
 entries-of-parts [] = refl
-entries-of-parts (reply ∷ replies) = by-part (part_of reply)
+entries-of-parts (reply ∷ replies) = by-part (part_of reply) (entries-of-parts replies)
   where
-    by-part : (o : Option Handed) → entries_in (cons_option o (parts_out replies)) ≡ elim o [ None ↦ [] | Some part ↦ part.entries ] ++ handed_out replies
-    by-part None = entries-of-parts replies
-    by-part (Some part) = ap (λ (es : List Entry). part.entries ++ es) (entries-of-parts replies)
+    by-part : (o : Option Handed) → entries_in (parts_out replies) ≡ handed_out replies →
+        entries_in (cons_option o (parts_out replies)) ≡ elim o [ None ↦ [] | Some part ↦ part.entries ] ++ handed_out replies
+    by-part None rest = rest
+    by-part (Some part) rest = ap (λ (es : List Entry). part.entries ++ es) rest
 
 kernels-on : (old mid : Joined) (reply : Reply) → HandsOn old reply mid → mid.core.kernels ≡ old.core.kernels
 kernels-on old mid reply (stays none same) = same.kernels_are

@@ -19,7 +19,7 @@ use Rattle.ring_core.specs.Rule.{processor_of}
 use Rattle.world.specs.declared.queue_ring.Next.{Next}
 use Rattle.world.specs.declared.queue_ring.QueueRing.{QueueRing}
 use Rattle.world.specs.declared.reply.Refusal.TheVariants as refusal
-use Rattle.world.specs.Bytes.{bytes_of}
+use Rattle.aql_packet.specs.Words.{bytes_of}
 use Rattle.world.specs.Dues.{asked_size}
 use Rattle.world.specs.InStep.{IsJoined, IsJoinedBehind}
 use Rattle.world.specs.Making.{AreDecided}

@@ -19,7 +19,7 @@ use Rattle.ring_core.specs.Tickets.{is_published}
 use Rattle.ring_core.specs.Machine.{Machine, is_allowed, made, producers_of, read_index}
 use Rattle.ring_core.specs.Rule.{IsRing, processor_of}
 use Rattle.ring_core.proofs.Publication.{Raised, Stayed, index_moves, published_stays}
-use Rattle.world.specs.Bytes.{bytes_of}
+use Rattle.aql_packet.specs.Words.{bytes_of}
 use Rattle.world.specs.States.{Joined, ring_of, with_core, with_ring}
 use Rattle.world.specs.Dues.{is_decided, may_follow}
 use Rattle.world.specs.InStep.{IsInStep, IsJoinedBehind, IsPublished, Stands, published, size_of, sizes, taken_from, takes}

@@ -1,4 +1,3 @@
-pub mod Filling
 pub mod Numbering
 pub mod Entering
 pub mod Joining

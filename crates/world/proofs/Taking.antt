@@ -22,7 +22,7 @@ use Rattle.ring_core.specs.Parts.{collected_packet}
 use Rattle.ring_core.specs.Machine.{Machine, producers_of, read_index}
 use Rattle.ring_core.specs.Rule.{IsRing, processor_of}
 use Rattle.ring_core.proofs.Publication.{collected_is}
-use Rattle.world.specs.Bytes.{bytes_of}
+use Rattle.aql_packet.specs.Words.{bytes_of}
 use Rattle.world.specs.States.{Joined, ring_of, with_core}
 use Rattle.world.specs.Dues.{taking}
 use Rattle.world.specs.InStep.{IsInStep, IsJoinedBehind, IsPublished, Stands, published, takes}

@@ -35,7 +35,7 @@ use Rattle.world.specs.declared.reply.Answer.TheVariants as answer
 use Rattle.world.specs.declared.reply.Refusal.{Refusal}
 use Rattle.world.specs.declared.reply.Refusal.TheVariants as refusal
 use Rattle.world.specs.States.{Joined, joined, ring_of, with_core, with_ring}
-use Rattle.world.specs.Bytes.{bytes_of}
+use Rattle.aql_packet.specs.Words.{bytes_of}
 use Rattle.core_model.specs.declared.event.Event.TheVariants as event
 
 abbrev pub Reply : Type 0

@@ -14,7 +14,7 @@ use Rattle.ring_core.specs.Words.{packet_of}
 use Rattle.ring_core.specs.Tickets.{is_published}
 use Rattle.ring_core.specs.Machine.{Machine, read_index}
 use Rattle.ring_core.specs.Rule.{IsRing, processor_of, ticket_of}
-use Rattle.world.specs.Bytes.{bytes_of}
+use Rattle.aql_packet.specs.Words.{bytes_of}
 use Rattle.world.specs.States.{Joined, ring_of}
 
 -- the bytes of a packet of a queue that an event hands over, if it does

@@ -1,5 +1,4 @@
 pub mod States
-pub mod Bytes
 pub mod Dues
 pub mod InStep
 pub mod Making

@@ -2,7 +2,7 @@
 
 ghost use Rattle.std.specs.Prelude.{◌≡◌, ◌+◌, ◌≤◌};
 ghost use Rattle.aql_packet.specs.Numbers.{written};
-ghost use Rattle.world.specs.Bytes.{bytes_of};
+ghost use Rattle.aql_packet.specs.Words.{bytes_of};
 
 use byteorder::{ByteOrder, LittleEndian};
 

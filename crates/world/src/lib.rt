@@ -4,7 +4,6 @@
 // The check tries its tactics on what is left of each proof.
 #![tactic(auto)]
 
-mod bytes;
 mod laws;
 mod queue_ring;
 mod reply;

@@ -10,13 +10,12 @@ ghost use Rattle.world.specs.declared.reply.Answer.TheVariants as answer;
 ghost use Rattle.world.specs.Dues.{asked_size};
 ghost use Rattle.world.specs.Obeying.{Asks, HandsOut, IsNext, MayOpen, Obeys, Opens, TakesAt};
 
-use crate::bytes::bytes_of;
 use crate::queue_ring::{Next, QueueRing};
 use crate::reply::{Answer, Refusal, Reply};
 use crate::request::Request;
 use crate::rings::{make_step, next_packet, note_taken};
 use access_core::AccessCore;
-use aql_packet::{AgentHandle, ClientId, QueueId};
+use aql_packet::{AgentHandle, ClientId, QueueId, bytes_of};
 use core_model::{Event, Outcome};
 use ring_core::{RingState, is_producer_count};
 use std::alloc::{AllocError, Global};
