@@ -2,7 +2,8 @@
 use Rattle.std.proofs.Common.{◌≡◌, ◌<◌, length-append, map, arith, vec_capacity}
 use Rattle.std.specs.Global.{Vec}
 use Rattle.access_core.proofs.Terms.{ArgumentBlock, Core, Entry, Inside, IsEntered, Ledger, PacketId, Queue, QueueError, Roomy, core_of, error_places, places_of, table_places}
-use Rattle.access_core.proofs.Terms.{with_failure}
+use Rattle.access_core.proofs.Terms.{with_leaving}
+use Rattle.access_core.specs.declared.access.leaving.Leaving.TheVariants as leaving
 use Rattle.grants.specs.Ledger as ledger
 
 -- an entry takes a place that was free
@@ -10,7 +11,7 @@ entered-places : (old new : Roomy Entry) (entry : Entry) → IsEntered old new e
 entered-places old new entry is = grind (arith, length-append)
 
 -- and so does an error
-pub failed-places : (q : Queue) (id : PacketId) (error : QueueError) → 0 < q.errors.room → error_places (with_failure id error q) ≡ error_places q
+pub failed-places : (q : Queue) (id : PacketId) (error : QueueError) → 0 < q.errors.room → error_places (with_leaving (Some id) (leaving.Failed error) q) ≡ error_places q
 failed-places q id error some = grind (arith, length-append)
 
 module _ (a : Inside) (core : Core) (seen_as : core_of a ≡ core) where

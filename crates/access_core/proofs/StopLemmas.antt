@@ -3,7 +3,8 @@ use Rattle.std.proofs.Common.{filter, ◌≡◌, ℕ, ◌-◌, ◌≤◌, List, 
 use Rattle.std.proofs.Common.{IfNone, IfSome, find, fold, is_some, not, option_map, if◌then◌else◌}
 use Rattle.access_core.proofs.Terms.{ArgumentBlock, Call, Effect, History, InFlight, Inside, IsCached, IsSound, Ledger, Outcome, PacketId, Place, Queue, QueueId, QueueView, Releases, Stop}
 use Rattle.access_core.proofs.Terms.{byte_after, cached_opening, due, enters, entry_of, flight_of, freed_by, history_of, is_barrier, is_block, is_full, is_place_of, lacks_room}
-use Rattle.access_core.proofs.Terms.{numbered, queue_at, refuses, release_of, signals_after, start_of, with_queue, with_stop, without_one}
+use Rattle.access_core.proofs.Terms.{numbered, queue_at, refuses, release_of, signals_after, start_of, with_leaving, with_queue, without_one}
+use Rattle.access_core.specs.declared.access.leaving.Leaving.TheVariants as leaving
 use Rattle.core_model.specs.Owed.{owed}
 use Rattle.access_core.proofs.Calls.{due-by}
 use Rattle.access_core.proofs.HeldAfter.{grants-released, grants-still}
@@ -84,22 +85,22 @@ module _ (a : Inside) (kept : IsCached a) (queue : QueueId) where
     freed-stopped barrier = grind (arith, freed-below)
 
     -- how the queues move along
-    pub queues-stopped : (barrier : Option PacketId) → QueuesAfter a (with_queue a.queues.items queue (with_stop barrier)) (a.flying - freed_by barrier a.queues.items queue)
+    pub queues-stopped : (barrier : Option PacketId) → QueuesAfter a (with_queue a.queues.items queue (with_leaving barrier leaving.Stopped)) (a.flying - freed_by barrier a.queues.items queue)
         (Call (Stop queue)) outcome.Accepted (release_of queue barrier)
     queues-stopped None =
         let same = flight-unlaunched (start_of a) a.audit.items (Call (Stop queue)) outcome.Accepted [] refl in
         let count = ap length same in
-        queues-after a kept queue at (with_stop None) (stopped None) _ _ _ _ refl refl (record { room = at.sound.room; free = at.sound.free; below = at.sound.below }) refl
+        queues-after a kept queue at (with_leaving None leaving.Stopped) (stopped None) _ _ _ _ refl refl (record { room = at.sound.room; free = at.sound.free; below = at.sound.below }) refl
         (λ m. queue_at-more (start_of a) a.audit.items (Call (Stop queue)) outcome.Accepted [] m _ same ∙ pick (queue.0 == m.0) (queue_at (start_of a) a.audit.items m))
         (omega (arith, count, freed-none, kept.flying)) (none-launched (Call (Stop queue)) outcome.Accepted refl (start_of a))
       where
         pick : (b : Bool) (v : QueueView) → record v { stopped = (if b then true else v.stopped) } ≡ (if b then stopped None v else v)
         pick b v = grind arith
     queues-stopped (Some id) =
-        queues-released a kept queue id (Call (Stop queue)) outcome.Accepted (effect.Release queue id ∷ []) (is_release queue id) refl at (with_stop (Some id))
+        queues-released a kept queue id (Call (Stop queue)) outcome.Accepted (effect.Release queue id ∷ []) (is_release queue id) refl at (with_leaving (Some id) leaving.Stopped)
         (stopped (Some id)) refl sound refl (λ m v. grind arith)
       where
-        sound : IsSound (with_stop (Some id) at.q)
+        sound : IsSound (with_leaving (Some id) leaving.Stopped at.q)
         sound = let less = sound-released at.q id at.sound in record { room = less.room; free = less.free; below = less.below }
 
   -- how the grants do

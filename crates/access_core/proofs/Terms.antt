@@ -13,7 +13,7 @@ pub use Rattle.access_core.specs.inner.InPlace.{IsChanged, IsInPlace, IsSized, R
 pub use Rattle.access_core.specs.inner.Laying.{LiesWithin}
 pub use Rattle.access_core.specs.inner.LiesInRegions.{lies_in_regions}
 pub use Rattle.access_core.specs.inner.Polling.{look_owed, polled_as}
-pub use Rattle.access_core.specs.inner.QueueChanges.{CanFail, freed_by, places_freed, with_advance, with_denied, with_failure, with_queue, with_release, with_stop, without_one}
+pub use Rattle.access_core.specs.inner.QueueChanges.{CanFail, freed_by, places_freed, with_advance, with_denied, with_leaving, with_queue, without_one}
 pub use Rattle.access_core.specs.inner.Running.{FaultsAs, IsHolder, fault_owed, lent_if_held, lent_whole, next_result, region_numbered, view_whole}
 pub use Rattle.aql_packet.specs.Ids.{same_packet}
 pub use Rattle.aql_packet.specs.Memory.{are_region_lengths, covers}

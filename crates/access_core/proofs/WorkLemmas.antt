@@ -8,7 +8,8 @@ use Rattle.access_core.proofs.Terms.{Packet}
 use Rattle.access_core.proofs.Terms.{PacketId, Place, Poll, Progress, Queue, QueueError, QueueId, QueueView, RefusedAt, RunNext, SignalHandle, byte_after, cached_opening}
 use Rattle.access_core.proofs.Terms.{cached_view, completion_of, completion_signal, due, enters, error_without_place, finish_owed, flight, flight_after_effect, for_packet, found-all}
 use Rattle.access_core.proofs.Terms.{found-passes, freed_by, history_of, in_flight, is_packet, is_place_of, length-map, lies_in_regions, numbered, owed, owner, place_of, progress}
-use Rattle.access_core.proofs.Terms.{queue_at, region_lengths, signal_decrement, start_of, with_advance, with_failure, with_progress, with_queue, with_release, without_packet}
+use Rattle.access_core.proofs.Terms.{queue_at, region_lengths, signal_decrement, start_of, with_advance, with_leaving, with_progress, with_queue, without_packet}
+use Rattle.access_core.specs.declared.access.leaving.Leaving.TheVariants as leaving
 use Rattle.core_model.specs.Queues.{opening_of}
 use Rattle.access_core.proofs.CachedMore.{QueuesAfter, none-launched}
 use Rattle.access_core.proofs.QueueAt.{after as after_entry, of_queue, released-count, released-of, IsAdvance, IsRelease, advanced, flight-advanced}
@@ -106,7 +107,7 @@ module _ (a : Inside) (kept : IsCached a) (queue : QueueId) (id : PacketId) wher
       (flying-released at ∙ ap length (sym (flight-released (start_of a) a.audit.items event told effects queue id is))) (none-launched _ _ is.launches (start_of a))
 
 -- a queue whose packet left flight is sound
-pub sound-released : (q : Queue) (id : PacketId) → IsSound q → IsSound (with_release id q)
+pub sound-released : (q : Queue) (id : PacketId) → IsSound q → IsSound (with_leaving (Some id) leaving.Completed q)
 sound-released q id sound =
     let fewer = filter-not_more (λ (p : Place). not (is_place_of id p)) q.places in
     record { room = sound.room; free = omega (arith, fewer, sound.free); below = All-filter (λ p. not (is_place_of id p)) (λ (p : Place). p.id.0 < q.next) q.places sound.below }
@@ -158,7 +159,7 @@ module _ (a : Inside) (kept : IsCached a) (queue : QueueId) (id : PacketId) (at 
   can-fail f found = grind (arith, fewer-places)
 
   -- and is sound after it
-  pub sound-failed : (error : QueueError) (f : InFlight) → in_flight (start_of a) a.audit.items queue id ≡ Some f → IsSound (with_failure id error at.q)
+  pub sound-failed : (error : QueueError) (f : InFlight) → in_flight (start_of a) a.audit.items queue id ≡ Some f → IsSound (with_leaving (Some id) (leaving.Failed error) at.q)
   sound-failed error f found =
       let fewer = fewer-places f found in
       let longer = length-append at.q.errors.items (error ∷ []) in

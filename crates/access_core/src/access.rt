@@ -10,6 +10,7 @@ mod completing;
 mod granting;
 mod group_writes;
 mod host;
+mod leaving;
 mod lookups;
 mod opening;
 mod polling;

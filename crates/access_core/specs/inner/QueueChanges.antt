@@ -10,6 +10,8 @@ use Rattle.core_model.specs.declared.limits.TheConstants.{MOST_IN_FLIGHT}
 use Rattle.packet_processor.specs.declared.places.Place.{Place}
 use Rattle.packet_processor.specs.Queueing.{as_launched, with_progress, without_packet}
 use Rattle.sequences.specs.Room.{Roomy}
+use Rattle.access_core.specs.declared.access.leaving.Leaving.{Leaving}
+use Rattle.access_core.specs.declared.access.leaving.Leaving.TheVariants as leaving
 use Rattle.access_core.specs.declared.queue.Queue.{Queue}
 
 -- the queues with the one of a number changed
@@ -35,14 +37,11 @@ with_denied error q = record q { next = q.next + 1; errors = with_error q.errors
 abbrev pub with_advance : PacketId → Progress → Queue → Queue
 with_advance id so_far q = record q { places = map (with_progress id so_far) q.places }
 
-abbrev pub with_failure : PacketId → QueueError → Queue → Queue
-with_failure id error q = record q { errors = with_error q.errors error; places = without_packet id q.places }
-
-abbrev pub with_release : PacketId → Queue → Queue
-with_release id q = record q { places = without_packet id q.places }
-
-abbrev pub with_stop : Option PacketId → Queue → Queue
-with_stop barrier q = record q { stopped = true; places = without_one barrier q.places }
+-- a packet leaves it, if one is named: its place is free; where it failed there is an error more, or the queue is stopped
+abbrev pub with_leaving : Option PacketId → Leaving → Queue → Queue
+with_leaving id leaving.Completed q = record q { places = without_one id q.places }
+with_leaving id (leaving.Failed error) q = record q { errors = with_error q.errors error; places = without_one id q.places }
+with_leaving id leaving.Stopped q = record q { stopped = true; places = without_one id q.places }
 
 -- how many places it frees to take a packet out of flight
 abbrev pub places_freed : Option PacketId → List Place → ℕ
@@ -58,6 +57,11 @@ IsThere queues queue = (q : Queue) × (numbered queues queue.0 ≡ Some q)
 -- the queue is there, and has room for an error
 abbrev pub CanFail : List Queue → QueueId → Type 0
 CanFail queues queue = (q : Queue) × (numbered queues queue.0 ≡ Some q) × (0 < q.errors.room) × (q.next < 2 ^ 63)
+
+-- the queue is there, with room for an error where a packet leaves it that failed
+abbrev pub CanLeave : List Queue → QueueId → Leaving → Type 0
+CanLeave queues queue (leaving.Failed error) = CanFail queues queue
+CanLeave queues queue _ = IsThere queues queue
 
 -- the queue is there, and has a place for a packet
 abbrev pub CanLaunch : List Queue → QueueId → Type 0

@@ -1,25 +1,24 @@
 //! Packets in flight are found, completed and released.
 
 ghost use Rattle.core_model.specs.History.{beginning};
-ghost use Rattle.std.specs.Prelude.{◌≡◌, ◌-◌, Err, Some, IfErr, IfOk, fold, true, vec_capacity};
+ghost use Rattle.std.specs.Prelude.{◌≡◌, Err, IfErr, IfOk, fold, true};
 ghost use Rattle.core_model.specs.declared.entry.Effect.TheVariants as effect;
 ghost use Rattle.policy.specs.Policy.{region_lengths};
 ghost use Rattle.core_model.specs.Memory.{signals_after};
 ghost use Rattle.core_model.specs.Needs.{completion_signal};
 ghost use Rattle.core_model.specs.Owed.{completion_of, refuses, is_finished};
 ghost use Rattle.core_model.specs.Legal.{Meets, as_accepted, due};
-ghost use Rattle.access_core.specs.inner.QueueChanges.{IsThere, places_freed, freed_by, with_queue, with_release, without_one};
 ghost use Rattle.access_core.specs.inner.LiesInRegions.{lies_in_regions};
 ghost use Rattle.access_core.specs.inner.InPlace.{finish_owed, IsInPlace, IsSized, RefusedAt};
 
 use crate::access::host::change;
+use crate::access::leaving::{Leaving, leave_flight};
 use crate::access::lookups::queue_of;
 use crate::access::running_kernels::group_count;
 use crate::access::{AccessCore, enter};
-use crate::queue::Queue;
 use aql_packet::{Packet, PacketId, QueueId};
 use core_model::{Call, Effect, Effects, Event, Outcome, Refusal};
-use packet_processor::{Place, Places, completion_signal, is_ready};
+use packet_processor::{Place, completion_signal, is_ready};
 use signals::{SignalOp, Signals};
 
 impl AccessCore {
@@ -33,9 +32,15 @@ impl AccessCore {
     {
         let place = self.may_finish(queue, packet)?;
         let effects = complete(&mut self.signals, queue, packet, &place.packet);
-        self.flying -= release(&mut self.queues, queue, packet);
-        self.grants.release(queue, packet);
-        self.blocks.release(queue, packet);
+        leave_flight(
+            &mut self.queues,
+            &mut self.flying,
+            &mut self.grants,
+            &mut self.blocks,
+            queue,
+            Some(packet),
+            Leaving::Completed,
+        );
         let event = Event::Call(Call::Finish { queue, packet });
         enter(&mut self.audit, event, Outcome::Accepted, effects);
         Ok(())
@@ -71,32 +76,6 @@ impl AccessCore {
         match kept.places.get(packet) {
             Some(place) => Ok(*place),
             None => Err(Refusal::NotInFlight),
-        }
-    }
-}
-
-// Takes a packet out of flight, and answers how many places that frees.
-pub(crate) fn release(queues: &mut Vec<Queue>, queue: QueueId, packet: PacketId) -> usize
-    requires { IsThere queues.old.items queue }
-    ensures queues { queues.new.items ≡ with_queue queues.old.items queue (with_release packet) }
-    ensures freed { result ≡ freed_by (Some packet) queues.old.items queue }
-    ensures capacity { vec_capacity queues.new ≡ vec_capacity queues.old }
-{
-    let kept = &mut queues[queue.0 as usize - 1];
-    free_place(&mut kept.places, Some(packet))
-}
-
-// Takes a packet out of its place, if one is named, and answers how many places that frees.
-pub(crate) fn free_place(places: &mut Places, packet: Option<PacketId>) -> usize
-    ensures places { places.new ≡ without_one packet places.old }
-    ensures freed { result ≡ places_freed packet places.old }
-{
-    match packet {
-        None => 0,
-        Some(packet) => {
-            let before = places.len();
-            places.release(packet);
-            before - places.len()
         }
     }
 }

@@ -1,7 +1,7 @@
 //! Barrier packets in flight look at the signals that they depend on.
 
 ghost use Rattle.core_model.specs.History.{beginning};
-ghost use Rattle.std.specs.Prelude.{◌≡◌, Err, IfErr, IfOk, List, Ok, Some, is_some, map, vec_capacity};
+ghost use Rattle.std.specs.Prelude.{◌≡◌, Err, IfErr, IfOk, List, Ok, Some, is_some, map};
 ghost use Rattle.std.specs.List.{list_any, zip};
 ghost use Rattle.std.specs.Option.{IfSome};
 ghost use Rattle.core_model.specs.Flight.{satisfied_by_either};
@@ -11,14 +11,12 @@ ghost use Rattle.core_model.specs.Work.{is_negative, is_zero, signal_value};
 ghost use Rattle.core_model.specs.Owed.{enters, owed, owed_poll, refuses};
 ghost use Rattle.policy.specs.Results.{map_ok};
 ghost use Rattle.core_model.specs.Legal.{Meets, due};
-ghost use Rattle.access_core.specs.inner.QueueChanges.{CanFail, freed_by, with_failure, with_queue};
 ghost use Rattle.access_core.specs.inner.Polling.{look_owed, polled_as};
 ghost use Rattle.access_core.specs.inner.InPlace.{IsInPlace};
 
-use crate::access::completing::free_place;
+use crate::access::leaving::{Leaving, leave_flight};
 use crate::access::running::advance;
 use crate::access::{AccessCore, enter};
-use crate::queue::Queue;
 use aql_packet::{Packet, PacketId, QueueId, SignalHandle};
 use core_model::{
     Call, Effect, Effects, Event, NONE_SATISFIED, Outcome, Polled, Progress, Refusal, Satisfied,
@@ -96,9 +94,15 @@ impl AccessCore {
             rule: Rule::B1,
             place: None,
         };
-        self.flying -= fail_packet(&mut self.queues, queue, packet, error);
-        self.grants.release(queue, packet);
-        self.blocks.release(queue, packet);
+        leave_flight(
+            &mut self.queues,
+            &mut self.flying,
+            &mut self.grants,
+            &mut self.blocks,
+            queue,
+            Some(packet),
+            Leaving::Failed(error),
+        );
         let told = Polled::Failed(error);
         let event = Event::Call(Call::Poll { queue, packet });
         let effects = Effects::one(Effect::Release { queue, packet });
@@ -256,22 +260,4 @@ fn polled_as(ready: bool, new: Satisfied) -> Polled
     } else {
         Polled::Pending(new)
     }
-}
-
-// Puts an error behind the others of a queue, takes a packet of it out of flight, and answers how many
-// places that frees.
-pub(crate) fn fail_packet(
-    queues: &mut Vec<Queue>,
-    queue: QueueId,
-    packet: PacketId,
-    error: QueueError,
-) -> usize
-    requires { CanFail queues.old.items queue }
-    ensures queues { queues.new.items ≡ with_queue queues.old.items queue (with_failure packet error) }
-    ensures freed { result ≡ freed_by (Some packet) queues.old.items queue }
-    ensures capacity { vec_capacity queues.new ≡ vec_capacity queues.old }
-{
-    let kept = &mut queues[queue.0 as usize - 1];
-    kept.errors.push(error);
-    free_place(&mut kept.places, Some(packet))
 }

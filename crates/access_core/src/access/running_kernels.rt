@@ -16,7 +16,7 @@ ghost use Rattle.core_model.specs.Work.{group_count};
 ghost use Rattle.access_core.specs.inner.InPlace.{IsInPlace};
 ghost use Rattle.access_core.specs.inner.Running.{FaultsAs, fault_owed, next_result};
 
-use crate::access::polling::fail_packet;
+use crate::access::leaving::{Leaving, leave_flight};
 use crate::access::{AccessCore, enter};
 use crate::kernel::kernel_at;
 use aql_packet::{KernelDispatch, PacketId, QueueId};
@@ -116,9 +116,15 @@ impl AccessCore {
                 address: fault.address,
             }),
         };
-        self.flying -= fail_packet(&mut self.queues, queue, packet, error);
-        self.grants.release(queue, packet);
-        self.blocks.release(queue, packet);
+        leave_flight(
+            &mut self.queues,
+            &mut self.flying,
+            &mut self.grants,
+            &mut self.blocks,
+            queue,
+            Some(packet),
+            Leaving::Failed(error),
+        );
         let worked = Worked::Faulted(error);
         let event = Event::Call(Call::RunNext { queue, packet });
         let effects = Effects::one(Effect::Release { queue, packet });

@@ -1,6 +1,7 @@
 -- What is kept moves along with the failure, which always finds room: a packet leaves flight for its entry.
-use Rattle.std.proofs.Common.{arith, ◌++◌, refl, [], ◌∷◌, ap, map, ◌∙◌}
-use Rattle.access_core.proofs.Terms.{B1, Call, Failed, PacketId, Poll, QueueId, QueueView, error_places, error_without_place, start_of, with_failure, without_packet}
+use Rattle.std.proofs.Common.{arith, ◌++◌, refl, [], ◌∷◌, ap, map, ◌∙◌, Some}
+use Rattle.access_core.proofs.Terms.{B1, Call, Failed, PacketId, Poll, QueueId, QueueView, error_places, error_without_place, start_of, with_leaving, without_packet}
+use Rattle.access_core.specs.declared.access.leaving.Leaving.TheVariants as leaving
 use Rattle.access_core.proofs.Places.{failed-places, places-kept}
 use Rattle.access_core.proofs.ChangedQueue.{errors-changed}
 use Rattle.access_core.proofs.Seen.{seen}
@@ -16,15 +17,14 @@ use Rattle.access_core.proofs.access.AccessCore.fail.Goals as goal
 abbrev failed : QueueId → PacketId → QueueView → QueueView
 failed queue id v = record v { errors = v.errors ++ error_without_place queue id.0 B1 ∷ []; places = without_packet id v.places }
 
-pub fail_packet-requires : goal.fail_packet-requires
-fail_packet-requires = grind (arith, can-fail, is-open)
+pub leave_flight-requires-clause-there : goal.leave_flight-requires-clause-there
+leave_flight-requires-clause-there = grind (arith, can-fail, is-open)
 
-pub overflow_sub-self : goal.overflow_sub-self
-overflow_sub-self c =
+pub leave_flight-requires-clause-counted : goal.leave_flight-requires-clause-counted
+leave_flight-requires-clause-counted c =
     let a = c.self.inside in
     let at = open-of a c.self.invariant _ (seen c.self.view_is) c.args.queue c.args.packet c.args.place c.requires.found in
-    let below = freed-below a c.self.invariant c.args.queue c.args.packet at in
-    rw c.fail_packet.ensures.freed below
+    freed-below a c.self.invariant c.args.queue c.args.packet at
 
 pub invariant_of-self : goal.invariant_of-self
 invariant_of-self c =
@@ -38,11 +38,11 @@ invariant_of-self c =
       same = ((refl, refl, refl), refl);
       audit = rw c.one-effects.ensures at c.enter.ensures;
       grants = grants-released a c.self.invariant _ _ _ refl (λ client on right b. refl) (λ rows. refl) _ _ c.args.queue c.args.packet is.drops
-          (flight-released (start_of a) a.audit.items _ _ _ c.args.queue c.args.packet is) c.release.ensures c.release-2.ensures.rest;
+          (flight-released (start_of a) a.audit.items _ _ _ c.args.queue c.args.packet is) c.leave_flight.ensures.released c.leave_flight.ensures.dropped;
       memory = memory-still a.memory _ (λ x byte. refl);
       values = refl;
-      queues = rw (c.fail_packet.ensures.queues, c.fail_packet.ensures.freed)
-          (queues-released a c.self.invariant c.args.queue c.args.packet _ _ _ is refl at (with_failure c.args.packet (error_without_place c.args.queue c.args.packet.0 B1))
+      queues = rw (c.leave_flight.ensures.queues, c.leave_flight.ensures.flying)
+          (queues-released a c.self.invariant c.args.queue c.args.packet _ _ _ is refl at (with_leaving (Some c.args.packet) (leaving.Failed (error_without_place c.args.queue c.args.packet.0 B1)))
           (failed c.args.queue c.args.packet)
           refl (sound-failed a c.self.invariant c.args.queue c.args.packet at (error_without_place c.args.queue c.args.packet.0 B1) found.flying found.found) refl (λ m v. grind arith));
     })
@@ -54,7 +54,7 @@ returns-clause-places c =
     let error = error_without_place c.args.queue c.args.packet.0 B1 in
     let found = place-inside a _ (seen c.self.view_is) c.args.queue c.args.packet c.args.place c.requires.found in
     let can = can-fail a c.self.invariant c.args.queue c.args.packet (is-open a c.self.invariant c.args.queue found.opening found.owner_is) found.flying found.found in
-    places-kept a _ c.self.view_is c.fail_packet.new.queues c.release.new.self c.release-2.new.self c.enter.new.audit _ c.fail_packet.ensures.capacity
-    (ap (map error_places) c.fail_packet.ensures.queues ∙ errors-changed a.queues.items c.args.queue (with_failure c.args.packet error) can.0 can.1
+    places-kept a _ c.self.view_is c.leave_flight.new.queues c.leave_flight.new.grants c.leave_flight.new.blocks c.enter.new.audit _ c.leave_flight.ensures.capacity
+    (ap (map error_places) c.leave_flight.ensures.queues ∙ errors-changed a.queues.items c.args.queue (with_leaving (Some c.args.packet) (leaving.Failed error)) can.0 can.1
     (failed-places can.0 c.args.packet error can.2))
-    c.release.ensures.same_places c.release-2.ensures.places c.enter.ensures
+    c.leave_flight.ensures.places c.leave_flight.ensures.block_places c.enter.ensures

@@ -1,6 +1,7 @@
 -- What is kept moves along with the completion, which always finds room: a packet leaves flight for its entry.
-use Rattle.std.proofs.Common.{arith, refl, ap, map, ◌∙◌}
-use Rattle.access_core.proofs.Terms.{Call, Finish, completion_of, completion_signal, error_places, start_of, with_release, without_packet}
+use Rattle.std.proofs.Common.{arith, refl, ap, map, Some, ◌∙◌}
+use Rattle.access_core.proofs.Terms.{Call, Finish, completion_of, completion_signal, error_places, start_of, with_leaving, without_packet}
+use Rattle.access_core.specs.declared.access.leaving.Leaving.TheVariants as leaving
 use Rattle.access_core.proofs.Places.{places-kept}
 use Rattle.access_core.proofs.ChangedQueue.{errors-changed}
 use Rattle.access_core.proofs.Seen.{seen}
@@ -12,14 +13,17 @@ use Rattle.access_core.proofs.WorkLemmas.{finish-releases, freed-below, memory-c
 use Rattle.core_model.specs.declared.outcome.Outcome.TheVariants as outcome
 use Rattle.access_core.proofs.access.AccessCore.finish.Goals as goal
 
-pub release-requires : goal.release-requires
-release-requires c =
+pub leave_flight-requires-clause-there : goal.leave_flight-requires-clause-there
+leave_flight-requires-clause-there c =
     let a = c.self.inside in
     let at = open-of a c.self.invariant _ (seen c.self.view_is) c.args.queue c.args.packet c.in_ok-place.place c.in_ok-place.ensures.found in
     (at.q, at.found)
 
-pub overflow_sub-self : goal.overflow_sub-self
-overflow_sub-self = grind (arith, open-of, freed-below)
+pub leave_flight-requires-clause-counted : goal.leave_flight-requires-clause-counted
+leave_flight-requires-clause-counted c =
+    let a = c.self.inside in
+    freed-below a c.self.invariant c.args.queue c.args.packet
+    (open-of a c.self.invariant _ (seen c.self.view_is) c.args.queue c.args.packet c.in_ok-place.place c.in_ok-place.ensures.found)
 
 pub invariant_of-self : goal.invariant_of-self
 invariant_of-self c =
@@ -32,11 +36,11 @@ invariant_of-self c =
       same = ((refl, refl, refl), refl);
       audit = rw c.complete-effects.ensures.effects at c.enter.ensures;
       grants = grants-released a c.self.invariant _ _ _ refl (λ client on right b. refl) (λ rows. refl) _ _ c.args.queue c.args.packet is.drops
-          (flight-released (start_of a) a.audit.items _ _ _ c.args.queue c.args.packet is) c.release-2.ensures c.release-3.ensures.rest;
+          (flight-released (start_of a) a.audit.items _ _ _ c.args.queue c.args.packet is) c.leave_flight.ensures.released c.leave_flight.ensures.dropped;
       memory = memory-still a.memory _ (λ x byte. memory-completed a.signals (completion_signal p) c.args.queue c.args.packet x byte);
       values = rw c.complete-effects.ensures.effects at c.complete-effects.ensures.values;
-      queues = rw (c.release.ensures.queues, c.release.ensures.freed)
-          (queues-released a c.self.invariant c.args.queue c.args.packet _ _ _ is refl at (with_release c.args.packet) (λ v. record v { places = without_packet c.args.packet v.places })
+      queues = rw (c.leave_flight.ensures.queues, c.leave_flight.ensures.flying)
+          (queues-released a c.self.invariant c.args.queue c.args.packet _ _ _ is refl at (with_leaving (Some c.args.packet) leaving.Completed) (λ v. record v { places = without_packet c.args.packet v.places })
           refl (sound-released at.q c.args.packet at.sound) refl (λ m v. grind arith));
     })
     _ (seen c.self.view_is) (finish-due a c.self.invariant _ (seen c.self.view_is) _ c.args.queue c.args.packet p c.in_ok-place.ensures.may)
@@ -45,6 +49,6 @@ pub returns-clause-places : goal.returns-clause-places
 returns-clause-places c =
     let a = c.self.inside in
     let at = open-of a c.self.invariant _ (seen c.self.view_is) c.args.queue c.args.packet c.in_ok-place.place c.in_ok-place.ensures.found in
-    places-kept a _ c.self.view_is c.release.new.queues c.release-2.new.self c.release-3.new.self c.enter.new.audit _ c.release.ensures.capacity
-    (ap (map error_places) c.release.ensures.queues ∙ errors-changed a.queues.items c.args.queue (with_release c.args.packet) at.q at.found refl)
-    c.release-2.ensures.same_places c.release-3.ensures.places c.enter.ensures
+    places-kept a _ c.self.view_is c.leave_flight.new.queues c.leave_flight.new.grants c.leave_flight.new.blocks c.enter.new.audit _ c.leave_flight.ensures.capacity
+    (ap (map error_places) c.leave_flight.ensures.queues ∙ errors-changed a.queues.items c.args.queue (with_leaving (Some c.args.packet) leaving.Completed) at.q at.found refl)
+    c.leave_flight.ensures.places c.leave_flight.ensures.block_places c.enter.ensures

@@ -1,6 +1,7 @@
 -- What is cached follows the stop.
 use Rattle.std.proofs.Common.{refl, sym, ap, map, ◌∙◌, arith}
-use Rattle.access_core.proofs.Terms.{Call, Stop, error_places, release_of, with_stop}
+use Rattle.access_core.proofs.Terms.{Call, Stop, error_places, release_of, with_leaving}
+use Rattle.access_core.specs.declared.access.leaving.Leaving.TheVariants as leaving
 use Rattle.access_core.proofs.Places.{places-kept}
 use Rattle.access_core.proofs.ChangedQueue.{errors-changed}
 use Rattle.access_core.proofs.Seen.{seen}
@@ -9,11 +10,11 @@ use Rattle.access_core.proofs.StopLemmas.{freed-stopped, grants-stopped, memory-
 use Rattle.core_model.specs.declared.outcome.Outcome.TheVariants as outcome
 use Rattle.access_core.proofs.access.AccessCore.stop.Goals as goal
 
-pub mark_stopped-requires : goal.mark_stopped-requires
-mark_stopped-requires = grind (arith, stop-open)
+pub leave_flight-requires-clause-there : goal.leave_flight-requires-clause-there
+leave_flight-requires-clause-there = grind (arith, stop-open)
 
-pub overflow_sub-self : goal.overflow_sub-self
-overflow_sub-self = grind (arith, stop-open, freed-stopped)
+pub leave_flight-requires-clause-counted : goal.leave_flight-requires-clause-counted
+leave_flight-requires-clause-counted = grind (arith, stop-open, freed-stopped)
 
 pub invariant_of-self : goal.invariant_of-self
 invariant_of-self c =
@@ -23,12 +24,12 @@ invariant_of-self c =
     IsCached-more a _ (Call (Stop c.args.queue)) outcome.Accepted (release_of c.args.queue barrier) c.self.invariant
     (record {
       same = ((refl, refl, refl), refl);
-      audit = rw c.release_barrier-effects.ensures.effects at c.enter.ensures;
-      grants = grants-stopped a c.self.invariant c.args.queue barrier _ _ c.release_barrier-effects.ensures.released c.release_barrier-effects.ensures.dropped c.release_barrier-effects.ensures.same
-          c.release_barrier-effects.ensures.same_blocks;
+      audit = rw c.release_of-effects.ensures at c.enter.ensures;
+      grants = grants-stopped a c.self.invariant c.args.queue barrier _ _ c.leave_flight.ensures.released c.leave_flight.ensures.dropped c.leave_flight.ensures.same
+          c.leave_flight.ensures.same_blocks;
       memory = memory-still a.memory _ (λ x byte. memory-released c.args.queue barrier x byte);
       values = sym (values-released c.args.queue barrier a.signals);
-      queues = rw (c.mark_stopped.ensures.queues, c.mark_stopped.ensures.freed) (queues-stopped a c.self.invariant c.args.queue at barrier);
+      queues = rw (c.leave_flight.ensures.queues, c.leave_flight.ensures.flying) (queues-stopped a c.self.invariant c.args.queue at barrier);
     })
     _ (seen c.self.view_is) c.in_ok-barrier.ensures.may
 
@@ -37,6 +38,6 @@ returns-clause-places c =
     let a = c.self.inside in
     let barrier = c.in_ok-barrier.barrier in
     let at = stop-open a c.self.invariant c.args.queue _ _ (owed-inside a c.self.invariant _ (seen c.self.view_is) _ _ _ c.in_ok-barrier.ensures.may) in
-    places-kept a _ c.self.view_is c.mark_stopped.new.queues c.release_barrier-effects.new.grants c.release_barrier-effects.new.blocks c.enter.new.audit _ c.mark_stopped.ensures.capacity
-    (ap (map error_places) c.mark_stopped.ensures.queues ∙ errors-changed a.queues.items c.args.queue (with_stop barrier) at.q at.found refl)
-    c.release_barrier-effects.ensures.places c.release_barrier-effects.ensures.block_places c.enter.ensures
+    places-kept a _ c.self.view_is c.leave_flight.new.queues c.leave_flight.new.grants c.leave_flight.new.blocks c.enter.new.audit _ c.leave_flight.ensures.capacity
+    (ap (map error_places) c.leave_flight.ensures.queues ∙ errors-changed a.queues.items c.args.queue (with_leaving barrier leaving.Stopped) at.q at.found refl)
+    c.leave_flight.ensures.places c.leave_flight.ensures.block_places c.enter.ensures
