@@ -1,5 +1,5 @@
 -- A call that takes no memory leaves the places of the tables as they are.
-use Rattle.std.proofs.Common.{◌≡◌, ◌<◌, length-append, map, arith, vec_capacity}
+use Rattle.std.proofs.Common.{Some, ◌≡◌, ◌<◌, length-append, map, arith, vec_capacity}
 use Rattle.std.specs.Global.{Vec}
 use Rattle.access_core.proofs.Terms.{ArgumentBlock, Core, Entry, Inside, IsEntered, Ledger, PacketId, Queue, QueueError, Roomy, core_of, error_places, places_of, table_places}
 use Rattle.access_core.proofs.Terms.{with_leaving}
