@@ -123,16 +123,17 @@ pub fn open_broker<R: Wait>(
 // Settles it, if a part was handed out.
 fn finish_rotated(
     alloc: Global,
-    rotated: (Stage, Result<Part, Refusal>),
+    stage: Stage,
+    rotated: Result<Part, Refusal>,
     gate: &LoadGate,
 ) -> Result<Ended, LoadFault>
-    requires stage { IsStage rotated.0 }
-    requires part { IfOk rotated.1 IsSomeLegalPart }
+    requires stage { IsStage stage }
+    requires part { IfOk rotated IsSomeLegalPart }
     ensures { IfOk result EndsLoad }
 {
     match rotated {
-        (stage, Ok(part)) => finish(alloc, stage, part, gate),
-        (_, Err(why)) => Err(LoadFault::from(why)),
+        Ok(part) => finish(alloc, stage, part, gate),
+        Err(why) => Err(LoadFault::from(why)),
     }
 }
 
@@ -148,11 +149,10 @@ fn run_over<R: Threads + Wait + Sync>(
     ensures { IfOk result EndsLoad }
 {
     match open_stage(alloc, broker, plan, producers) {
-        Ok(stage) => finish_rotated(
-            alloc,
-            run_rotated(rt, alloc, stage, plan, PACKETS, gate),
-            gate,
-        ),
+        Ok(stage) => {
+            let (stage, rotated) = run_rotated(rt, alloc, stage, plan, PACKETS, gate);
+            finish_rotated(alloc, stage, rotated, gate)
+        }
         Err(why) => Err(why),
     }
 }
