@@ -131,8 +131,10 @@ impl From<LoadFault> for Fault {
     fn from(fault: LoadFault) -> Fault {
         match fault {
             LoadFault::OutOfMemory => Fault::OutOfMemory,
-            LoadFault::Opening(_) | LoadFault::Refused(_) | LoadFault::MissingPass =>
-                Fault::Unsettled,
+            LoadFault::Opening(_)
+            | LoadFault::Refused(_)
+            | LoadFault::MissingPass
+            | LoadFault::NotNext => Fault::Unsettled,
         }
     }
 }

@@ -188,23 +188,28 @@ fn is_not_done(reply: &LineReply) -> bool {
     }
 }
 
-// The part that an answer hands out, if it does.
-fn part_in(answer: LineAnswer) -> Option<Part> {
+// What the world answered, if a line asked it.
+fn answered_in(answer: LineAnswer) -> Option<world::Answer> {
     match answer {
-        LineAnswer::Answered { answer, .. } => match answer {
-            world::Answer::Rotated(part) => Some(part),
-            _other => None,
-        },
+        LineAnswer::Answered { answer, .. } => Some(answer),
         _other => None,
     }
 }
 
-// The part that a reply hands out, if it does.
-fn part_of(reply: LineReply) -> Option<Part> {
-    match reply {
-        Ok(answer) => part_in(answer),
-        Err(_why) => None,
+// The part that an answer hands out, if it does.
+fn rotated_in(answer: world::Answer) -> Option<Part> {
+    match answer {
+        world::Answer::Rotated(part) => Some(part),
+        _other => None,
     }
+}
+
+// The part that a reply hands out, if it does. In three steps: a match in a match on what is moved takes the check
+// many minutes.
+fn part_of(reply: LineReply) -> Option<Part> {
+    let answer = reply.ok()?;
+    let answered = answered_in(answer)?;
+    rotated_in(answered)
 }
 
 /// A run that tells: what it keeps between bytes.
