@@ -38,21 +38,30 @@ fn counts(part: &Part) -> (u64, usize) {
     (part.start().before, part.entries().len())
 }
 
-/// Whether the two are one of three entries in their order, and come back as they were in the other.
-fn joins_in_order(alloc: Global, first: Part, second: Part) -> bool {
-    match joined(alloc, second, first) {
-        Ok(_) => false,
-        Err(NotJoined { why, first, second }) => {
-            let back = why == JoinFault::NotNext
-                && why.number() == 1
-                && counts(&first) == (1, 2)
-                && counts(&second) == (0, 1);
-            match joined(alloc, second, first) {
-                Ok(both) => back && counts(&both) == (0, 3) && both.end().before == 3,
-                Err(_) => false,
-            }
-        }
+/// Whether two parts came back as they were, told that the one isn't next.
+fn is_back(refused: &NotJoined) -> bool {
+    refused.why == JoinFault::NotNext
+        && refused.why.number() == 1
+        && counts(&refused.first) == (1, 2)
+        && counts(&refused.second) == (0, 1)
+}
+
+/// Whether a part is there that has all three entries.
+fn has_all(both: &Option<Part>) -> bool {
+    match both {
+        Some(both) => counts(both) == (0, 3) && both.end().before == 3,
+        None => false,
     }
+}
+
+/// Whether the two come back in the other order, and are one in their own.
+fn joins_in_order(alloc: Global, first: Part, second: Part) -> bool {
+    let Some(refused) = joined(alloc, second, first).err() else {
+        return false;
+    };
+    let is_back = is_back(&refused);
+    let NotJoined { first, second, .. } = refused;
+    is_back && has_all(&joined(alloc, second, first).ok())
 }
 
 #[test]
