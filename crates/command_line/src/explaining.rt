@@ -4,7 +4,7 @@ use crate::further::Manner;
 use access_core::{Kernel, OpenFault};
 use commands::{Failure, KernelError, PolicyText, Status, check_kernels, check_policy};
 use core_model::{Answer, Outcome, Part, Polled, Taken, Worked};
-use explain::{asked_by, bad_line, kernel_fault, no_entry, policy_fault, retold};
+use explain::{Asked, asked_by, bad_line, kernel_fault, no_entry, policy_fault, retold};
 use policy::{Policy, ReadPolicyError, read_policy};
 use script::{Command, LONGEST_LINE, Line, LineAnswer, LineReply, perform, read_line, write_line};
 use std::alloc::{AllocError, AllocFailed, Global};
@@ -254,6 +254,35 @@ impl Telling {
         Ok(())
     }
 
+    // Tells of a line's reply: the reply itself, and why it is as it is.
+    fn tell_reply<O: io::Write, E: io::Write>(
+        &mut self,
+        world: &World,
+        asked: Asked,
+        reply: &LineReply,
+        out: &mut O,
+        err: &mut E,
+    ) -> Result<(), End> {
+        let mut text = String::new(self.alloc);
+        write_line(&mut text, world.policy(), reply)?;
+        self.replies.push_str(text.as_str())?;
+        let told = retold(
+            self.alloc,
+            world,
+            self.handed_out.as_slice(),
+            self.number,
+            asked,
+            reply,
+        );
+        if let Ok(told) = told {
+            self.explain(told.as_str(), out, err)?;
+        }
+        if self.is_strict && is_not_done(reply) {
+            return Err(End::NotDone);
+        }
+        Ok(())
+    }
+
     // Does what a line asks, and tells of its reply.
     fn serve<O: io::Write, E: io::Write>(
         &mut self,
@@ -265,24 +294,10 @@ impl Telling {
     ) -> Result<(), End> {
         let asked = asked_by(&command);
         let reply = perform(self.alloc, world, later, command);
-        let mut text = String::new(self.alloc);
-        write_line(&mut text, world.policy(), &reply)?;
-        self.replies.push_str(text.as_str())?;
-        let told = retold(
-            self.alloc,
-            world,
-            self.handed_out.as_slice(),
-            self.number,
-            asked,
-            &reply,
-        );
-        if let Ok(told) = told {
-            self.explain(told.as_str(), out, err)?;
-        }
-        if self.is_strict && is_not_done(&reply) {
-            return Err(End::NotDone);
-        }
-        self.keep(reply)
+        let told = self.tell_reply(world, asked, &reply, out, err);
+        let kept = self.keep(reply);
+        told?;
+        kept
     }
 
     // Keeps the part that a reply hands out, if it does.
