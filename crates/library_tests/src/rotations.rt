@@ -16,14 +16,19 @@ fn rotated(alloc: Global, core: &mut AccessCore) -> Option<Part> {
     core.rotate(alloc).ok()
 }
 
-/// A part of one grant, and the next one, of two.
-fn two_parts(alloc: Global, core: &mut AccessCore) -> Option<(Part, Part)> {
-    if !grants(core, AGENT, Rights::USE) {
-        return None;
+/// A part of one grant.
+fn first_part(alloc: Global, core: &mut AccessCore) -> Option<Part> {
+    if grants(core, AGENT, Rights::USE) {
+        rotated(alloc, core)
+    } else {
+        None
     }
-    let first = rotated(alloc, core)?;
-    if grants(core, REGION, Rights::READ) && grants(core, REGION, Rights::WRITE) {
-        Some((first, rotated(alloc, core)?))
+}
+
+/// The next one, of two.
+fn second_part(alloc: Global, core: &mut AccessCore) -> Option<Part> {
+    if grants(core, REGION, Rights::READ) & grants(core, REGION, Rights::WRITE) {
+        rotated(alloc, core)
     } else {
         None
     }
@@ -54,23 +59,45 @@ fn has_all(both: &Option<Part>) -> bool {
     }
 }
 
+fn refused(alloc: Global, first: Part, second: Part) -> Option<NotJoined> {
+    joined(alloc, first, second).err()
+}
+
+/// The parts that weren't joined, in the other order.
+fn joined_again(alloc: Global, refused: NotJoined) -> Option<Part> {
+    joined(alloc, refused.second, refused.first).ok()
+}
+
 /// Whether the two come back in the other order, and are one in their own.
-fn joins_in_order(alloc: Global, first: Part, second: Part) -> bool {
-    let Some(refused) = joined(alloc, second, first).err() else {
-        return false;
-    };
-    let is_back = is_back(&refused);
-    let NotJoined { first, second, .. } = refused;
-    is_back && has_all(&joined(alloc, second, first).ok())
+fn join_in_order(alloc: Global, first: Part, second: Part) -> bool {
+    match refused(alloc, second, first) {
+        None => false,
+        Some(refused) => is_back(&refused) & has_all(&joined_again(alloc, refused)),
+    }
+}
+
+/// Whether the next part is joined to this one alone.
+fn joins_next(alloc: Global, core: &mut AccessCore, first: Part) -> bool {
+    match second_part(alloc, core) {
+        None => false,
+        Some(second) => join_in_order(alloc, first, second),
+    }
+}
+
+/// Whether two parts of a core are joined in their order.
+fn joins_two(alloc: Global, core: &mut AccessCore) -> bool {
+    match first_part(alloc, core) {
+        None => false,
+        Some(first) => joins_next(alloc, core, first),
+    }
+}
+
+fn joins_fresh(alloc: Global, mut core: AccessCore) -> bool {
+    joins_two(alloc, &mut core)
 }
 
 #[test]
 fn parts_are_joined_in_their_order(rt: HostRuntime) -> Result<(), Fail> {
-    let mut core = fresh(rt.alloc())?;
-    let is_so = match two_parts(rt.alloc(), &mut core) {
-        Some((first, second)) => joins_in_order(rt.alloc(), first, second),
-        None => false,
-    };
-    assert!(rt; is_so);
+    assert!(rt; joins_fresh(rt.alloc(), fresh(rt.alloc())?));
     Ok(())
 }
