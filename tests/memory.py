@@ -93,7 +93,11 @@ class TextTrial:
             self.found["refused"] += 1
             return self.is_refused(ended)
         self.found["ended"] += 1
-        return starves(ended, self.whole)
+        return None if self.is_unsettled(ended) else starves(ended, self.whole)
+
+    def is_unsettled(self, ended):
+        """Whether a load ended with a producer that gave up, as it does where its reservation wants memory."""
+        return self.row.form == "threads" and (ended.status, ended.err) == (1, b"") and ended.out.endswith(b"unsettled\n")
 
     def is_refused(self, ended):
         """What is wrong with the end of a strict run behind a line that was refused for want of memory."""
@@ -106,8 +110,8 @@ class TextTrial:
     def from_then_on(self, at):
         ended = self.memory.run(self.row.words, self.given, at, True)
         # (threads that were begun may have what they need, or try again and again in vain)
-        is_over = self.row.form == "threads" and (ended == self.whole or (ended.status == 1 and ended.out.endswith(b"unsettled\n")))
-        return None if is_over else starves(ended, self.whole)
+        is_over = self.row.form == "threads" and ended == self.whole
+        return None if is_over or self.is_unsettled(ended) else starves(ended, self.whole)
 
     def note(self):
         refused = f"{self.found['refused']} refused, " if self.row.form in ("strict", "picture") else ""
