@@ -6,7 +6,7 @@ import subprocess
 import sys
 import tempfile
 
-from trial import BARRIER, FILL, KERNEL, PRELUDE, SAMPLE, TOP, Trials, run, text
+from trial import BARRIER, FILL, KERNEL, PRELUDE, SAMPLE, TOP, Trials, library_of, run, text
 
 DATA = f"{TOP}/crates/cases/data"
 ZEROS = "0" * 16
@@ -159,6 +159,21 @@ POLICIES = [
     ("check", b"[[kernel]]\nname = \"k\"\nentry = \"&k\"\ntext = '''\nmodule &m:1:0:$base:$large:$default;\nkernel &k() {\n  br @x;\n};\n'''\n", ["kernel k, in its text:", "check 1 line 3", "br @x;"]),
 ]
 
+# Kernels' texts that are refused, one of each cause: where its line 3 stands, or the whole text, and what is told.
+KERNELS = [
+    ("read 1 Lexeme", "  mov_b32 $s0, #;", ["read 1 line 3 column 16", "mov_b32 $s0, #;", "^"]),
+    ("read 2 Syntax", "  mov_b32 $s0 1;", ["read 2 line 3 column 15", "mov_b32 $s0 1;", "^"]),
+    ("read 3 NotInProfile", "  ld_global_f32 $s0, [$d0];", ["read 3 line 3 column 3", "ld_global_f32 $s0, [$d0];", "^^^^^^^^^^^^^"]),
+    ("read 4 TooLong", "/*" + "x" * (1 << 16) + "*/", ["read 4 line 1 column 1"]),
+    ("check 1 UnknownLabel", "  br @x;", ["check 1 line 3", "br @x;"]),
+    ("check 2 DoubleName", "@x: @x: ret;", ["check 2 line 3", "@x: @x: ret;"]),
+    ("check 3 WrongRegister", "  mov_b64 $s0, 1;", ["check 3 line 3", "mov_b64 $s0, 1;"]),
+    ("check 4 WrongType", "  ld_kernarg_u64 $d0, [%a];", ["check 4 line 3", "ld_kernarg_u64 $d0, [%a];"]),
+    ("check 5 UnknownArgument", "  ld_kernarg_u32 $s0, [%q];", ["check 5 line 3", "ld_kernarg_u32 $s0, [%q];"]),
+    ("check 6 TooLarge", "  mov_b32 $s64, 1;", ["check 6 line 3", "mov_b32 $s64, 1;"]),
+    ("check 7 BadAddress", "  ld_global_u32 $s0, [$s1];", ["check 7 line 3", "ld_global_u32 $s0, [$s1];"]),
+]
+
 
 def access_policy(line, body=None):
     """A policy whose kernel has this line, as line 8 of its text."""
@@ -251,7 +266,34 @@ def policies(trials, explained, room):
                 return wrong
         return None
 
-    trials.every("each cause of a policy's and a kernel's fault is told", trial, POLICIES)
+    trials.every("each cause of a policy's fault is told", trial, POLICIES)
+
+    def kernel(it):
+        name, line, words = it
+        body = f"module &m:1:0:$base:$large:$default;\nkernel &k(kernarg_u32 %a) {{\n{line}\n}};\n"
+        return trial((name, f"[[kernel]]\nname = \"k\"\nentry = \"&k\"\ntext = '''\n{body}'''\n".encode(), ["kernel k, in its text:", *words]))
+
+    trials.every("each cause of a kernel's fault is told", kernel, KERNELS)
+
+    def others(_):
+        path = f"{room}/others.toml"
+        with open(path, "w") as file:
+            file.write('[[client]]\nname = "carol"\n')
+        ended = run([explained.program, "run", SAMPLE, path, "--explain"], text(["reload 1"]))
+        told = b"declares other clients or objects than the first" in ended.err
+        return None if ended.out == b"refused 16 OtherObjects\n" and told else f"{ended}"
+
+    trials.every("a policy that declares others is told", others, [0])
+
+    def starved(_):
+        library = library_of("refuse.c", room)
+        for at in range(1, 1000):
+            ended = run([explained.program, "run", SAMPLE, "--explain"], text([*PRELUDE, "read alice 0000000100000000 8"]), {"LD_PRELOAD": library, "REFUSE_AT": str(at)})
+            if ended.out.endswith(b"refused 0 OutOfMemory\n") and b"line 8: memory was wanted and not to be had; all is as before" in ended.err:
+                return None
+        return "no request of a read was refused, and told of"
+
+    trials.every("want of memory is told", starved, [0])
     missing = f"{room}/nothing.toml"
 
     def unread(command):
