@@ -1,15 +1,13 @@
 #!/usr/bin/env python3
 """Pictures of runs, held against the audits of the same runs: picture.py PROGRAM"""
-import os
 import random
 import re
 import subprocess
-import sys
 import tempfile
 import xml.etree.ElementTree as xml
 
 from memory import NO_MEMORY, Memory
-from trial import BARRIER, FILL, HERE, KERNEL, PRELUDE, SAMPLE, TOP, Ended, Trials, run, text
+from trial import BARRIER, FILL, HERE, KERNEL, PRELUDE, SAMPLE, TOP, Ended, Trials, program_given, run, text
 
 SVG = "{http://www.w3.org/2000/svg}"
 MARGIN, STEP, MARK = 120, 26, 12
@@ -211,10 +209,7 @@ def starved(trials, program, room):
 
 
 def main():
-    if len(sys.argv) != 2:
-        print("usage: picture.py PROGRAM", file=sys.stderr)
-        sys.exit(2)
-    program = os.path.abspath(sys.argv[1])
+    program = program_given()
     trials = Trials("pictures")
     pages(trials, program)
     with tempfile.TemporaryDirectory(prefix="picture-") as room:

@@ -5,10 +5,8 @@ All other replies are the same, and what is handed out, in order, with the audit
 without rotations: no entry is lost, told twice or numbered anew.
 """
 import glob
-import os
-import sys
 
-from trial import BARRIER, FILL, KERNEL, PRELUDE, SAMPLE, TOP, Trials, blocks, run, text
+from trial import BARRIER, FILL, KERNEL, PRELUDE, SAMPLE, TOP, Trials, blocks, program_given, run, text
 
 TRIED = {
     "fills in both slots": [*PRELUDE, f"submit 1 1 {FILL}", f"submit 1 2 {FILL}", "serve 1", "serve 1", "run 1 0", "finish 1 0", "run 1 1", "finish 1 1", "serve 1"],
@@ -54,10 +52,7 @@ def examples():
 
 
 def main():
-    if len(sys.argv) != 2:
-        print("usage: rotation.py PROGRAM", file=sys.stderr)
-        sys.exit(2)
-    program = os.path.abspath(sys.argv[1])
+    program = program_given()
     trials = Trials("rotations")
     scripts = [*TRIED.values(), *(script for script in examples() if replies(program, script))]
     for every in (1, 2, 3, 5):

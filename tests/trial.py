@@ -38,6 +38,14 @@ class Ended:
         return f"status {self.status}, {self.out[-300:]!r}, {self.err[-300:]!r}"
 
 
+def program_given():
+    """The program that a script's one word names; without it the script ends with its usage."""
+    if len(sys.argv) != 2:
+        print(f"usage: {os.path.basename(sys.argv[0])} PROGRAM", file=sys.stderr)
+        sys.exit(2)
+    return os.path.abspath(sys.argv[1])
+
+
 def run(words, given=b"", env=None, seconds=60):
     """Runs a program on some input. A run that doesn't end in time, or by a signal, has no status of its own."""
     try:
