@@ -5,10 +5,10 @@
 use hsail_reader::{Comparison, WorkItemQuery};
 use kernel_check::{
     AnyRegister, AnySource, ArgumentStep, AtomicOperation32, AtomicOperation64, AtomicPointer,
-    AtomicStep32, AtomicStep64, BranchStep, Choice1, Choice32, Choice64, ControlOperation,
-    ConvertStep, Dimension, DoubleOperation, GroupLoadStep, GroupPointer, GroupStoreStep, LoadStep,
-    NumberType, Pair1, Pair32, Pair64, Pointer, RegisterNumber, Shift64, SingleOperation, Source1,
-    Source32, Source64, Step, StoreStep, Swap32, Swap64, Triple32, Triple64, WorkItemQueryStep,
+    AtomicStep32, AtomicStep64, BranchStep, Choice, ControlOperation, ConvertStep, Dimension,
+    DoubleOperation, GroupLoadStep, GroupPointer, GroupStoreStep, LoadStep, NumberType, Pair,
+    Pointer, RegisterNumber, SingleOperation, Source1, Source32, Source64, Step, StoreStep, Triple,
+    WorkItemQueryStep,
 };
 use std::alloc::AllocError;
 
@@ -61,101 +61,74 @@ fn push_register(line: &mut String, register: AnyRegister) -> Result<(), AllocEr
     }
 }
 
-fn push_source1(line: &mut String, source: Source1) -> Result<(), AllocError> {
-    match source {
-        Source1::Register(slot) => push_slot(line, "c", slot),
-        Source1::Constant(bit) => line.push_str(if bit { "1" } else { "0" }),
+fn push_comma(line: &mut String) -> Result<(), AllocError> {
+    line.push_str(", ")
+}
+
+// What an operation reads, as a line has it.
+trait Listed: Copy {
+    fn push(self, line: &mut String) -> Result<(), AllocError>;
+}
+
+impl Listed for Source1 {
+    fn push(self, line: &mut String) -> Result<(), AllocError> {
+        match self {
+            Source1::Register(slot) => push_slot(line, "c", slot),
+            Source1::Constant(bit) => line.push_str(if bit { "1" } else { "0" }),
+        }
     }
 }
 
-fn push_source32(line: &mut String, source: Source32) -> Result<(), AllocError> {
-    match source {
-        Source32::Register(slot) => push_slot(line, "s", slot),
-        Source32::Constant(bits) => write!(line, "{bits}"),
+impl Listed for Source32 {
+    fn push(self, line: &mut String) -> Result<(), AllocError> {
+        match self {
+            Source32::Register(slot) => push_slot(line, "s", slot),
+            Source32::Constant(bits) => write!(line, "{bits}"),
+        }
     }
 }
 
-fn push_source64(line: &mut String, source: Source64) -> Result<(), AllocError> {
-    match source {
-        Source64::Register(slot) => push_slot(line, "d", slot),
-        Source64::Constant(bits) => write!(line, "{bits}"),
+impl Listed for Source64 {
+    fn push(self, line: &mut String) -> Result<(), AllocError> {
+        match self {
+            Source64::Register(slot) => push_slot(line, "d", slot),
+            Source64::Constant(bits) => write!(line, "{bits}"),
+        }
     }
 }
 
 fn push_source(line: &mut String, source: AnySource) -> Result<(), AllocError> {
     match source {
-        AnySource::Control(source) => push_source1(line, source),
-        AnySource::Single(source) => push_source32(line, source),
-        AnySource::Double(source) => push_source64(line, source),
+        AnySource::Control(source) => source.push(line),
+        AnySource::Single(source) => source.push(line),
+        AnySource::Double(source) => source.push(line),
     }
 }
 
-fn push_comma(line: &mut String) -> Result<(), AllocError> {
-    line.push_str(", ")
+fn push_two<A: Listed, B: Listed>(
+    line: &mut String,
+    first: A,
+    second: B,
+) -> Result<(), AllocError> {
+    first.push(line)?;
+    push_comma(line)?;
+    second.push(line)
 }
 
-fn push_pair1(line: &mut String, pair: &Pair1) -> Result<(), AllocError> {
-    push_source1(line, pair.left)?;
-    push_comma(line)?;
-    push_source1(line, pair.right)
+fn push_pair<S: Listed>(line: &mut String, pair: &Pair<S>) -> Result<(), AllocError> {
+    push_two(line, pair.left, pair.right)
 }
 
-fn push_choice1(line: &mut String, choice: &Choice1) -> Result<(), AllocError> {
-    push_source1(line, choice.condition)?;
+fn push_choice<S: Listed>(line: &mut String, choice: &Choice<S>) -> Result<(), AllocError> {
+    choice.condition.push(line)?;
     push_comma(line)?;
-    push_source1(line, choice.one)?;
-    push_comma(line)?;
-    push_source1(line, choice.zero)
+    push_two(line, choice.one, choice.zero)
 }
 
-fn push_pair32(line: &mut String, pair: &Pair32) -> Result<(), AllocError> {
-    push_source32(line, pair.left)?;
+fn push_triple<S: Listed>(line: &mut String, triple: &Triple<S>) -> Result<(), AllocError> {
+    triple.first.push(line)?;
     push_comma(line)?;
-    push_source32(line, pair.right)
-}
-
-fn push_choice32(line: &mut String, choice: &Choice32) -> Result<(), AllocError> {
-    push_source1(line, choice.condition)?;
-    push_comma(line)?;
-    push_source32(line, choice.one)?;
-    push_comma(line)?;
-    push_source32(line, choice.zero)
-}
-
-fn push_pair64(line: &mut String, pair: &Pair64) -> Result<(), AllocError> {
-    push_source64(line, pair.left)?;
-    push_comma(line)?;
-    push_source64(line, pair.right)
-}
-
-fn push_choice64(line: &mut String, choice: &Choice64) -> Result<(), AllocError> {
-    push_source1(line, choice.condition)?;
-    push_comma(line)?;
-    push_source64(line, choice.one)?;
-    push_comma(line)?;
-    push_source64(line, choice.zero)
-}
-
-fn push_triple32(line: &mut String, triple: &Triple32) -> Result<(), AllocError> {
-    push_source32(line, triple.first)?;
-    push_comma(line)?;
-    push_source32(line, triple.second)?;
-    push_comma(line)?;
-    push_source32(line, triple.third)
-}
-
-fn push_triple64(line: &mut String, triple: &Triple64) -> Result<(), AllocError> {
-    push_source64(line, triple.first)?;
-    push_comma(line)?;
-    push_source64(line, triple.second)?;
-    push_comma(line)?;
-    push_source64(line, triple.third)
-}
-
-fn push_shift64(line: &mut String, shift: &Shift64) -> Result<(), AllocError> {
-    push_source64(line, shift.value)?;
-    push_comma(line)?;
-    push_source32(line, shift.count)
+    push_two(line, triple.second, triple.third)
 }
 
 fn control_name(operation: &ControlOperation) -> &'static str {
@@ -188,36 +161,16 @@ fn compared_type(operation: &ControlOperation) -> Option<&'static str> {
 
 fn push_control_sources(line: &mut String, operation: &ControlOperation) -> Result<(), AllocError> {
     match operation {
-        ControlOperation::Move(source) | ControlOperation::Not(source) => push_source1(
-            line, *source,
-        ),
+        ControlOperation::Move(source) | ControlOperation::Not(source) => source.push(line),
         ControlOperation::And(pair) | ControlOperation::Or(pair) | ControlOperation::Xor(pair) => {
-            push_pair1(line, pair)
+            push_pair(line, pair)
         }
-        ControlOperation::Choose(choice) => push_choice1(line, choice),
-        ControlOperation::Compare(compare) => push_pair1(
-            line,
-            &Pair1 {
-                left: compare.left,
-                right: compare.right,
-            },
-        ),
+        ControlOperation::Choose(choice) => push_choice(line, choice),
+        ControlOperation::Compare(compare) => push_two(line, compare.left, compare.right),
         ControlOperation::CompareUnsigned32(compare) | ControlOperation::CompareSigned32(compare) =>
-            push_pair32(
-                line,
-                &Pair32 {
-                    left: compare.left,
-                    right: compare.right,
-                },
-            ),
+            push_two(line, compare.left, compare.right),
         ControlOperation::CompareUnsigned64(compare) | ControlOperation::CompareSigned64(compare) =>
-            push_pair64(
-                line,
-                &Pair64 {
-                    left: compare.left,
-                    right: compare.right,
-                },
-            ),
+            push_two(line, compare.left, compare.right),
     }
 }
 
@@ -281,11 +234,9 @@ fn single_name(operation: &SingleOperation) -> &'static str {
 
 fn push_single_sources(line: &mut String, operation: &SingleOperation) -> Result<(), AllocError> {
     match operation {
-        SingleOperation::Move(source) | SingleOperation::Not(source) => push_source32(
-            line, *source,
-        ),
-        SingleOperation::MultiplyAdd(triple) => push_triple32(line, triple),
-        SingleOperation::Choose(choice) => push_choice32(line, choice),
+        SingleOperation::Move(source) | SingleOperation::Not(source) => source.push(line),
+        SingleOperation::MultiplyAdd(triple) => push_triple(line, triple),
+        SingleOperation::Choose(choice) => push_choice(line, choice),
         SingleOperation::Add(pair)
         | SingleOperation::Subtract(pair)
         | SingleOperation::Multiply(pair)
@@ -302,7 +253,7 @@ fn push_single_sources(line: &mut String, operation: &SingleOperation) -> Result
         | SingleOperation::Xor(pair)
         | SingleOperation::ShiftLeft(pair)
         | SingleOperation::ShiftRightUnsigned(pair)
-        | SingleOperation::ShiftRightSigned(pair) => push_pair32(line, pair),
+        | SingleOperation::ShiftRightSigned(pair) => push_pair(line, pair),
     }
 }
 
@@ -343,14 +294,12 @@ fn double_name(operation: &DoubleOperation) -> &'static str {
 
 fn push_double_sources(line: &mut String, operation: &DoubleOperation) -> Result<(), AllocError> {
     match operation {
-        DoubleOperation::Move(source) | DoubleOperation::Not(source) => push_source64(
-            line, *source,
-        ),
-        DoubleOperation::MultiplyAdd(triple) => push_triple64(line, triple),
-        DoubleOperation::Choose(choice) => push_choice64(line, choice),
+        DoubleOperation::Move(source) | DoubleOperation::Not(source) => source.push(line),
+        DoubleOperation::MultiplyAdd(triple) => push_triple(line, triple),
+        DoubleOperation::Choose(choice) => push_choice(line, choice),
         DoubleOperation::ShiftLeft(shift)
         | DoubleOperation::ShiftRightUnsigned(shift)
-        | DoubleOperation::ShiftRightSigned(shift) => push_shift64(line, shift),
+        | DoubleOperation::ShiftRightSigned(shift) => push_two(line, shift.value, shift.count),
         DoubleOperation::Add(pair)
         | DoubleOperation::Subtract(pair)
         | DoubleOperation::Multiply(pair)
@@ -364,7 +313,7 @@ fn push_double_sources(line: &mut String, operation: &DoubleOperation) -> Result
         | DoubleOperation::GreatestSigned(pair)
         | DoubleOperation::And(pair)
         | DoubleOperation::Or(pair)
-        | DoubleOperation::Xor(pair) => push_pair64(line, pair),
+        | DoubleOperation::Xor(pair) => push_pair(line, pair),
     }
 }
 
@@ -473,18 +422,12 @@ fn atomic32_type(operation: &AtomicOperation32) -> &'static str {
     }
 }
 
-fn push_swap32(line: &mut String, swap: &Swap32) -> Result<(), AllocError> {
-    push_source32(line, swap.expected)?;
-    push_comma(line)?;
-    push_source32(line, swap.replacement)
-}
-
 fn push_atomic32_sources(
     line: &mut String,
     operation: &AtomicOperation32,
 ) -> Result<(), AllocError> {
     match operation {
-        AtomicOperation32::CompareAndSwap(swap) => push_swap32(line, swap),
+        AtomicOperation32::CompareAndSwap(swap) => push_two(line, swap.expected, swap.replacement),
         AtomicOperation32::Add(source)
         | AtomicOperation32::Subtract(source)
         | AtomicOperation32::LeastUnsigned(source)
@@ -494,7 +437,7 @@ fn push_atomic32_sources(
         | AtomicOperation32::And(source)
         | AtomicOperation32::Or(source)
         | AtomicOperation32::Xor(source)
-        | AtomicOperation32::Exchange(source) => push_source32(line, *source),
+        | AtomicOperation32::Exchange(source) => source.push(line),
     }
 }
 
@@ -523,18 +466,12 @@ fn atomic64_type(operation: &AtomicOperation64) -> &'static str {
     }
 }
 
-fn push_swap64(line: &mut String, swap: &Swap64) -> Result<(), AllocError> {
-    push_source64(line, swap.expected)?;
-    push_comma(line)?;
-    push_source64(line, swap.replacement)
-}
-
 fn push_atomic64_sources(
     line: &mut String,
     operation: &AtomicOperation64,
 ) -> Result<(), AllocError> {
     match operation {
-        AtomicOperation64::CompareAndSwap(swap) => push_swap64(line, swap),
+        AtomicOperation64::CompareAndSwap(swap) => push_two(line, swap.expected, swap.replacement),
         AtomicOperation64::Add(source)
         | AtomicOperation64::Subtract(source)
         | AtomicOperation64::LeastUnsigned(source)
@@ -544,7 +481,7 @@ fn push_atomic64_sources(
         | AtomicOperation64::And(source)
         | AtomicOperation64::Or(source)
         | AtomicOperation64::Xor(source)
-        | AtomicOperation64::Exchange(source) => push_source64(line, *source),
+        | AtomicOperation64::Exchange(source) => source.push(line),
     }
 }
 
@@ -599,7 +536,7 @@ fn push_atomic64(line: &mut String, step: &AtomicStep64) -> Result<(), AllocErro
 fn push_conditional_branch(line: &mut String, step: &BranchStep) -> Result<(), AllocError> {
     let next = step.next;
     line.push_str("cbr_b1 ")?;
-    push_source1(line, step.condition)?;
+    step.condition.push(line)?;
     write!(line, ", {next}")
 }
 

@@ -5,12 +5,8 @@ use Rattle.kernel_check.specs.declared.step.AnyRegister.{AnyRegister}
 use Rattle.kernel_check.specs.declared.step.AnyRegister.TheVariants as register
 use Rattle.kernel_check.specs.declared.step.AnySource.{AnySource}
 use Rattle.kernel_check.specs.declared.step.AnySource.TheVariants as any
-use Rattle.kernel_check.specs.declared.step.Source1.{Source1}
-use Rattle.kernel_check.specs.declared.step.Source1.TheVariants as source1
-use Rattle.kernel_check.specs.declared.step.Source32.{Source32}
-use Rattle.kernel_check.specs.declared.step.Source32.TheVariants as source32
-use Rattle.kernel_check.specs.declared.step.Source64.{Source64}
-use Rattle.kernel_check.specs.declared.step.Source64.TheVariants as source64
+use Rattle.kernel_check.specs.declared.step.Source.{Source}
+use Rattle.kernel_check.specs.declared.step.Source.TheVariants as source
 
 -- registers as a work-item begins (own)
 abbrev pub cleared : Registers
@@ -18,17 +14,17 @@ cleared = record { control = replicate 64 false; single = replicate 64 0; double
 
 -- ---- what is read
 
-abbrev pub read1 : Registers → Source1 → Bool
-read1 r (source1.Register s) = get_or r.control s false
-read1 r (source1.Constant bit) = bit
+abbrev pub read1 : Registers → Source Bool → Bool
+read1 r (source.Register s) = get_or r.control s false
+read1 r (source.Constant bit) = bit
 
-abbrev pub read32 : Registers → Source32 → ℕ
-read32 r (source32.Register s) = slice_index r.single s
-read32 r (source32.Constant bits) = bits
+abbrev pub read32 : Registers → Source ℕ → ℕ
+read32 r (source.Register s) = slice_index r.single s
+read32 r (source.Constant bits) = bits
 
-abbrev pub read64 : Registers → Source64 → ℕ
-read64 r (source64.Register s) = slice_index r.double s
-read64 r (source64.Constant bits) = bits
+abbrev pub read64 : Registers → Source ℕ → ℕ
+read64 r (source.Register s) = slice_index r.double s
+read64 r (source.Constant bits) = bits
 
 abbrev pub read_any : Registers → AnySource → ℕ
 read_any r (any.Control s) = if read1 r s then 1 else 0

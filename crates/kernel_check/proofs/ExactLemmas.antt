@@ -7,11 +7,9 @@ use Rattle.kernel_check.specs.declared.layout.Placed.{Placed}
 use Rattle.kernel_check.specs.declared.memory.Atomic.{Atomic}
 use Rattle.kernel_check.specs.declared.step.AnySource.{AnySource}
 use Rattle.kernel_check.specs.declared.step.AtomicPointer.{AtomicPointer}
-use Rattle.kernel_check.specs.declared.step.Pair32.{Pair32}
-use Rattle.kernel_check.specs.declared.step.Pair64.{Pair64}
+use Rattle.kernel_check.specs.declared.step.Pair.{Pair}
 use Rattle.kernel_check.specs.declared.step.Shift64.{Shift64}
-use Rattle.kernel_check.specs.declared.step.Source32.{Source32}
-use Rattle.kernel_check.specs.declared.step.Source64.{Source64}
+use Rattle.kernel_check.specs.declared.step.Source.{Source as StepSource}
 use Rattle.kernel_check.specs.declared.step.Step.{Step}
 use Rattle.kernel_check.specs.declared.translate.Binary.{Binary}
 use Rattle.kernel_check.specs.declared.translate.Ternary.{Ternary}
@@ -139,13 +137,13 @@ bit_counts Xor r left right has = (refl, refl)
 bit_counts (Compare c) r left right has = (refl, refl)
 bit_counts _ r left right has = cc
 
-single_counts : (f : BinaryOperation) (signed : Bool) (n : ℕ) (p : Pair32) → Counts (binary32 f signed n p) 2
+single_counts : (f : BinaryOperation) (signed : Bool) (n : ℕ) (p : Pair (StepSource ℕ)) → Counts (binary32 f signed n p) 2
 single_counts (Compare c) true n p = (refl, refl)
 single_counts (Compare c) false n p = (refl, refl)
 single_counts _ true n p = (refl, refl)
 single_counts _ false n p = (refl, refl)
 
-double_counts : (f : BinaryOperation) (signed : Bool) (n : ℕ) (p : Pair64) (s : Shift64) → Counts (binary64 f signed n p s) 2
+double_counts : (f : BinaryOperation) (signed : Bool) (n : ℕ) (p : Pair (StepSource ℕ)) (s : Shift64) → Counts (binary64 f signed n p s) 2
 double_counts (Compare c) true n p s = (refl, refl)
 double_counts (Compare c) false n p s = (refl, refl)
 double_counts _ true n p s = (refl, refl)
@@ -171,13 +169,13 @@ abbrev atomic_count : AtomicOperation → ℕ
 atomic_count atomic.CompareAndSwap = 2
 atomic_count _ = 1
 
-atomic32_counts : (f : AtomicOperation) (signed : Bool) (s r : Source32)
+atomic32_counts : (f : AtomicOperation) (signed : Bool) (s r : StepSource ℕ)
     → length (atomic32_reads (atomic32_of f signed s r)) ≡ atomic_count f
 atomic32_counts atomic.CompareAndSwap signed s r = refl
 atomic32_counts _ true s r = refl
 atomic32_counts _ false s r = refl
 
-atomic64_counts : (f : AtomicOperation) (signed : Bool) (s r : Source64)
+atomic64_counts : (f : AtomicOperation) (signed : Bool) (s r : StepSource ℕ)
     → length (atomic64_reads (atomic64_of f signed s r)) ≡ atomic_count f
 atomic64_counts atomic.CompareAndSwap signed s r = refl
 atomic64_counts _ true s r = refl

@@ -12,6 +12,7 @@ use Rattle.hsail_reader.specs.declared.types.AtomicOperation.{AtomicOperation}
 use Rattle.hsail_reader.specs.declared.types.AtomicOperation.TheVariants as atomic
 use Rattle.hsail_reader.specs.declared.types.BinaryOperation.{BinaryOperation}
 use Rattle.hsail_reader.specs.declared.types.BinaryOperation.TheVariants.{And, Or, Xor, ShiftLeft, ShiftRight, Compare}
+use Rattle.hsail_reader.specs.declared.types.Constant.{Constant}
 use Rattle.hsail_reader.specs.declared.types.DataType.{DataType}
 use Rattle.hsail_reader.specs.declared.types.Register.{Register}
 use Rattle.hsail_reader.specs.declared.types.RegisterClass.{RegisterClass}
@@ -24,36 +25,30 @@ use Rattle.hsail_reader.specs.declared.types.TernaryOperation.{TernaryOperation}
 use Rattle.hsail_reader.specs.declared.types.TernaryOperation.TheVariants.{MultiplyAdd, ConditionalMove}
 use Rattle.hsail_reader.specs.declared.types.UnaryOperation.{UnaryOperation}
 use Rattle.hsail_reader.specs.declared.types.UnaryOperation.TheVariants.{Move, Not, Convert}
-use Rattle.kernel_check.specs.Reads.{Is1, Is32, Is64, IsSource, AreSources, IsTarget, KeepsOrder}
-use Rattle.kernel_check.specs.Steps.{reads, sets, number_in, sources_of, step_of, form_step, register_number, register_in, source1_at, source1_of, source32_at, source32_of, source64_at, source64_of, source_in, unary_in, unary_by, binary1, binary32, binary64, binary_in, ternary_in, is_signed, load_from, load_at, store_from, store_at, atomic_pointer, atomic32_of, atomic64_of, atomic32_reads, atomic64_reads, atomic_in, atomic_at, as_atomic, as_no_return, target_in, read_in, as_unary, as_binary, as_ternary}
+use Rattle.kernel_check.specs.Constants.{constant_bits}
+use Rattle.kernel_check.specs.Reads.{IsAt, IsSource, AreSources, IsTarget, KeepsOrder}
+use Rattle.kernel_check.specs.Steps.{reads, sets, number_in, sources_of, step_of, form_step, register_number, register_in, one_bit, low_bits, source_at, source1_of, source32_of, source64_of, source_in, unary_in, unary_by, binary1, binary32, binary64, binary_in, ternary_in, is_signed, load_from, load_at, store_from, store_at, atomic_pointer, atomic32_of, atomic64_of, atomic32_reads, atomic64_reads, atomic_in, atomic_at, as_atomic, as_no_return, target_in, read_in, as_unary, as_binary, as_ternary}
 use Rattle.kernel_check.specs.declared.layout.Placed.{Placed}
 use Rattle.kernel_check.specs.declared.memory.Atomic.{Atomic}
+use Rattle.kernel_check.specs.declared.step.AnySource.TheVariants as any
 use Rattle.kernel_check.specs.declared.step.AtomicPointer.{AtomicPointer}
 use Rattle.kernel_check.specs.declared.step.Step.{Step}
 use Rattle.kernel_check.specs.declared.translate.Binary.{Binary}
 use Rattle.kernel_check.specs.declared.translate.Ternary.{Ternary}
 use Rattle.kernel_check.specs.declared.translate.Unary.{Unary}
 
-is1_at : (kind : DataType) (s : Source) → Is1 (source1_at kind s) kind s
-is1_at kind (source.Register r) = refl
-is1_at kind (source.Constant c) = refl
+is_at : {N : Type 0} (bits : DataType → Constant → N) (kind : DataType) (s : Source) → IsAt bits (source_at bits kind s) kind s
+is_at bits kind (source.Register r) = refl
+is_at bits kind (source.Constant c) = refl
 
-pub is1 : (t : TypedSource) → Is1 (source1_of t) t.kind t.source
-is1 t = is1_at t.kind t.source
+pub is1 : (t : TypedSource) → IsSource (any.Control (source1_of t)) t
+is1 t = is_at one_bit t.kind t.source
 
-is32_at : (kind : DataType) (s : Source) → Is32 (source32_at kind s) kind s
-is32_at kind (source.Register r) = refl
-is32_at kind (source.Constant c) = refl
+is32 : (t : TypedSource) → IsSource (any.Single (source32_of t)) t
+is32 t = is_at low_bits t.kind t.source
 
-is32 : (t : TypedSource) → Is32 (source32_of t) t.kind t.source
-is32 t = is32_at t.kind t.source
-
-is64_at : (kind : DataType) (s : Source) → Is64 (source64_at kind s) kind s
-is64_at kind (source.Register r) = refl
-is64_at kind (source.Constant c) = refl
-
-is64 : (t : TypedSource) → Is64 (source64_of t) t.kind t.source
-is64 t = is64_at t.kind t.source
+is64 : (t : TypedSource) → IsSource (any.Double (source64_of t)) t
+is64 t = is_at constant_bits t.kind t.source
 
 pub is_source : (k : RegisterClass) (t : TypedSource) → IsSource (source_in k t) t
 is_source class.Control t = is1 t

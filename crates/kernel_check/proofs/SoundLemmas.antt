@@ -37,7 +37,7 @@ use Rattle.kernel_check.specs.Names.{Known, find}
 use Rattle.kernel_check.specs.inner.Bound.{or_else}
 use Rattle.kernel_check.specs.Operands.{any_operand, is_over, is_over_source}
 use Rattle.kernel_check.specs.Programs.{AreLaid, ArgumentPlace, FitsIn, HasItsClasses, LoadsOneOf, StaysWithin, IsSound, wide_offsets}
-use Rattle.kernel_check.specs.Steps.{step_of, form_step, known_offset, offset_of, load_from, load_at, store_from, store_at, atomic_pointer, atomic_in, atomic_at, as_atomic, as_no_return, next_at, target_in, read_in, as_unary, as_binary, as_ternary, number_type, number_bytes, source32_at, source_in, source_of, unary_in, unary_by, binary32, binary64, binary_in, ternary_in, register_number, is_signed, pair32_of, pair64_of, shift64_of}
+use Rattle.kernel_check.specs.Steps.{step_of, form_step, known_offset, offset_of, load_from, load_at, store_from, store_at, atomic_pointer, atomic_in, atomic_at, as_atomic, as_no_return, next_at, target_in, read_in, as_unary, as_binary, as_ternary, number_type, number_bytes, low_bits, source_at, source_in, source_of, unary_in, unary_by, binary32, binary64, binary_in, ternary_in, register_number, is_signed, pair32_of, pair64_of, shift64_of}
 use Rattle.kernel_check.specs.declared.fault.CheckCause.{CheckCause}
 use Rattle.kernel_check.specs.declared.fault.CheckCause.TheVariants as cause
 use Rattle.kernel_check.specs.declared.fault.CheckFault.{CheckFault}
@@ -46,8 +46,7 @@ use Rattle.kernel_check.specs.declared.step.AnySource.TheVariants as any
 use Rattle.kernel_check.specs.declared.memory.Atomic.{Atomic}
 use Rattle.kernel_check.specs.declared.step.AtomicPointer.{AtomicPointer}
 use Rattle.kernel_check.specs.declared.step.LinedStep.{LinedStep}
-use Rattle.kernel_check.specs.declared.step.Pair32.{Pair32}
-use Rattle.kernel_check.specs.declared.step.Pair64.{Pair64}
+use Rattle.kernel_check.specs.declared.step.Pair.{Pair}
 use Rattle.kernel_check.specs.declared.step.Shift64.{Shift64}
 use Rattle.kernel_check.specs.declared.translate.Binary.{Binary}
 use Rattle.kernel_check.specs.declared.translate.Ternary.{Ternary}
@@ -176,7 +175,7 @@ fits_constant kind c good =
     let fewer : constant_bits kind c % 2 ^ 32 ≤ constant_bits kind c = mod-le (constant_bits kind c) (2 ^ 32) in
     omega (arith, less, fewer, bytes_hold kind)
 
-fits32 : (kind : DataType) (s : Source) → is_over_source kind s ≡ false → FitsIn (number_type kind) (any.Single (source32_at kind s))
+fits32 : (kind : DataType) (s : Source) → is_over_source kind s ≡ false → FitsIn (number_type kind) (any.Single (source_at low_bits kind s))
 fits32 kind (source.Register r) near = tt
 fits32 kind (source.Constant c) near = fits_constant kind c (holds_not (is_in_range kind c) near)
 

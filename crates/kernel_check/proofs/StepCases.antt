@@ -21,10 +21,10 @@ use Rattle.kernel_check.specs.declared.step.AtomicStep32.{AtomicStep32}
 use Rattle.kernel_check.specs.declared.step.AtomicStep64.{AtomicStep64}
 use Rattle.kernel_check.specs.declared.step.ControlStep.{ControlStep}
 use Rattle.kernel_check.specs.declared.step.DoubleStep.{DoubleStep}
-use Rattle.kernel_check.specs.declared.step.Pair32.{Pair32}
-use Rattle.kernel_check.specs.declared.step.Pair64.{Pair64}
+use Rattle.kernel_check.specs.declared.step.Pair.{Pair}
 use Rattle.kernel_check.specs.declared.step.Shift64.{Shift64}
 use Rattle.kernel_check.specs.declared.step.SingleStep.{SingleStep}
+use Rattle.kernel_check.specs.declared.step.Source.{Source as StepSource}
 use Rattle.kernel_check.specs.declared.step.Step.{Step}
 use Rattle.kernel_check.specs.declared.step.Step.TheVariants as step
 use Rattle.kernel_check.specs.declared.translate.Binary.{Binary}
@@ -44,11 +44,11 @@ module _ (P : Step → Type 0) (control : (s : ControlStep) → P (step.Control 
   of_unary class.Double Move target s = double _
   of_unary class.Double (Convert to) target s = double _
 
-  of_binary32 : (op : BinaryOperation) (signed : Bool) (target : ℕ) (p : Pair32) → P (binary32 op signed target p)
+  of_binary32 : (op : BinaryOperation) (signed : Bool) (target : ℕ) (p : Pair (StepSource ℕ)) → P (binary32 op signed target p)
   of_binary32 (Compare c) signed target p = control _
   of_binary32 _ signed target p = single _
 
-  of_binary64 : (op : BinaryOperation) (signed : Bool) (target : ℕ) (p : Pair64) (s : Shift64) → P (binary64 op signed target p s)
+  of_binary64 : (op : BinaryOperation) (signed : Bool) (target : ℕ) (p : Pair (StepSource ℕ)) (s : Shift64) → P (binary64 op signed target p s)
   of_binary64 (Compare c) signed target p s = control _
   of_binary64 _ signed target p s = double _
 

@@ -39,19 +39,16 @@ use Rattle.kernel_check.specs.Steps.{as_atomic, as_binary, as_no_return, as_tern
 use Rattle.kernel_check.specs.declared.layout.Placed.{Placed}
 use Rattle.kernel_check.specs.declared.memory.Atomic.{Atomic}
 use Rattle.kernel_check.specs.declared.step.AtomicPointer.{AtomicPointer}
-use Rattle.kernel_check.specs.declared.step.Pair1.{Pair1}
-use Rattle.kernel_check.specs.declared.step.Pair32.{Pair32}
-use Rattle.kernel_check.specs.declared.step.Pair64.{Pair64}
+use Rattle.kernel_check.specs.declared.step.Pair.{Pair}
 use Rattle.kernel_check.specs.declared.step.Shift64.{Shift64}
-use Rattle.kernel_check.specs.declared.step.Source32.{Source32}
-use Rattle.kernel_check.specs.declared.step.Source64.{Source64}
+use Rattle.kernel_check.specs.declared.step.Source.{Source as StepSource}
 use Rattle.kernel_check.specs.declared.translate.Binary.{Binary}
 use Rattle.kernel_check.specs.declared.translate.Ternary.{Ternary}
 use Rattle.kernel_check.specs.declared.translate.Unary.{Unary}
 use Rattle.kernel_check.proofs.NeedLemmas.{is_word_type, sample, samples, some_register, word_types}
 
 -- a step's words don't depend on its registers and constants: each lemma below takes two instructions that are alike
-control_alike : (f : BinaryOperation) (p q : Pair1) → control_words (control_operation f p) ≡ control_words (control_operation f q)
+control_alike : (f : BinaryOperation) (p q : Pair (StepSource Bool)) → control_words (control_operation f p) ≡ control_words (control_operation f q)
 control_alike binary.Add p q = refl
 control_alike binary.Subtract p q = refl
 control_alike binary.Multiply p q = refl
@@ -66,7 +63,7 @@ control_alike binary.ShiftLeft p q = refl
 control_alike binary.ShiftRight p q = refl
 control_alike (binary.Compare c) p q = refl
 
-binary32_alike : (f : BinaryOperation) (signed : Bool) (d e : ℕ) (p q : Pair32) → step_words (binary32 f signed d p) ≡ step_words (binary32 f signed e q)
+binary32_alike : (f : BinaryOperation) (signed : Bool) (d e : ℕ) (p q : Pair (StepSource ℕ)) → step_words (binary32 f signed d p) ≡ step_words (binary32 f signed e q)
 binary32_alike binary.Add signed d e p q = refl
 binary32_alike binary.Subtract signed d e p q = refl
 binary32_alike binary.Multiply signed d e p q = refl
@@ -87,7 +84,7 @@ binary32_alike binary.ShiftRight true d e p q = refl
 binary32_alike (binary.Compare c) false d e p q = refl
 binary32_alike (binary.Compare c) true d e p q = refl
 
-binary64_alike : (f : BinaryOperation) (signed : Bool) (d e : ℕ) (p q : Pair64) (s t : Shift64) → step_words (binary64 f signed d p s) ≡ step_words (binary64 f signed e q t)
+binary64_alike : (f : BinaryOperation) (signed : Bool) (d e : ℕ) (p q : Pair (StepSource ℕ)) (s t : Shift64) → step_words (binary64 f signed d p s) ≡ step_words (binary64 f signed e q t)
 binary64_alike binary.Add signed d e p q s t = refl
 binary64_alike binary.Subtract signed d e p q s t = refl
 binary64_alike binary.Multiply signed d e p q s t = refl
@@ -108,7 +105,7 @@ binary64_alike binary.ShiftRight true d e p q s t = refl
 binary64_alike (binary.Compare c) false d e p q s t = refl
 binary64_alike (binary.Compare c) true d e p q s t = refl
 
-atomic32_alike : (front between : List ℕ) (f : AtomicOperation) (signed : Bool) (s r t q : Source32) → atomic32_words front between (atomic32_of f signed s r) ≡ atomic32_words front between (atomic32_of f signed t q)
+atomic32_alike : (front between : List ℕ) (f : AtomicOperation) (signed : Bool) (s r t q : StepSource ℕ) → atomic32_words front between (atomic32_of f signed s r) ≡ atomic32_words front between (atomic32_of f signed t q)
 atomic32_alike front between atomic.Add signed s r t q = refl
 atomic32_alike front between atomic.Subtract signed s r t q = refl
 atomic32_alike front between atomic.Minimum false s r t q = refl
@@ -121,7 +118,7 @@ atomic32_alike front between atomic.Xor signed s r t q = refl
 atomic32_alike front between atomic.Exchange signed s r t q = refl
 atomic32_alike front between atomic.CompareAndSwap signed s r t q = refl
 
-atomic64_alike : (front between : List ℕ) (f : AtomicOperation) (signed : Bool) (s r t q : Source64) → atomic64_words front between (atomic64_of f signed s r) ≡ atomic64_words front between (atomic64_of f signed t q)
+atomic64_alike : (front between : List ℕ) (f : AtomicOperation) (signed : Bool) (s r t q : StepSource ℕ) → atomic64_words front between (atomic64_of f signed s r) ≡ atomic64_words front between (atomic64_of f signed t q)
 atomic64_alike front between atomic.Add signed s r t q = refl
 atomic64_alike front between atomic.Subtract signed s r t q = refl
 atomic64_alike front between atomic.Minimum false s r t q = refl

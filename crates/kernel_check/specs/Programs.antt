@@ -9,7 +9,7 @@ use Rattle.kernel_check.specs.declared.step.AnySource.TheVariants as any
 use Rattle.kernel_check.specs.declared.step.LinedStep.{LinedStep}
 use Rattle.kernel_check.specs.declared.step.NumberType.{NumberType}
 use Rattle.kernel_check.specs.declared.step.NumberType.TheVariants as number
-use Rattle.kernel_check.specs.declared.step.Source32.TheVariants as source32
+use Rattle.kernel_check.specs.declared.step.Source.TheVariants as source
 use Rattle.kernel_check.specs.declared.step.Step.{Step}
 use Rattle.kernel_check.specs.declared.step.Step.TheVariants as step
 use Rattle.hsail_reader.specs.declared.types.RegisterClass.{RegisterClass}
@@ -29,7 +29,7 @@ pub record Program : Type 0 where
 
 -- a constant of 8, 16 or 32 bits lies in them; one of 1 or of 64 bits does by the type of its source
 abbrev pub FitsIn : NumberType → AnySource → Type 0
-FitsIn kind (any.Single (source32.Constant n)) = n < 2 ^ (8 * number_bytes kind)
+FitsIn kind (any.Single (source.Constant n)) = n < 2 ^ (8 * number_bytes kind)
 FitsIn kind _ = Unit {0}
 
 -- a step leads to none behind the closing brace, reads no byte behind the argument block, and has no constant

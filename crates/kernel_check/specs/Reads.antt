@@ -5,43 +5,30 @@ use Rattle.kernel_check.specs.Constants.{constant_bits}
 use Rattle.kernel_check.specs.Steps.{reads, sets, register_number, sources_of, target_in}
 use Rattle.kernel_check.specs.declared.step.AnySource.{AnySource}
 use Rattle.kernel_check.specs.declared.step.AnySource.TheVariants as any
-use Rattle.kernel_check.specs.declared.step.Source1.{Source1}
-use Rattle.kernel_check.specs.declared.step.Source1.TheVariants as source1
-use Rattle.kernel_check.specs.declared.step.Source32.{Source32}
-use Rattle.kernel_check.specs.declared.step.Source32.TheVariants as source32
-use Rattle.kernel_check.specs.declared.step.Source64.{Source64}
-use Rattle.kernel_check.specs.declared.step.Source64.TheVariants as source64
+use Rattle.kernel_check.specs.declared.step.Source.{Source as StepSource}
+use Rattle.kernel_check.specs.declared.step.Source.TheVariants as step_source
 use Rattle.kernel_check.specs.declared.step.Step.{Step}
 use Rattle.hsail_reader.specs.declared.module.Operand.{Operand}
 use Rattle.hsail_reader.specs.declared.module.Operand.TheVariants as operand
 use Rattle.hsail_reader.specs.declared.module.Operands.{Operands}
 use Rattle.hsail_reader.specs.declared.module.Operation.{Operation}
 use Rattle.hsail_reader.specs.declared.module.TypedSource.{TypedSource}
+use Rattle.hsail_reader.specs.declared.types.Constant.{Constant}
 use Rattle.hsail_reader.specs.declared.types.DataType.{DataType}
 use Rattle.hsail_reader.specs.declared.types.Register.{Register}
 use Rattle.hsail_reader.specs.declared.types.Source.{Source}
 use Rattle.hsail_reader.specs.declared.types.Source.TheVariants as source
 
 -- a source of a step is one of the text: the register's number, or the constant's bits at its type
-abbrev pub Is1 : Source1 → DataType → Source → Type 0
-Is1 (source1.Register n) kind (source.Register r) = n ≡ register_number r
-Is1 (source1.Constant b) kind (source.Constant c) = b ≡ (constant_bits kind c == 1)
-Is1 _ kind _ = ⊥
-
-abbrev pub Is32 : Source32 → DataType → Source → Type 0
-Is32 (source32.Register n) kind (source.Register r) = n ≡ register_number r
-Is32 (source32.Constant n) kind (source.Constant c) = n ≡ constant_bits kind c % 2 ^ 32
-Is32 _ kind _ = ⊥
-
-abbrev pub Is64 : Source64 → DataType → Source → Type 0
-Is64 (source64.Register n) kind (source.Register r) = n ≡ register_number r
-Is64 (source64.Constant n) kind (source.Constant c) = n ≡ constant_bits kind c
-Is64 _ kind _ = ⊥
+abbrev pub IsAt : {N : Type 0} → (DataType → Constant → N) → StepSource N → DataType → Source → Type 0
+IsAt bits (step_source.Register n) kind (source.Register r) = n ≡ register_number r
+IsAt bits (step_source.Constant n) kind (source.Constant c) = n ≡ bits kind c
+IsAt bits _ kind _ = ⊥
 
 abbrev pub IsSource : AnySource → TypedSource → Type 0
-IsSource (any.Control a) t = Is1 a t.kind t.source
-IsSource (any.Single a) t = Is32 a t.kind t.source
-IsSource (any.Double a) t = Is64 a t.kind t.source
+IsSource (any.Control a) t = IsAt (λ kind c. constant_bits kind c == 1) a t.kind t.source
+IsSource (any.Single a) t = IsAt (λ kind c. constant_bits kind c % 2 ^ 32) a t.kind t.source
+IsSource (any.Double a) t = IsAt constant_bits a t.kind t.source
 
 -- what is read are the sources of the text, in their order, from the first on
 abbrev pub AreSources : List AnySource → List TypedSource → Type 0

@@ -26,19 +26,13 @@ use Rattle.kernel_check.specs.declared.step.DoubleOperation.TheVariants as doubl
 use Rattle.kernel_check.specs.declared.step.GroupPointer.{GroupPointer}
 use Rattle.kernel_check.specs.declared.step.NumberType.{NumberType}
 use Rattle.kernel_check.specs.declared.step.NumberType.TheVariants as number
-use Rattle.kernel_check.specs.declared.step.Pair1.{Pair1}
-use Rattle.kernel_check.specs.declared.step.Pair32.{Pair32}
-use Rattle.kernel_check.specs.declared.step.Pair64.{Pair64}
+use Rattle.kernel_check.specs.declared.step.Pair.{Pair}
 use Rattle.kernel_check.specs.declared.step.Pointer.{Pointer}
 use Rattle.kernel_check.specs.declared.step.Shift64.{Shift64}
 use Rattle.kernel_check.specs.declared.step.SingleOperation.{SingleOperation}
 use Rattle.kernel_check.specs.declared.step.SingleOperation.TheVariants as single
-use Rattle.kernel_check.specs.declared.step.Source1.{Source1}
-use Rattle.kernel_check.specs.declared.step.Source1.TheVariants as source1
-use Rattle.kernel_check.specs.declared.step.Source32.{Source32}
-use Rattle.kernel_check.specs.declared.step.Source32.TheVariants as source32
-use Rattle.kernel_check.specs.declared.step.Source64.{Source64}
-use Rattle.kernel_check.specs.declared.step.Source64.TheVariants as source64
+use Rattle.kernel_check.specs.declared.step.Source.{Source as StepSource}
+use Rattle.kernel_check.specs.declared.step.Source.TheVariants as step_source
 use Rattle.kernel_check.specs.declared.step.Step.{Step}
 use Rattle.kernel_check.specs.declared.step.Step.TheVariants as step
 use Rattle.hsail_reader.specs.Types.{type_class}
@@ -62,6 +56,7 @@ use Rattle.hsail_reader.specs.declared.types.AtomicOperation.TheVariants as atom
 use Rattle.hsail_reader.specs.declared.types.BinaryOperation.{BinaryOperation}
 use Rattle.hsail_reader.specs.declared.types.BinaryOperation.TheVariants.{Add, Subtract, Multiply, Divide, Remainder, Minimum, Maximum, And, Or, Xor, ShiftLeft, ShiftRight, Compare}
 use Rattle.hsail_reader.specs.declared.types.Comparison.{Comparison}
+use Rattle.hsail_reader.specs.declared.types.Constant.{Constant}
 use Rattle.hsail_reader.specs.declared.types.DataType.{DataType}
 use Rattle.hsail_reader.specs.declared.types.DataType.TheVariants.{B1, B8, B16, B32, B64, U8, U16, U32, U64, S8, S16, S32, S64}
 use Rattle.hsail_reader.specs.declared.types.Register.{Register}
@@ -128,27 +123,26 @@ register_in class.Double r = register.Double (register_number r)
 abbrev pub register_of : DataType → Register → AnyRegister
 register_of kind r = register_in (type_class kind) r
 
+-- a constant at its type, as a source of 1 bit has it, and one of 32; one of 64 has all its bits
+abbrev pub one_bit : DataType → Constant → Bool
+one_bit kind c = constant_bits kind c == 1
+
+abbrev pub low_bits : DataType → Constant → ℕ
+low_bits kind c = constant_bits kind c % 2 ^ 32
+
 -- sources: registers, and constants at their types
-abbrev pub source1_at : DataType → Source → Source1
-source1_at kind (source.Register r) = source1.Register (register_number r)
-source1_at kind (source.Constant c) = source1.Constant (constant_bits kind c == 1)
+abbrev pub source_at : {N : Type 0} → (DataType → Constant → N) → DataType → Source → StepSource N
+source_at bits kind (source.Register r) = step_source.Register (register_number r)
+source_at bits kind (source.Constant c) = step_source.Constant (bits kind c)
 
-abbrev pub source1_of : TypedSource → Source1
-source1_of t = source1_at t.kind t.source
+abbrev pub source1_of : TypedSource → StepSource Bool
+source1_of t = source_at one_bit t.kind t.source
 
-abbrev pub source32_at : DataType → Source → Source32
-source32_at kind (source.Register r) = source32.Register (register_number r)
-source32_at kind (source.Constant c) = source32.Constant (constant_bits kind c % 2 ^ 32)
+abbrev pub source32_of : TypedSource → StepSource ℕ
+source32_of t = source_at low_bits t.kind t.source
 
-abbrev pub source32_of : TypedSource → Source32
-source32_of t = source32_at t.kind t.source
-
-abbrev pub source64_at : DataType → Source → Source64
-source64_at kind (source.Register r) = source64.Register (register_number r)
-source64_at kind (source.Constant c) = source64.Constant (constant_bits kind c)
-
-abbrev pub source64_of : TypedSource → Source64
-source64_of t = source64_at t.kind t.source
+abbrev pub source64_of : TypedSource → StepSource ℕ
+source64_of t = source_at constant_bits t.kind t.source
 
 abbrev pub source_in : RegisterClass → TypedSource → AnySource
 source_in class.Control t = any.Control (source1_of t)
@@ -275,7 +269,7 @@ abbrev pub unary_of : Unary → Step
 unary_of u = unary_by u.operation u
 
 -- the operations of one bit
-abbrev pub control_operation : BinaryOperation → Pair1 → ControlOperation
+abbrev pub control_operation : BinaryOperation → Pair (StepSource Bool) → ControlOperation
 control_operation And p = control.And p
 control_operation Or p = control.Or p
 control_operation Xor p = control.Xor p
@@ -283,7 +277,7 @@ control_operation (Compare c) p = control.Compare (record { comparison = c; left
 control_operation _ p = control.Move p.left
 
 -- the operations of 32 bits, for types with a sign and without
-abbrev pub single_operation : BinaryOperation → Bool → Pair32 → SingleOperation
+abbrev pub single_operation : BinaryOperation → Bool → Pair (StepSource ℕ) → SingleOperation
 single_operation Add signed p = single.Add p
 single_operation Subtract signed p = single.Subtract p
 single_operation Multiply signed p = single.Multiply p
@@ -304,7 +298,7 @@ single_operation ShiftRight true p = single.ShiftRightSigned p
 single_operation (Compare c) signed p = single.Move p.left
 
 -- the operations of 64 bits, for types with a sign and without
-abbrev pub double_operation : BinaryOperation → Bool → Pair64 → Shift64 → DoubleOperation
+abbrev pub double_operation : BinaryOperation → Bool → Pair (StepSource ℕ) → Shift64 → DoubleOperation
 double_operation Add signed p s = double.Add p
 double_operation Subtract signed p s = double.Subtract p
 double_operation Multiply signed p s = double.Multiply p
@@ -325,12 +319,12 @@ double_operation ShiftRight true p s = double.ShiftRightSigned s
 double_operation (Compare c) signed p s = double.Move p.left
 
 -- cmp of 32 bits
-abbrev pub compare32 : Comparison → Bool → Pair32 → ControlOperation
+abbrev pub compare32 : Comparison → Bool → Pair (StepSource ℕ) → ControlOperation
 compare32 c false p = control.CompareUnsigned32 (record { comparison = c; left = p.left; right = p.right })
 compare32 c true p = control.CompareSigned32 (record { comparison = c; left = p.left; right = p.right })
 
 -- cmp of 64 bits
-abbrev pub compare64 : Comparison → Bool → Pair64 → ControlOperation
+abbrev pub compare64 : Comparison → Bool → Pair (StepSource ℕ) → ControlOperation
 compare64 c false p = control.CompareUnsigned64 (record { comparison = c; left = p.left; right = p.right })
 compare64 c true p = control.CompareSigned64 (record { comparison = c; left = p.left; right = p.right })
 
@@ -338,18 +332,18 @@ abbrev pub binary1 : Binary → Step
 binary1 b = sets1 (register_number b.target)
     (control_operation b.operation (record { left = source1_of b.left; right = source1_of b.right }))
 
-abbrev pub binary32 : BinaryOperation → Bool → ℕ → Pair32 → Step
+abbrev pub binary32 : BinaryOperation → Bool → ℕ → Pair (StepSource ℕ) → Step
 binary32 (Compare c) signed target p = sets1 target (compare32 c signed p)
 binary32 op signed target p = sets32 target (single_operation op signed p)
 
-abbrev pub binary64 : BinaryOperation → Bool → ℕ → Pair64 → Shift64 → Step
+abbrev pub binary64 : BinaryOperation → Bool → ℕ → Pair (StepSource ℕ) → Shift64 → Step
 binary64 (Compare c) signed target p s = sets1 target (compare64 c signed p)
 binary64 op signed target p s = sets64 target (double_operation op signed p s)
 
-abbrev pub pair32_of : Binary → Pair32
+abbrev pub pair32_of : Binary → Pair (StepSource ℕ)
 pair32_of b = record { left = source32_of b.left; right = source32_of b.right }
 
-abbrev pub pair64_of : Binary → Pair64
+abbrev pub pair64_of : Binary → Pair (StepSource ℕ)
 pair64_of b = record { left = source64_of b.left; right = source64_of b.right }
 
 -- the count of a shift has 32 bits
@@ -429,7 +423,7 @@ atomic_pointer variables segment.Group a = places.Group (group_pointer variables
 atomic_pointer variables _ a = places.Global (pointer_in a)
 
 -- the operations of 32 bits, for types with a sign and without
-abbrev pub atomic32_of : AtomicOperation → Bool → Source32 → Source32 → AtomicOperation32
+abbrev pub atomic32_of : AtomicOperation → Bool → StepSource ℕ → StepSource ℕ → AtomicOperation32
 atomic32_of atomic.Add signed s r = atomic32.Add s
 atomic32_of atomic.Subtract signed s r = atomic32.Subtract s
 atomic32_of atomic.Minimum false s r = atomic32.LeastUnsigned s
@@ -443,7 +437,7 @@ atomic32_of atomic.Exchange signed s r = atomic32.Exchange s
 atomic32_of atomic.CompareAndSwap signed s r = atomic32.CompareAndSwap (record { expected = s; replacement = r })
 
 -- the operations of 64 bits
-abbrev pub atomic64_of : AtomicOperation → Bool → Source64 → Source64 → AtomicOperation64
+abbrev pub atomic64_of : AtomicOperation → Bool → StepSource ℕ → StepSource ℕ → AtomicOperation64
 atomic64_of atomic.Add signed s r = atomic64.Add s
 atomic64_of atomic.Subtract signed s r = atomic64.Subtract s
 atomic64_of atomic.Minimum false s r = atomic64.LeastUnsigned s
@@ -529,73 +523,67 @@ step_of variables labels op = form_step variables labels op.form op
 
 -- ---- what a step reads and sets
 
-abbrev pub two1 : Source1 → Source1 → List AnySource
-two1 left right = any.Control left ∷ any.Control right ∷ []
-
-abbrev pub two32 : Source32 → Source32 → List AnySource
-two32 left right = any.Single left ∷ any.Single right ∷ []
-
-abbrev pub two64 : Source64 → Source64 → List AnySource
-two64 left right = any.Double left ∷ any.Double right ∷ []
+abbrev pub two : {S : Type 0} → (S → AnySource) → S → S → List AnySource
+two of_width left right = of_width left ∷ of_width right ∷ []
 
 -- what the operations of one bit read, in order
 abbrev pub control_reads : ControlOperation → List AnySource
 control_reads (control.Move s) = any.Control s ∷ []
 control_reads (control.Not s) = any.Control s ∷ []
-control_reads (control.And p) = two1 p.left p.right
-control_reads (control.Or p) = two1 p.left p.right
-control_reads (control.Xor p) = two1 p.left p.right
-control_reads (control.Choose c) = any.Control c.condition ∷ two1 c.one c.zero
-control_reads (control.Compare c) = two1 c.left c.right
-control_reads (control.CompareUnsigned32 c) = two32 c.left c.right
-control_reads (control.CompareSigned32 c) = two32 c.left c.right
-control_reads (control.CompareUnsigned64 c) = two64 c.left c.right
-control_reads (control.CompareSigned64 c) = two64 c.left c.right
+control_reads (control.And p) = two any.Control p.left p.right
+control_reads (control.Or p) = two any.Control p.left p.right
+control_reads (control.Xor p) = two any.Control p.left p.right
+control_reads (control.Choose c) = any.Control c.condition ∷ two any.Control c.one c.zero
+control_reads (control.Compare c) = two any.Control c.left c.right
+control_reads (control.CompareUnsigned32 c) = two any.Single c.left c.right
+control_reads (control.CompareSigned32 c) = two any.Single c.left c.right
+control_reads (control.CompareUnsigned64 c) = two any.Double c.left c.right
+control_reads (control.CompareSigned64 c) = two any.Double c.left c.right
 
 -- what those of 32 bits read
 abbrev pub single_reads : SingleOperation → List AnySource
 single_reads (single.Move s) = any.Single s ∷ []
 single_reads (single.Not s) = any.Single s ∷ []
-single_reads (single.MultiplyAdd t) = any.Single t.first ∷ two32 t.second t.third
-single_reads (single.Choose c) = any.Control c.condition ∷ two32 c.one c.zero
-single_reads (single.Add p) = two32 p.left p.right
-single_reads (single.Subtract p) = two32 p.left p.right
-single_reads (single.Multiply p) = two32 p.left p.right
-single_reads (single.DivideUnsigned p) = two32 p.left p.right
-single_reads (single.DivideSigned p) = two32 p.left p.right
-single_reads (single.RemainderUnsigned p) = two32 p.left p.right
-single_reads (single.RemainderSigned p) = two32 p.left p.right
-single_reads (single.LeastUnsigned p) = two32 p.left p.right
-single_reads (single.LeastSigned p) = two32 p.left p.right
-single_reads (single.GreatestUnsigned p) = two32 p.left p.right
-single_reads (single.GreatestSigned p) = two32 p.left p.right
-single_reads (single.And p) = two32 p.left p.right
-single_reads (single.Or p) = two32 p.left p.right
-single_reads (single.Xor p) = two32 p.left p.right
-single_reads (single.ShiftLeft p) = two32 p.left p.right
-single_reads (single.ShiftRightUnsigned p) = two32 p.left p.right
-single_reads (single.ShiftRightSigned p) = two32 p.left p.right
+single_reads (single.MultiplyAdd t) = any.Single t.first ∷ two any.Single t.second t.third
+single_reads (single.Choose c) = any.Control c.condition ∷ two any.Single c.one c.zero
+single_reads (single.Add p) = two any.Single p.left p.right
+single_reads (single.Subtract p) = two any.Single p.left p.right
+single_reads (single.Multiply p) = two any.Single p.left p.right
+single_reads (single.DivideUnsigned p) = two any.Single p.left p.right
+single_reads (single.DivideSigned p) = two any.Single p.left p.right
+single_reads (single.RemainderUnsigned p) = two any.Single p.left p.right
+single_reads (single.RemainderSigned p) = two any.Single p.left p.right
+single_reads (single.LeastUnsigned p) = two any.Single p.left p.right
+single_reads (single.LeastSigned p) = two any.Single p.left p.right
+single_reads (single.GreatestUnsigned p) = two any.Single p.left p.right
+single_reads (single.GreatestSigned p) = two any.Single p.left p.right
+single_reads (single.And p) = two any.Single p.left p.right
+single_reads (single.Or p) = two any.Single p.left p.right
+single_reads (single.Xor p) = two any.Single p.left p.right
+single_reads (single.ShiftLeft p) = two any.Single p.left p.right
+single_reads (single.ShiftRightUnsigned p) = two any.Single p.left p.right
+single_reads (single.ShiftRightSigned p) = two any.Single p.left p.right
 
 -- what those of 64 bits read
 abbrev pub double_reads : DoubleOperation → List AnySource
 double_reads (double.Move s) = any.Double s ∷ []
 double_reads (double.Not s) = any.Double s ∷ []
-double_reads (double.MultiplyAdd t) = any.Double t.first ∷ two64 t.second t.third
-double_reads (double.Choose c) = any.Control c.condition ∷ two64 c.one c.zero
-double_reads (double.Add p) = two64 p.left p.right
-double_reads (double.Subtract p) = two64 p.left p.right
-double_reads (double.Multiply p) = two64 p.left p.right
-double_reads (double.DivideUnsigned p) = two64 p.left p.right
-double_reads (double.DivideSigned p) = two64 p.left p.right
-double_reads (double.RemainderUnsigned p) = two64 p.left p.right
-double_reads (double.RemainderSigned p) = two64 p.left p.right
-double_reads (double.LeastUnsigned p) = two64 p.left p.right
-double_reads (double.LeastSigned p) = two64 p.left p.right
-double_reads (double.GreatestUnsigned p) = two64 p.left p.right
-double_reads (double.GreatestSigned p) = two64 p.left p.right
-double_reads (double.And p) = two64 p.left p.right
-double_reads (double.Or p) = two64 p.left p.right
-double_reads (double.Xor p) = two64 p.left p.right
+double_reads (double.MultiplyAdd t) = any.Double t.first ∷ two any.Double t.second t.third
+double_reads (double.Choose c) = any.Control c.condition ∷ two any.Double c.one c.zero
+double_reads (double.Add p) = two any.Double p.left p.right
+double_reads (double.Subtract p) = two any.Double p.left p.right
+double_reads (double.Multiply p) = two any.Double p.left p.right
+double_reads (double.DivideUnsigned p) = two any.Double p.left p.right
+double_reads (double.DivideSigned p) = two any.Double p.left p.right
+double_reads (double.RemainderUnsigned p) = two any.Double p.left p.right
+double_reads (double.RemainderSigned p) = two any.Double p.left p.right
+double_reads (double.LeastUnsigned p) = two any.Double p.left p.right
+double_reads (double.LeastSigned p) = two any.Double p.left p.right
+double_reads (double.GreatestUnsigned p) = two any.Double p.left p.right
+double_reads (double.GreatestSigned p) = two any.Double p.left p.right
+double_reads (double.And p) = two any.Double p.left p.right
+double_reads (double.Or p) = two any.Double p.left p.right
+double_reads (double.Xor p) = two any.Double p.left p.right
 double_reads (double.ShiftLeft s) = any.Double s.value ∷ any.Single s.count ∷ []
 double_reads (double.ShiftRightUnsigned s) = any.Double s.value ∷ any.Single s.count ∷ []
 double_reads (double.ShiftRightSigned s) = any.Double s.value ∷ any.Single s.count ∷ []
@@ -612,7 +600,7 @@ atomic32_reads (atomic32.And s) = any.Single s ∷ []
 atomic32_reads (atomic32.Or s) = any.Single s ∷ []
 atomic32_reads (atomic32.Xor s) = any.Single s ∷ []
 atomic32_reads (atomic32.Exchange s) = any.Single s ∷ []
-atomic32_reads (atomic32.CompareAndSwap p) = two32 p.expected p.replacement
+atomic32_reads (atomic32.CompareAndSwap p) = two any.Single p.expected p.replacement
 
 -- what one of 64 bits reads
 abbrev pub atomic64_reads : AtomicOperation64 → List AnySource
@@ -626,7 +614,7 @@ atomic64_reads (atomic64.And s) = any.Double s ∷ []
 atomic64_reads (atomic64.Or s) = any.Double s ∷ []
 atomic64_reads (atomic64.Xor s) = any.Double s ∷ []
 atomic64_reads (atomic64.Exchange s) = any.Double s ∷ []
-atomic64_reads (atomic64.CompareAndSwap p) = two64 p.expected p.replacement
+atomic64_reads (atomic64.CompareAndSwap p) = two any.Double p.expected p.replacement
 
 -- the sources that a step reads, in order
 abbrev pub reads : Step → List AnySource

@@ -31,9 +31,9 @@ pub use laws::{
 pub use program::Program;
 pub use step::{
     AnyRegister, AnySource, ArgumentStep, AtomicOperation32, AtomicOperation64, AtomicPointer,
-    AtomicStep32, AtomicStep64, BranchStep, Choice1, Choice32, Choice64, Compare1, Compare32,
-    Compare64, ControlOperation, ControlStep, ConvertStep, Dimension, DoubleOperation, DoubleStep,
-    GroupLoadStep, GroupPointer, GroupStoreStep, LinedStep, LoadStep, NumberType, Pair1, Pair32,
-    Pair64, Pointer, RegisterNumber, Shift64, SingleOperation, SingleStep, Source1, Source32,
-    Source64, Step, StoreStep, Swap32, Swap64, Triple32, Triple64, WorkItemQueryStep,
+    AtomicStep32, AtomicStep64, BranchStep, Choice, Compare, ControlOperation, ControlStep,
+    ConvertStep, Dimension, DoubleOperation, DoubleStep, GroupLoadStep, GroupPointer,
+    GroupStoreStep, LinedStep, LoadStep, NumberType, Pair, Pointer, RegisterNumber, Shift64,
+    SingleOperation, SingleStep, Source, Source1, Source32, Source64, Step, StoreStep, Swap,
+    Triple, WorkItemQueryStep,
 };

@@ -11,7 +11,7 @@ use crate::names::Names;
 use crate::step::{
     AddressForms, ArgumentStep, AtomicOperation32, AtomicOperation64, AtomicPointer, AtomicStep32,
     AtomicStep64, GroupLoadStep, GroupPointer, GroupStoreStep, LoadStep, Pointer, RegisterNumber,
-    Source32, Source64, Step, StoreStep, Swap32, Swap64,
+    Source32, Source64, Step, StoreStep, Swap,
 };
 use crate::values::{
     any_register, any_source, is_signed, number_type, register_number, source32, source64,
@@ -241,7 +241,7 @@ fn atomic32(
         (AtomicOperation::Or, _) => AtomicOperation32::Or(source),
         (AtomicOperation::Xor, _) => AtomicOperation32::Xor(source),
         (AtomicOperation::Exchange, _) => AtomicOperation32::Exchange(source),
-        (AtomicOperation::CompareAndSwap, _) => AtomicOperation32::CompareAndSwap(Swap32 {
+        (AtomicOperation::CompareAndSwap, _) => AtomicOperation32::CompareAndSwap(Swap {
             expected: source,
             replacement,
         }),
@@ -268,7 +268,7 @@ fn atomic64(
         (AtomicOperation::Or, _) => AtomicOperation64::Or(source),
         (AtomicOperation::Xor, _) => AtomicOperation64::Xor(source),
         (AtomicOperation::Exchange, _) => AtomicOperation64::Exchange(source),
-        (AtomicOperation::CompareAndSwap, _) => AtomicOperation64::CompareAndSwap(Swap64 {
+        (AtomicOperation::CompareAndSwap, _) => AtomicOperation64::CompareAndSwap(Swap {
             expected: source,
             replacement,
         }),

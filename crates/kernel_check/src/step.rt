@@ -54,27 +54,21 @@ pub enum AnyRegister {
     Double(RegisterNumber),
 }
 
-/// What an operation reads: 1 bit, of a `$c` register or a constant.
+/// What an operation reads: a register, or a constant of so many bits.
 #[derive(Clone, Copy)]
-pub enum Source1 {
+pub enum Source<N> {
     Register(RegisterNumber),
-    Constant(bool),
+    Constant(N),
 }
 
-/// What an operation reads: 32 bits, of an `$s` register or a constant. A place of 8 or 16 bits reads the
-/// low ones.
-#[derive(Clone, Copy)]
-pub enum Source32 {
-    Register(RegisterNumber),
-    Constant(u32),
-}
+/// 1 bit, of a `$c` register or a constant.
+pub type Source1 = Source<bool>;
 
-/// What an operation reads: 64 bits, of a `$d` register or a constant.
-#[derive(Clone, Copy)]
-pub enum Source64 {
-    Register(RegisterNumber),
-    Constant(u64),
-}
+/// 32 bits, of an `$s` register or a constant. A place of 8 or 16 bits reads the low ones.
+pub type Source32 = Source<u32>;
+
+/// 64 bits, of a `$d` register or a constant.
+pub type Source64 = Source<u64>;
 
 /// What an operation of several types reads.
 #[derive(Clone, Copy)]
@@ -84,65 +78,27 @@ pub enum AnySource {
     Double(Source64),
 }
 
-/// The two sources of an operation of 1 bit.
+/// The two sources of an operation.
 #[derive(Clone, Copy)]
-pub struct Pair1 {
-    pub left: Source1,
-    pub right: Source1,
+pub struct Pair<S> {
+    pub left: S,
+    pub right: S,
 }
 
-/// The two sources of an operation of 32 bits.
+/// The three sources of `mad`: the product of the first two, and the third.
 #[derive(Clone, Copy)]
-pub struct Pair32 {
-    pub left: Source32,
-    pub right: Source32,
+pub struct Triple<S> {
+    pub first: S,
+    pub second: S,
+    pub third: S,
 }
 
-/// The two sources of an operation of 64 bits.
+/// The sources of `cmov`: one where the condition is 1, the other where it is 0.
 #[derive(Clone, Copy)]
-pub struct Pair64 {
-    pub left: Source64,
-    pub right: Source64,
-}
-
-/// The three sources of `mad` of 32 bits: the product of the first two, and the third.
-#[derive(Clone, Copy)]
-pub struct Triple32 {
-    pub first: Source32,
-    pub second: Source32,
-    pub third: Source32,
-}
-
-/// The three sources of `mad` of 64 bits: the product of the first two, and the third.
-#[derive(Clone, Copy)]
-pub struct Triple64 {
-    pub first: Source64,
-    pub second: Source64,
-    pub third: Source64,
-}
-
-/// The sources of `cmov` of 1 bit: one where the condition is 1, the other where it is 0.
-#[derive(Clone, Copy)]
-pub struct Choice1 {
+pub struct Choice<S> {
     pub condition: Source1,
-    pub one: Source1,
-    pub zero: Source1,
-}
-
-/// The sources of `cmov` of 32 bits: one where the condition is 1, the other where it is 0.
-#[derive(Clone, Copy)]
-pub struct Choice32 {
-    pub condition: Source1,
-    pub one: Source32,
-    pub zero: Source32,
-}
-
-/// The sources of `cmov` of 64 bits: one where the condition is 1, the other where it is 0.
-#[derive(Clone, Copy)]
-pub struct Choice64 {
-    pub condition: Source1,
-    pub one: Source64,
-    pub zero: Source64,
+    pub one: S,
+    pub zero: S,
 }
 
 /// The sources of a shift of 64 bits, whose count has 32.
@@ -152,28 +108,12 @@ pub struct Shift64 {
     pub count: Source32,
 }
 
-/// What `cmp` of 1 bit asks, and of what.
+/// What `cmp` asks, and of what.
 #[derive(Clone, Copy)]
-pub struct Compare1 {
+pub struct Compare<S> {
     pub comparison: Comparison,
-    pub left: Source1,
-    pub right: Source1,
-}
-
-/// What `cmp` of 32 bits asks, and of what.
-#[derive(Clone, Copy)]
-pub struct Compare32 {
-    pub comparison: Comparison,
-    pub left: Source32,
-    pub right: Source32,
-}
-
-/// What `cmp` of 64 bits asks, and of what.
-#[derive(Clone, Copy)]
-pub struct Compare64 {
-    pub comparison: Comparison,
-    pub left: Source64,
-    pub right: Source64,
+    pub left: S,
+    pub right: S,
 }
 
 /// What puts one bit into a `$c` register.
@@ -184,23 +124,23 @@ pub enum ControlOperation {
     /// `not_b1`
     Not(Source1),
     /// `and_b1`
-    And(Pair1),
+    And(Pair<Source1>),
     /// `or_b1`
-    Or(Pair1),
+    Or(Pair<Source1>),
     /// `xor_b1`
-    Xor(Pair1),
+    Xor(Pair<Source1>),
     /// `cmov_b1`
-    Choose(Choice1),
+    Choose(Choice<Source1>),
     /// `cmp_OP_b1_b1`
-    Compare(Compare1),
+    Compare(Compare<Source1>),
     /// `cmp_OP_b1_u32`, and `b32`
-    CompareUnsigned32(Compare32),
+    CompareUnsigned32(Compare<Source32>),
     /// `cmp_OP_b1_s32`
-    CompareSigned32(Compare32),
+    CompareSigned32(Compare<Source32>),
     /// `cmp_OP_b1_u64`, and `b64`
-    CompareUnsigned64(Compare64),
+    CompareUnsigned64(Compare<Source64>),
     /// `cmp_OP_b1_s64`
-    CompareSigned64(Compare64),
+    CompareSigned64(Compare<Source64>),
 }
 
 /// What puts 32 bits into an `$s` register.
@@ -211,43 +151,43 @@ pub enum SingleOperation {
     /// `not_b32`
     Not(Source32),
     /// `add_T`
-    Add(Pair32),
+    Add(Pair<Source32>),
     /// `sub_T`
-    Subtract(Pair32),
+    Subtract(Pair<Source32>),
     /// `mul_T`
-    Multiply(Pair32),
+    Multiply(Pair<Source32>),
     /// `mad_T`
-    MultiplyAdd(Triple32),
+    MultiplyAdd(Triple<Source32>),
     /// `div_u32`
-    DivideUnsigned(Pair32),
+    DivideUnsigned(Pair<Source32>),
     /// `div_s32`
-    DivideSigned(Pair32),
+    DivideSigned(Pair<Source32>),
     /// `rem_u32`
-    RemainderUnsigned(Pair32),
+    RemainderUnsigned(Pair<Source32>),
     /// `rem_s32`
-    RemainderSigned(Pair32),
+    RemainderSigned(Pair<Source32>),
     /// `min_u32`
-    LeastUnsigned(Pair32),
+    LeastUnsigned(Pair<Source32>),
     /// `min_s32`
-    LeastSigned(Pair32),
+    LeastSigned(Pair<Source32>),
     /// `max_u32`
-    GreatestUnsigned(Pair32),
+    GreatestUnsigned(Pair<Source32>),
     /// `max_s32`
-    GreatestSigned(Pair32),
+    GreatestSigned(Pair<Source32>),
     /// `and_b32`
-    And(Pair32),
+    And(Pair<Source32>),
     /// `or_b32`
-    Or(Pair32),
+    Or(Pair<Source32>),
     /// `xor_b32`
-    Xor(Pair32),
+    Xor(Pair<Source32>),
     /// `shl_T`
-    ShiftLeft(Pair32),
+    ShiftLeft(Pair<Source32>),
     /// `shr_u32`
-    ShiftRightUnsigned(Pair32),
+    ShiftRightUnsigned(Pair<Source32>),
     /// `shr_s32`
-    ShiftRightSigned(Pair32),
+    ShiftRightSigned(Pair<Source32>),
     /// `cmov_b32`
-    Choose(Choice32),
+    Choose(Choice<Source32>),
 }
 
 /// What puts 64 bits into a `$d` register.
@@ -258,35 +198,35 @@ pub enum DoubleOperation {
     /// `not_b64`
     Not(Source64),
     /// `add_T`
-    Add(Pair64),
+    Add(Pair<Source64>),
     /// `sub_T`
-    Subtract(Pair64),
+    Subtract(Pair<Source64>),
     /// `mul_T`
-    Multiply(Pair64),
+    Multiply(Pair<Source64>),
     /// `mad_T`
-    MultiplyAdd(Triple64),
+    MultiplyAdd(Triple<Source64>),
     /// `div_u64`
-    DivideUnsigned(Pair64),
+    DivideUnsigned(Pair<Source64>),
     /// `div_s64`
-    DivideSigned(Pair64),
+    DivideSigned(Pair<Source64>),
     /// `rem_u64`
-    RemainderUnsigned(Pair64),
+    RemainderUnsigned(Pair<Source64>),
     /// `rem_s64`
-    RemainderSigned(Pair64),
+    RemainderSigned(Pair<Source64>),
     /// `min_u64`
-    LeastUnsigned(Pair64),
+    LeastUnsigned(Pair<Source64>),
     /// `min_s64`
-    LeastSigned(Pair64),
+    LeastSigned(Pair<Source64>),
     /// `max_u64`
-    GreatestUnsigned(Pair64),
+    GreatestUnsigned(Pair<Source64>),
     /// `max_s64`
-    GreatestSigned(Pair64),
+    GreatestSigned(Pair<Source64>),
     /// `and_b64`
-    And(Pair64),
+    And(Pair<Source64>),
     /// `or_b64`
-    Or(Pair64),
+    Or(Pair<Source64>),
     /// `xor_b64`
-    Xor(Pair64),
+    Xor(Pair<Source64>),
     /// `shl_T`
     ShiftLeft(Shift64),
     /// `shr_u64`
@@ -294,7 +234,7 @@ pub enum DoubleOperation {
     /// `shr_s64`
     ShiftRightSigned(Shift64),
     /// `cmov_b64`
-    Choose(Choice64),
+    Choose(Choice<Source64>),
 }
 
 /// The types that `cvt` and `ld` read and write, and `st` writes (PRM, Base Data Types). A `b` type is
@@ -405,18 +345,11 @@ pub struct GroupStoreStep {
     pub pointer: GroupPointer,
 }
 
-/// The sources of `cas` of 32 bits: where the old value is the expected one, the other is stored.
+/// The sources of `cas`: where the old value is the expected one, the other is stored.
 #[derive(Clone, Copy)]
-pub struct Swap32 {
-    pub expected: Source32,
-    pub replacement: Source32,
-}
-
-/// The sources of `cas` of 64 bits: where the old value is the expected one, the other is stored.
-#[derive(Clone, Copy)]
-pub struct Swap64 {
-    pub expected: Source64,
-    pub replacement: Source64,
+pub struct Swap<S> {
+    pub expected: S,
+    pub replacement: S,
 }
 
 /// What an atomic operation puts in place of 32 bits of memory: the old value and its source, joined
@@ -444,7 +377,7 @@ pub enum AtomicOperation32 {
     /// `exch_b32`: the source
     Exchange(Source32),
     /// `cas_b32`: nothing, where the old value is another than the expected one
-    CompareAndSwap(Swap32),
+    CompareAndSwap(Swap<Source32>),
 }
 
 /// What an atomic operation puts in place of 64 bits of memory, as `AtomicOperation32` says.
@@ -471,7 +404,7 @@ pub enum AtomicOperation64 {
     /// `exch_b64`: the source
     Exchange(Source64),
     /// `cas_b64`: nothing, where the old value is another than the expected one
-    CompareAndSwap(Swap64),
+    CompareAndSwap(Swap<Source64>),
 }
 
 /// `atomic_OP_SEG_O_S_T target, [address], ..` of 32 bits, which puts the old value into an `$s`

@@ -10,10 +10,9 @@ use crate::layout::Placed;
 use crate::memory::{Atomic, atomic_at, load_at, store_at};
 use crate::names::Names;
 use crate::step::{
-    BranchStep, Choice1, Choice32, Choice64, Compare1, Compare32, Compare64, ControlOperation,
-    ControlStep, ConvertStep, Dimension, DoubleOperation, DoubleStep, Pair1, Pair32, Pair64,
-    RegisterNumber, Shift64, SingleOperation, SingleStep, Step, Triple32, Triple64,
-    WorkItemQueryStep,
+    BranchStep, Choice, Compare, ControlOperation, ControlStep, ConvertStep, Dimension,
+    DoubleOperation, DoubleStep, Pair, RegisterNumber, Shift64, SingleOperation, SingleStep,
+    Source1, Source32, Source64, Step, Triple, WorkItemQueryStep,
 };
 use crate::values::{
     any_register, any_source, is_signed, number_type, read_in, register_number, source1, source32,
@@ -205,14 +204,14 @@ fn unary_step(unary: &Unary) -> Step
 }
 
 /// The operation of one bit.
-fn control_operation(operation: BinaryOperation, pair: Pair1) -> ControlOperation
+fn control_operation(operation: BinaryOperation, pair: Pair<Source1>) -> ControlOperation
     ensures { result ≡ control_operation operation pair }
 {
     match operation {
         BinaryOperation::And => ControlOperation::And(pair),
         BinaryOperation::Or => ControlOperation::Or(pair),
         BinaryOperation::Xor => ControlOperation::Xor(pair),
-        BinaryOperation::Compare(comparison) => ControlOperation::Compare(Compare1 {
+        BinaryOperation::Compare(comparison) => ControlOperation::Compare(Compare {
             comparison,
             left: pair.left,
             right: pair.right,
@@ -222,7 +221,11 @@ fn control_operation(operation: BinaryOperation, pair: Pair1) -> ControlOperatio
 }
 
 /// The operation of 32 bits, of a type with a sign or without.
-fn single_operation(operation: BinaryOperation, signed: bool, pair: Pair32) -> SingleOperation
+fn single_operation(
+    operation: BinaryOperation,
+    signed: bool,
+    pair: Pair<Source32>,
+) -> SingleOperation
     ensures { result ≡ single_operation operation signed pair }
 {
     match (operation, signed) {
@@ -251,7 +254,7 @@ fn single_operation(operation: BinaryOperation, signed: bool, pair: Pair32) -> S
 fn double_operation(
     operation: BinaryOperation,
     signed: bool,
-    pair: Pair64,
+    pair: Pair<Source64>,
     shift: Shift64,
 ) -> DoubleOperation
     ensures { result ≡ double_operation operation signed pair shift }
@@ -279,10 +282,10 @@ fn double_operation(
 }
 
 /// `cmp` of 32 bits, of a type with a sign or without.
-fn compare32(comparison: Comparison, signed: bool, pair: Pair32) -> ControlOperation
+fn compare32(comparison: Comparison, signed: bool, pair: Pair<Source32>) -> ControlOperation
     ensures { result ≡ compare32 comparison signed pair }
 {
-    let compare = Compare32 {
+    let compare = Compare {
         comparison,
         left: pair.left,
         right: pair.right,
@@ -295,10 +298,10 @@ fn compare32(comparison: Comparison, signed: bool, pair: Pair32) -> ControlOpera
 }
 
 /// `cmp` of 64 bits, of a type with a sign or without.
-fn compare64(comparison: Comparison, signed: bool, pair: Pair64) -> ControlOperation
+fn compare64(comparison: Comparison, signed: bool, pair: Pair<Source64>) -> ControlOperation
     ensures { result ≡ compare64 comparison signed pair }
 {
-    let compare = Compare64 {
+    let compare = Compare {
         comparison,
         left: pair.left,
         right: pair.right,
@@ -313,7 +316,7 @@ fn compare64(comparison: Comparison, signed: bool, pair: Pair64) -> ControlOpera
 fn binary1_step(binary: &Binary) -> Step
     ensures { result ≡ binary1 binary.now }
 {
-    let pair = Pair1 {
+    let pair = Pair {
         left: source1(binary.left),
         right: source1(binary.right),
     };
@@ -327,7 +330,7 @@ fn binary32_step(
     operation: BinaryOperation,
     signed: bool,
     target: RegisterNumber,
-    pair: Pair32,
+    pair: Pair<Source32>,
 ) -> Step
     ensures { result ≡ binary32 operation signed target pair }
 {
@@ -341,7 +344,7 @@ fn binary64_step(
     operation: BinaryOperation,
     signed: bool,
     target: RegisterNumber,
-    pair: Pair64,
+    pair: Pair<Source64>,
     shift: Shift64,
 ) -> Step
     ensures { result ≡ binary64 operation signed target pair shift }
@@ -353,20 +356,20 @@ fn binary64_step(
 }
 
 /// The two sources of an operation of 32 bits.
-fn pair32(binary: &Binary) -> Pair32
+fn pair32(binary: &Binary) -> Pair<Source32>
     ensures { result ≡ pair32_of binary.now }
 {
-    Pair32 {
+    Pair {
         left: source32(binary.left),
         right: source32(binary.right),
     }
 }
 
 /// The two sources of an operation of 64 bits.
-fn pair64(binary: &Binary) -> Pair64
+fn pair64(binary: &Binary) -> Pair<Source64>
     ensures { result ≡ pair64_of binary.now }
 {
-    Pair64 {
+    Pair {
         left: source64(binary.left),
         right: source64(binary.right),
     }
@@ -406,7 +409,7 @@ fn multiply_add_step(ternary: &Ternary) -> Step
         RegisterClass::Control => sets1(target, ControlOperation::Move(source1(ternary.first))),
         RegisterClass::Single => sets32(
             target,
-            SingleOperation::MultiplyAdd(Triple32 {
+            SingleOperation::MultiplyAdd(Triple {
                 first: source32(ternary.first),
                 second: source32(ternary.second),
                 third: source32(ternary.third),
@@ -414,7 +417,7 @@ fn multiply_add_step(ternary: &Ternary) -> Step
         ),
         RegisterClass::Double => sets64(
             target,
-            DoubleOperation::MultiplyAdd(Triple64 {
+            DoubleOperation::MultiplyAdd(Triple {
                 first: source64(ternary.first),
                 second: source64(ternary.second),
                 third: source64(ternary.third),
@@ -432,7 +435,7 @@ fn choose_step(ternary: &Ternary) -> Step
     match ternary.kind.class() {
         RegisterClass::Control => sets1(
             target,
-            ControlOperation::Choose(Choice1 {
+            ControlOperation::Choose(Choice {
                 condition,
                 one: source1(ternary.second),
                 zero: source1(ternary.third),
@@ -440,7 +443,7 @@ fn choose_step(ternary: &Ternary) -> Step
         ),
         RegisterClass::Single => sets32(
             target,
-            SingleOperation::Choose(Choice32 {
+            SingleOperation::Choose(Choice {
                 condition,
                 one: source32(ternary.second),
                 zero: source32(ternary.third),
@@ -448,7 +451,7 @@ fn choose_step(ternary: &Ternary) -> Step
         ),
         RegisterClass::Double => sets64(
             target,
-            DoubleOperation::Choose(Choice64 {
+            DoubleOperation::Choose(Choice {
                 condition,
                 one: source64(ternary.second),
                 zero: source64(ternary.third),
