@@ -4,11 +4,10 @@
 
 use hsail_reader::{Comparison, WorkItemQuery};
 use kernel_check::{
-    AnyRegister, AnySource, ArgumentStep, AtomicOperation32, AtomicOperation64, AtomicPointer,
-    AtomicStep32, AtomicStep64, BranchStep, Choice, ControlOperation, ConvertStep, Dimension,
-    DoubleOperation, GroupLoadStep, GroupPointer, GroupStoreStep, LoadStep, NumberType, Pair,
-    Pointer, RegisterNumber, SingleOperation, Source1, Source32, Source64, Step, StoreStep, Triple,
-    WorkItemQueryStep,
+    AnyRegister, AnySource, ArgumentStep, AtomicChange, AtomicPointer, AtomicStep, BranchStep,
+    Choice, ControlOperation, ConvertStep, Dimension, DoubleOperation, GroupLoadStep, GroupPointer,
+    GroupStoreStep, LoadStep, NumberType, Pair, Pointer, RegisterNumber, SingleOperation, Source1,
+    Source32, Source64, Step, StoreStep, Triple, WorkItemQueryStep,
 };
 use std::alloc::AllocError;
 
@@ -397,91 +396,47 @@ fn push_group_store(line: &mut String, step: &GroupStoreStep) -> Result<(), Allo
     push_group_pointer(line, step.pointer)
 }
 
-// The operation of 32 bits, without its type.
-fn atomic32_name(operation: &AtomicOperation32) -> &'static str {
+// The operation, without its type.
+fn atomic_name<S>(operation: &AtomicChange<S>) -> &'static str {
     match operation {
-        AtomicOperation32::Add(_) => "add",
-        AtomicOperation32::Subtract(_) => "sub",
-        AtomicOperation32::LeastUnsigned(_) | AtomicOperation32::LeastSigned(_) => "min",
-        AtomicOperation32::GreatestUnsigned(_) | AtomicOperation32::GreatestSigned(_) => "max",
-        AtomicOperation32::And(_) => "and",
-        AtomicOperation32::Or(_) => "or",
-        AtomicOperation32::Xor(_) => "xor",
-        AtomicOperation32::Exchange(_) => "exch",
-        AtomicOperation32::CompareAndSwap(_) => "cas",
+        AtomicChange::Add(_) => "add",
+        AtomicChange::Subtract(_) => "sub",
+        AtomicChange::LeastUnsigned(_) | AtomicChange::LeastSigned(_) => "min",
+        AtomicChange::GreatestUnsigned(_) | AtomicChange::GreatestSigned(_) => "max",
+        AtomicChange::And(_) => "and",
+        AtomicChange::Or(_) => "or",
+        AtomicChange::Xor(_) => "xor",
+        AtomicChange::Exchange(_) => "exch",
+        AtomicChange::CompareAndSwap(_) => "cas",
     }
 }
 
-// The type that it computes with.
-fn atomic32_type(operation: &AtomicOperation32) -> &'static str {
+// How the type that it computes with reads its bits.
+fn atomic_type<S>(operation: &AtomicChange<S>) -> &'static str {
     match operation {
-        AtomicOperation32::Add(_) | AtomicOperation32::Subtract(_) => "u32",
-        AtomicOperation32::LeastUnsigned(_) | AtomicOperation32::GreatestUnsigned(_) => "u32",
-        AtomicOperation32::LeastSigned(_) | AtomicOperation32::GreatestSigned(_) => "s32",
-        _ => "b32",
+        AtomicChange::Add(_) | AtomicChange::Subtract(_) => "u",
+        AtomicChange::LeastUnsigned(_) | AtomicChange::GreatestUnsigned(_) => "u",
+        AtomicChange::LeastSigned(_) | AtomicChange::GreatestSigned(_) => "s",
+        _ => "b",
     }
 }
 
-fn push_atomic32_sources(
+fn push_atomic_sources<S: Listed>(
     line: &mut String,
-    operation: &AtomicOperation32,
+    operation: &AtomicChange<S>,
 ) -> Result<(), AllocError> {
     match operation {
-        AtomicOperation32::CompareAndSwap(swap) => push_two(line, swap.expected, swap.replacement),
-        AtomicOperation32::Add(source)
-        | AtomicOperation32::Subtract(source)
-        | AtomicOperation32::LeastUnsigned(source)
-        | AtomicOperation32::LeastSigned(source)
-        | AtomicOperation32::GreatestUnsigned(source)
-        | AtomicOperation32::GreatestSigned(source)
-        | AtomicOperation32::And(source)
-        | AtomicOperation32::Or(source)
-        | AtomicOperation32::Xor(source)
-        | AtomicOperation32::Exchange(source) => source.push(line),
-    }
-}
-
-// The operation of 64 bits, without its type.
-fn atomic64_name(operation: &AtomicOperation64) -> &'static str {
-    match operation {
-        AtomicOperation64::Add(_) => "add",
-        AtomicOperation64::Subtract(_) => "sub",
-        AtomicOperation64::LeastUnsigned(_) | AtomicOperation64::LeastSigned(_) => "min",
-        AtomicOperation64::GreatestUnsigned(_) | AtomicOperation64::GreatestSigned(_) => "max",
-        AtomicOperation64::And(_) => "and",
-        AtomicOperation64::Or(_) => "or",
-        AtomicOperation64::Xor(_) => "xor",
-        AtomicOperation64::Exchange(_) => "exch",
-        AtomicOperation64::CompareAndSwap(_) => "cas",
-    }
-}
-
-// The type that it computes with.
-fn atomic64_type(operation: &AtomicOperation64) -> &'static str {
-    match operation {
-        AtomicOperation64::Add(_) | AtomicOperation64::Subtract(_) => "u64",
-        AtomicOperation64::LeastUnsigned(_) | AtomicOperation64::GreatestUnsigned(_) => "u64",
-        AtomicOperation64::LeastSigned(_) | AtomicOperation64::GreatestSigned(_) => "s64",
-        _ => "b64",
-    }
-}
-
-fn push_atomic64_sources(
-    line: &mut String,
-    operation: &AtomicOperation64,
-) -> Result<(), AllocError> {
-    match operation {
-        AtomicOperation64::CompareAndSwap(swap) => push_two(line, swap.expected, swap.replacement),
-        AtomicOperation64::Add(source)
-        | AtomicOperation64::Subtract(source)
-        | AtomicOperation64::LeastUnsigned(source)
-        | AtomicOperation64::LeastSigned(source)
-        | AtomicOperation64::GreatestUnsigned(source)
-        | AtomicOperation64::GreatestSigned(source)
-        | AtomicOperation64::And(source)
-        | AtomicOperation64::Or(source)
-        | AtomicOperation64::Xor(source)
-        | AtomicOperation64::Exchange(source) => source.push(line),
+        AtomicChange::CompareAndSwap(swap) => push_two(line, swap.expected, swap.replacement),
+        AtomicChange::Add(source)
+        | AtomicChange::Subtract(source)
+        | AtomicChange::LeastUnsigned(source)
+        | AtomicChange::LeastSigned(source)
+        | AtomicChange::GreatestUnsigned(source)
+        | AtomicChange::GreatestSigned(source)
+        | AtomicChange::And(source)
+        | AtomicChange::Or(source)
+        | AtomicChange::Xor(source)
+        | AtomicChange::Exchange(source) => source.push(line),
     }
 }
 
@@ -495,42 +450,37 @@ fn push_atomic_pointer(line: &mut String, pointer: AtomicPointer) -> Result<(), 
 }
 
 // The beginning of an atomic operation: its word, with the segment and without order and scope, and its target.
-fn push_atomic_target(
+fn push_atomic_target<S>(
     line: &mut String,
-    target: Option<RegisterNumber>,
+    step: &AtomicStep<S>,
     class: &str,
-    operation: &str,
-    pointer: AtomicPointer,
-    kind: &str,
+    width: &str,
 ) -> Result<(), AllocError> {
-    let segment = match pointer {
+    let operation = atomic_name(&step.operation);
+    let kind = atomic_type(&step.operation);
+    let segment = match step.pointer {
         AtomicPointer::Global(_) => "global",
         AtomicPointer::Group(_) => "group",
     };
-    match target {
-        None => write!(line, "atomicnoret_{operation}_{segment}_{kind} "),
+    match step.target {
+        None => write!(line, "atomicnoret_{operation}_{segment}_{kind}{width} "),
         Some(slot) => {
-            write!(line, "atomic_{operation}_{segment}_{kind} ")?;
+            write!(line, "atomic_{operation}_{segment}_{kind}{width} ")?;
             push_slot(line, class, slot)?;
             push_comma(line)
         }
     }
 }
 
-fn push_atomic32(line: &mut String, step: &AtomicStep32) -> Result<(), AllocError> {
-    let operation = atomic32_name(&step.operation);
-    let kind = atomic32_type(&step.operation);
-    push_atomic_target(line, step.target, "s", operation, step.pointer, kind)?;
+fn push_atomic<S: Listed>(
+    line: &mut String,
+    step: &AtomicStep<S>,
+    class: &str,
+    width: &str,
+) -> Result<(), AllocError> {
+    push_atomic_target(line, step, class, width)?;
     push_atomic_pointer(line, step.pointer)?;
-    push_atomic32_sources(line, &step.operation)
-}
-
-fn push_atomic64(line: &mut String, step: &AtomicStep64) -> Result<(), AllocError> {
-    let operation = atomic64_name(&step.operation);
-    let kind = atomic64_type(&step.operation);
-    push_atomic_target(line, step.target, "d", operation, step.pointer, kind)?;
-    push_atomic_pointer(line, step.pointer)?;
-    push_atomic64_sources(line, &step.operation)
+    push_atomic_sources(line, &step.operation)
 }
 
 fn push_conditional_branch(line: &mut String, step: &BranchStep) -> Result<(), AllocError> {
@@ -576,8 +526,8 @@ pub fn push_step(line: &mut String, step: &Step) -> Result<(), AllocError> {
         Step::Store(step) => push_store(line, step),
         Step::LoadGroup(step) => push_group_load(line, step),
         Step::StoreGroup(step) => push_group_store(line, step),
-        Step::Atomic32(step) => push_atomic32(line, step),
-        Step::Atomic64(step) => push_atomic64(line, step),
+        Step::Atomic32(step) => push_atomic(line, step, "s", "32"),
+        Step::Atomic64(step) => push_atomic(line, step, "d", "64"),
         Step::Branch(next) => write!(line, "br {next}"),
         Step::ConditionalBranch(step) => push_conditional_branch(line, step),
         Step::Return => line.push_str("ret"),

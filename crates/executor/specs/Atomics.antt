@@ -1,6 +1,6 @@
 -- Atomic operations: what they find, and what they leave in its place (PRM, Atomic Memory Operations).
 use Rattle.std.specs.Prelude.{ℕ, ◌==◌, if◌then◌else◌, List, take, drop, Option, Some, None, Result, bit_and, bit_or, bit_xor}
-use Rattle.std.specs.Int.{w32, w64, to_le_bytes}
+use Rattle.std.specs.Int.{Width, w32, w64, to_le_bytes}
 use Rattle.executor.specs.Accesses.{atomic_broken, group_atomic_broken, lent, overlaid, unless_broken}
 use Rattle.executor.specs.Addresses.{address_of, group_address_of}
 use Rattle.executor.specs.Items.{Contents, LentRegion}
@@ -8,12 +8,11 @@ use Rattle.executor.specs.Numbers.{unsigned, signed, computed, sum, difference, 
 use Rattle.executor.specs.Registers.{read32, read64, with32, with64}
 use Rattle.executor.specs.Written.{laid, seen}
 use Rattle.executor.specs.declared.registers.Registers.{Registers}
-use Rattle.kernel_check.specs.declared.step.AtomicOperation32.{AtomicOperation32}
-use Rattle.kernel_check.specs.declared.step.AtomicOperation32.TheVariants as atomic32
-use Rattle.kernel_check.specs.declared.step.AtomicOperation64.{AtomicOperation64}
-use Rattle.kernel_check.specs.declared.step.AtomicOperation64.TheVariants as atomic64
+use Rattle.kernel_check.specs.declared.step.AtomicChange.{AtomicChange}
+use Rattle.kernel_check.specs.declared.step.AtomicChange.TheVariants as change
 use Rattle.kernel_check.specs.declared.step.AtomicPointer.{AtomicPointer}
 use Rattle.kernel_check.specs.declared.step.AtomicPointer.TheVariants as pointer
+use Rattle.kernel_check.specs.declared.step.Source.{Source}
 use Rattle.queue_error.specs.declared.error.SegmentAddress.{SegmentAddress}
 use Rattle.queue_error.specs.declared.error.SegmentAddress.TheVariants as segment
 use Rattle.queue_error.specs.declared.rule.Rule.{Rule}
@@ -33,36 +32,26 @@ abbrev pub put : Contents → SegmentAddress → List ℕ → Contents
 put m (segment.Global x) bytes = record m { written = laid m.written x bytes }
 put m (segment.Group x) bytes = record m { group = overlaid m.group x bytes }
 
--- what an operation of 32 bits leaves in place of an old value; a cas that finds another than the expected one stores
--- nothing (PRM, Atomic (atomic) Operations)
-abbrev pub replacing32 : Registers → AtomicOperation32 → ℕ → Option ℕ
-replacing32 r (atomic32.Add s) old = Some (computed sum unsigned w32 old (read32 r s))
-replacing32 r (atomic32.Subtract s) old = Some (computed difference unsigned w32 old (read32 r s))
-replacing32 r (atomic32.LeastUnsigned s) old = Some (computed least unsigned w32 old (read32 r s))
-replacing32 r (atomic32.LeastSigned s) old = Some (computed least signed w32 old (read32 r s))
-replacing32 r (atomic32.GreatestUnsigned s) old = Some (computed greatest unsigned w32 old (read32 r s))
-replacing32 r (atomic32.GreatestSigned s) old = Some (computed greatest signed w32 old (read32 r s))
-replacing32 r (atomic32.And s) old = Some (bit_and old (read32 r s))
-replacing32 r (atomic32.Or s) old = Some (bit_or old (read32 r s))
-replacing32 r (atomic32.Xor s) old = Some (bit_xor old (read32 r s))
-replacing32 r (atomic32.Exchange s) old = Some (read32 r s)
-replacing32 r (atomic32.CompareAndSwap p) old =
-    if old == read32 r p.expected then Some (read32 r p.replacement) else None
+-- what an operation leaves in place of an old value of a width, by what it reads; a cas that finds another than the
+-- expected one stores nothing (PRM, Atomic (atomic) Operations)
+abbrev pub replacing : {S : Type 0} → Width → (S → ℕ) → AtomicChange S → ℕ → Option ℕ
+replacing width read (change.Add s) old = Some (computed sum unsigned width old (read s))
+replacing width read (change.Subtract s) old = Some (computed difference unsigned width old (read s))
+replacing width read (change.LeastUnsigned s) old = Some (computed least unsigned width old (read s))
+replacing width read (change.LeastSigned s) old = Some (computed least signed width old (read s))
+replacing width read (change.GreatestUnsigned s) old = Some (computed greatest unsigned width old (read s))
+replacing width read (change.GreatestSigned s) old = Some (computed greatest signed width old (read s))
+replacing width read (change.And s) old = Some (bit_and old (read s))
+replacing width read (change.Or s) old = Some (bit_or old (read s))
+replacing width read (change.Xor s) old = Some (bit_xor old (read s))
+replacing width read (change.Exchange s) old = Some (read s)
+replacing width read (change.CompareAndSwap p) old = if old == read p.expected then Some (read p.replacement) else None
 
--- what one of 64 bits leaves (PRM, Atomic (atomic) Operations)
-abbrev pub replacing64 : Registers → AtomicOperation64 → ℕ → Option ℕ
-replacing64 r (atomic64.Add s) old = Some (computed sum unsigned w64 old (read64 r s))
-replacing64 r (atomic64.Subtract s) old = Some (computed difference unsigned w64 old (read64 r s))
-replacing64 r (atomic64.LeastUnsigned s) old = Some (computed least unsigned w64 old (read64 r s))
-replacing64 r (atomic64.LeastSigned s) old = Some (computed least signed w64 old (read64 r s))
-replacing64 r (atomic64.GreatestUnsigned s) old = Some (computed greatest unsigned w64 old (read64 r s))
-replacing64 r (atomic64.GreatestSigned s) old = Some (computed greatest signed w64 old (read64 r s))
-replacing64 r (atomic64.And s) old = Some (bit_and old (read64 r s))
-replacing64 r (atomic64.Or s) old = Some (bit_or old (read64 r s))
-replacing64 r (atomic64.Xor s) old = Some (bit_xor old (read64 r s))
-replacing64 r (atomic64.Exchange s) old = Some (read64 r s)
-replacing64 r (atomic64.CompareAndSwap p) old =
-    if old == read64 r p.expected then Some (read64 r p.replacement) else None
+abbrev pub replacing32 : Registers → AtomicChange (Source ℕ) → ℕ → Option ℕ
+replacing32 r operation old = replacing w32 (read32 r) operation old
+
+abbrev pub replacing64 : Registers → AtomicChange (Source ℕ) → ℕ → Option ℕ
+replacing64 r operation old = replacing w64 (read64 r) operation old
 
 -- memory after an operation of 32 bits, by what it leaves
 abbrev pub left32 : Contents → SegmentAddress → Option ℕ → Contents

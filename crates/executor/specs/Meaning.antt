@@ -13,9 +13,9 @@ use Rattle.executor.specs.declared.item.Item.{Item}
 use Rattle.executor.specs.declared.registers.Registers.{Registers}
 use Rattle.kernel_check.specs.Steps.{number_bytes}
 use Rattle.kernel_check.specs.declared.step.AnyRegister.{AnyRegister}
-use Rattle.kernel_check.specs.declared.step.AtomicStep32.{AtomicStep32}
-use Rattle.kernel_check.specs.declared.step.AtomicStep64.{AtomicStep64}
+use Rattle.kernel_check.specs.declared.step.AtomicStep.{AtomicStep}
 use Rattle.kernel_check.specs.declared.step.NumberType.{NumberType}
+use Rattle.kernel_check.specs.declared.step.Source.{Source}
 use Rattle.kernel_check.specs.declared.step.Step.{Step}
 use Rattle.kernel_check.specs.declared.step.Step.TheVariants as step
 use Rattle.queue_error.specs.declared.error.SegmentAddress.{SegmentAddress}
@@ -51,14 +51,14 @@ after_group_store i m address (Ok group) = goes_on (onward i i.registers) (recor
 after_group_store i m address (Err rule) = broke rule (Some address)
 
 -- an atomic operation goes on with the old value in its target, and in its place what it leaves
-abbrev pub after_atomic32 : Item → Contents → AtomicStep32 → Result (List ℕ) Rule → Act
+abbrev pub after_atomic32 : Item → Contents → AtomicStep (Source ℕ) → Result (List ℕ) Rule → Act
 after_atomic32 i m s (Ok bytes) =
     let old = little_number 4 bytes in
     goes_on (onward i (told32 i.registers s.target old))
     (left32 m (place_of i.registers s.pointer) (replacing32 i.registers s.operation old))
 after_atomic32 i m s (Err rule) = broke rule (Some (place_of i.registers s.pointer))
 
-abbrev pub after_atomic64 : Item → Contents → AtomicStep64 → Result (List ℕ) Rule → Act
+abbrev pub after_atomic64 : Item → Contents → AtomicStep (Source ℕ) → Result (List ℕ) Rule → Act
 after_atomic64 i m s (Ok bytes) =
     let old = little_number 8 bytes in
     goes_on (onward i (told64 i.registers s.target old))

@@ -13,37 +13,29 @@ use crate::memory::Memory;
 use crate::registers::Registers;
 use crate::{number32, number64};
 use byteorder::{ByteOrder, LittleEndian};
-use kernel_check::{
-    AtomicOperation32, AtomicOperation64, AtomicStep32, AtomicStep64, RegisterNumber,
-};
+use kernel_check::{AtomicChange, AtomicStep, RegisterNumber, Source32, Source64};
 use std::alloc::Global;
 
 /// What an operation of 32 bits leaves in place of an old value, if it stores.
 #[inline]
-fn replacing32(r: &Registers, operation: &AtomicOperation32, old: u32) -> Option<u32>
+fn replacing32(r: &Registers, operation: &AtomicChange<Source32>, old: u32) -> Option<u32>
     ensures { result ≡ replacing32 r.now operation.now old }
 {
     Some(match operation {
-        AtomicOperation32::Add(source) => number32::add(old, r.read32(*source)),
-        AtomicOperation32::Subtract(source) => number32::subtract(old, r.read32(*source)),
-        AtomicOperation32::LeastUnsigned(source) => number32::least_unsigned(
+        AtomicChange::Add(source) => number32::add(old, r.read32(*source)),
+        AtomicChange::Subtract(source) => number32::subtract(old, r.read32(*source)),
+        AtomicChange::LeastUnsigned(source) => number32::least_unsigned(old, r.read32(*source)),
+        AtomicChange::LeastSigned(source) => number32::least_signed(old, r.read32(*source)),
+        AtomicChange::GreatestUnsigned(source) => number32::greatest_unsigned(
             old,
             r.read32(*source),
         ),
-        AtomicOperation32::LeastSigned(source) => number32::least_signed(old, r.read32(*source)),
-        AtomicOperation32::GreatestUnsigned(source) => number32::greatest_unsigned(
-            old,
-            r.read32(*source),
-        ),
-        AtomicOperation32::GreatestSigned(source) => number32::greatest_signed(
-            old,
-            r.read32(*source),
-        ),
-        AtomicOperation32::And(source) => number32::and(old, r.read32(*source)),
-        AtomicOperation32::Or(source) => number32::or(old, r.read32(*source)),
-        AtomicOperation32::Xor(source) => number32::xor(old, r.read32(*source)),
-        AtomicOperation32::Exchange(source) => r.read32(*source),
-        AtomicOperation32::CompareAndSwap(swap) => {
+        AtomicChange::GreatestSigned(source) => number32::greatest_signed(old, r.read32(*source)),
+        AtomicChange::And(source) => number32::and(old, r.read32(*source)),
+        AtomicChange::Or(source) => number32::or(old, r.read32(*source)),
+        AtomicChange::Xor(source) => number32::xor(old, r.read32(*source)),
+        AtomicChange::Exchange(source) => r.read32(*source),
+        AtomicChange::CompareAndSwap(swap) => {
             if old != r.read32(swap.expected) {
                 return None;
             }
@@ -54,30 +46,24 @@ fn replacing32(r: &Registers, operation: &AtomicOperation32, old: u32) -> Option
 
 /// What an operation of 64 bits leaves in place of an old value, if it stores.
 #[inline]
-fn replacing64(r: &Registers, operation: &AtomicOperation64, old: u64) -> Option<u64>
+fn replacing64(r: &Registers, operation: &AtomicChange<Source64>, old: u64) -> Option<u64>
     ensures { result ≡ replacing64 r.now operation.now old }
 {
     Some(match operation {
-        AtomicOperation64::Add(source) => number64::add(old, r.read64(*source)),
-        AtomicOperation64::Subtract(source) => number64::subtract(old, r.read64(*source)),
-        AtomicOperation64::LeastUnsigned(source) => number64::least_unsigned(
+        AtomicChange::Add(source) => number64::add(old, r.read64(*source)),
+        AtomicChange::Subtract(source) => number64::subtract(old, r.read64(*source)),
+        AtomicChange::LeastUnsigned(source) => number64::least_unsigned(old, r.read64(*source)),
+        AtomicChange::LeastSigned(source) => number64::least_signed(old, r.read64(*source)),
+        AtomicChange::GreatestUnsigned(source) => number64::greatest_unsigned(
             old,
             r.read64(*source),
         ),
-        AtomicOperation64::LeastSigned(source) => number64::least_signed(old, r.read64(*source)),
-        AtomicOperation64::GreatestUnsigned(source) => number64::greatest_unsigned(
-            old,
-            r.read64(*source),
-        ),
-        AtomicOperation64::GreatestSigned(source) => number64::greatest_signed(
-            old,
-            r.read64(*source),
-        ),
-        AtomicOperation64::And(source) => number64::and(old, r.read64(*source)),
-        AtomicOperation64::Or(source) => number64::or(old, r.read64(*source)),
-        AtomicOperation64::Xor(source) => number64::xor(old, r.read64(*source)),
-        AtomicOperation64::Exchange(source) => r.read64(*source),
-        AtomicOperation64::CompareAndSwap(swap) => {
+        AtomicChange::GreatestSigned(source) => number64::greatest_signed(old, r.read64(*source)),
+        AtomicChange::And(source) => number64::and(old, r.read64(*source)),
+        AtomicChange::Or(source) => number64::or(old, r.read64(*source)),
+        AtomicChange::Xor(source) => number64::xor(old, r.read64(*source)),
+        AtomicChange::Exchange(source) => r.read64(*source),
+        AtomicChange::CompareAndSwap(swap) => {
             if old != r.read64(swap.expected) {
                 return None;
             }
@@ -117,7 +103,7 @@ pub fn atomic_step32(
     context: &ItemContext<'_>,
     item: &mut Item,
     memory: &mut Memory,
-    step: &AtomicStep32,
+    step: &AtomicStep<Source32>,
 ) -> Outcome
     requires { item.old.next < 2 ^ 32 }
     ensures { Acts (act (surroundings context.now) item.old (contents memory.old) (step_arm.Atomic32 step.now)) result item.new (contents memory.new) }
@@ -144,7 +130,7 @@ pub fn atomic_step64(
     context: &ItemContext<'_>,
     item: &mut Item,
     memory: &mut Memory,
-    step: &AtomicStep64,
+    step: &AtomicStep<Source64>,
 ) -> Outcome
     requires { item.old.next < 2 ^ 32 }
     ensures { Acts (act (surroundings context.now) item.old (contents memory.old) (step_arm.Atomic64 step.now)) result item.new (contents memory.new) }

@@ -2,10 +2,11 @@
 use Rattle.std.proofs.Common.{◌≡◌, ℕ, List, [], ◌∷◌, ◌++◌, Bool, true, false, ◌&&◌, Option, Some, None, is_some, length, refl, sym, ap, subst, ◌∙◌, arith}
 use Rattle.kernel_check.specs.Needs.{is_set, is_read, is_loaded, is_written, is_label, is_dimension, is_wide, has_type, has_needed}
 use Rattle.kernel_check.specs.Reads.{AreSources, AreAllSources, IsTarget, KeepsAll, sources_by}
-use Rattle.kernel_check.specs.Steps.{atomic32_of, atomic32_reads, atomic64_of, atomic64_reads, atomic_in, atomic_pointer, as_atomic, as_no_return, as_ternary, as_unary, binary1, binary32, binary64, binary_of, is_signed, load_from, read_in, reads, sets, register_number, step_of, store_from, ternary_in, unary_by, unary_in}
+use Rattle.kernel_check.specs.Steps.{change_of, change_reads, atomic_in, atomic_pointer, as_atomic, as_no_return, as_ternary, as_unary, binary1, binary32, binary64, binary_of, is_signed, load_from, read_in, reads, sets, register_number, step_of, store_from, ternary_in, unary_by, unary_in}
 use Rattle.kernel_check.specs.declared.layout.Placed.{Placed}
 use Rattle.kernel_check.specs.declared.memory.Atomic.{Atomic}
 use Rattle.kernel_check.specs.declared.step.AnySource.{AnySource}
+use Rattle.kernel_check.specs.declared.step.AnySource.TheVariants as any
 use Rattle.kernel_check.specs.declared.step.AtomicPointer.{AtomicPointer}
 use Rattle.kernel_check.specs.declared.step.Pair.{Pair}
 use Rattle.kernel_check.specs.declared.step.Shift64.{Shift64}
@@ -169,21 +170,15 @@ abbrev atomic_count : AtomicOperation → ℕ
 atomic_count atomic.CompareAndSwap = 2
 atomic_count _ = 1
 
-atomic32_counts : (f : AtomicOperation) (signed : Bool) (s r : StepSource ℕ)
-    → length (atomic32_reads (atomic32_of f signed s r)) ≡ atomic_count f
-atomic32_counts atomic.CompareAndSwap signed s r = refl
-atomic32_counts _ true s r = refl
-atomic32_counts _ false s r = refl
-
-atomic64_counts : (f : AtomicOperation) (signed : Bool) (s r : StepSource ℕ)
-    → length (atomic64_reads (atomic64_of f signed s r)) ≡ atomic_count f
-atomic64_counts atomic.CompareAndSwap signed s r = refl
-atomic64_counts _ true s r = refl
-atomic64_counts _ false s r = refl
+change_counts : {S : Type 0} (of_width : S → AnySource) (f : AtomicOperation) (signed : Bool) (s r : S)
+    → length (change_reads of_width (change_of f signed s r)) ≡ atomic_count f
+change_counts of_width atomic.CompareAndSwap signed s r = refl
+change_counts of_width _ true s r = refl
+change_counts of_width _ false s r = refl
 
 atomic_counts : (k : RegisterClass) (a : Atomic) (p : AtomicPointer) → length (reads (atomic_in k a p)) ≡ atomic_count a.operation
-atomic_counts class.Double a p = atomic64_counts a.operation (is_signed a.kind) _ _
-atomic_counts _ a p = atomic32_counts a.operation (is_signed a.kind) _ _
+atomic_counts class.Double a p = change_counts any.Double a.operation (is_signed a.kind) _ _
+atomic_counts _ a p = change_counts any.Single a.operation (is_signed a.kind) _ _
 
 atomic_sets : (k : RegisterClass) (a : Atomic) (p : AtomicPointer) → sets (atomic_in k a p) ≡ a.target
 atomic_sets class.Double a p = refl

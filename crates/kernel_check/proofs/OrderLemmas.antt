@@ -27,9 +27,10 @@ use Rattle.hsail_reader.specs.declared.types.UnaryOperation.{UnaryOperation}
 use Rattle.hsail_reader.specs.declared.types.UnaryOperation.TheVariants.{Move, Not, Convert}
 use Rattle.kernel_check.specs.Constants.{constant_bits}
 use Rattle.kernel_check.specs.Reads.{IsAt, IsSource, AreSources, IsTarget, KeepsOrder}
-use Rattle.kernel_check.specs.Steps.{reads, sets, number_in, sources_of, step_of, form_step, register_number, register_in, one_bit, low_bits, source_at, source1_of, source32_of, source64_of, source_in, unary_in, unary_by, binary1, binary32, binary64, binary_in, ternary_in, is_signed, load_from, load_at, store_from, store_at, atomic_pointer, atomic32_of, atomic64_of, atomic32_reads, atomic64_reads, atomic_in, atomic_at, as_atomic, as_no_return, target_in, read_in, as_unary, as_binary, as_ternary}
+use Rattle.kernel_check.specs.Steps.{reads, sets, number_in, sources_of, step_of, form_step, register_number, register_in, one_bit, low_bits, source_at, source1_of, source32_of, source64_of, source_in, unary_in, unary_by, binary1, binary32, binary64, binary_in, ternary_in, is_signed, load_from, load_at, store_from, store_at, atomic_pointer, change_of, change_reads, atomic_in, atomic_at, as_atomic, as_no_return, target_in, read_in, as_unary, as_binary, as_ternary}
 use Rattle.kernel_check.specs.declared.layout.Placed.{Placed}
 use Rattle.kernel_check.specs.declared.memory.Atomic.{Atomic}
+use Rattle.kernel_check.specs.declared.step.AnySource.{AnySource}
 use Rattle.kernel_check.specs.declared.step.AnySource.TheVariants as any
 use Rattle.kernel_check.specs.declared.step.AtomicPointer.{AtomicPointer}
 use Rattle.kernel_check.specs.declared.step.Step.{Step}
@@ -135,22 +136,17 @@ store_at_keeps : (variables : List ℕ → Option Placed) (s : TypedSource) (r :
 store_at_keeps variables s r (operand.Address a) = store_keeps variables a.segment s r a
 store_at_keeps variables s r _ = (tt, tt)
 
-atomic32_keeps : (f : AtomicOperation) (signed : Bool) (s t : TypedSource)
-    → AreSources (atomic32_reads (atomic32_of f signed (source32_of s) (source32_of t))) (s ∷ t ∷ [])
-atomic32_keeps atomic.CompareAndSwap signed s t = (is32 s, (is32 t, tt))
-atomic32_keeps _ true s t = (is32 s, tt)
-atomic32_keeps _ false s t = (is32 s, tt)
-
-atomic64_keeps : (f : AtomicOperation) (signed : Bool) (s t : TypedSource)
-    → AreSources (atomic64_reads (atomic64_of f signed (source64_of s) (source64_of t))) (s ∷ t ∷ [])
-atomic64_keeps atomic.CompareAndSwap signed s t = (is64 s, (is64 t, tt))
-atomic64_keeps _ true s t = (is64 s, tt)
-atomic64_keeps _ false s t = (is64 s, tt)
+change_keeps : {S : Type 0} (of_width : S → AnySource) (read : TypedSource → S) (is : (t : TypedSource) → IsSource (of_width (read t)) t)
+    (f : AtomicOperation) (signed : Bool) (s t : TypedSource)
+    → AreSources (change_reads of_width (change_of f signed (read s) (read t))) (s ∷ t ∷ [])
+change_keeps of_width read is atomic.CompareAndSwap signed s t = (is s, (is t, tt))
+change_keeps of_width read is _ true s t = (is s, tt)
+change_keeps of_width read is _ false s t = (is s, tt)
 
 pub atomic_keeps : (k : RegisterClass) (a : Atomic) (p : AtomicPointer) (r : Register) → IsTarget a.target r
     → Keeps (atomic_in k a p) r (a.first ∷ a.second ∷ [])
-atomic_keeps class.Double a p r target = (target, atomic64_keeps a.operation (is_signed a.kind) a.first a.second)
-atomic_keeps _ a p r target = (target, atomic32_keeps a.operation (is_signed a.kind) a.first a.second)
+atomic_keeps class.Double a p r target = (target, change_keeps any.Double source64_of is64 a.operation (is_signed a.kind) a.first a.second)
+atomic_keeps _ a p r target = (target, change_keeps any.Single source32_of is32 a.operation (is_signed a.kind) a.first a.second)
 
 atomic_at_keeps : (variables : List ℕ → Option Placed) (a : Atomic) (r : Register) → IsTarget a.target r
     → (o : Operand) → Keeps (atomic_at variables a o) r (a.first ∷ a.second ∷ [])

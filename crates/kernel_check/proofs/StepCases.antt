@@ -17,8 +17,7 @@ use Rattle.kernel_check.specs.Steps.{atomic_at, atomic_in, atomic_pointer, binar
 use Rattle.kernel_check.specs.declared.layout.Placed.{Placed}
 use Rattle.kernel_check.specs.declared.memory.Atomic.{Atomic}
 use Rattle.kernel_check.specs.declared.step.AtomicPointer.{AtomicPointer}
-use Rattle.kernel_check.specs.declared.step.AtomicStep32.{AtomicStep32}
-use Rattle.kernel_check.specs.declared.step.AtomicStep64.{AtomicStep64}
+use Rattle.kernel_check.specs.declared.step.AtomicStep.{AtomicStep}
 use Rattle.kernel_check.specs.declared.step.ControlStep.{ControlStep}
 use Rattle.kernel_check.specs.declared.step.DoubleStep.{DoubleStep}
 use Rattle.kernel_check.specs.declared.step.Pair.{Pair}
@@ -31,8 +30,8 @@ use Rattle.kernel_check.specs.declared.translate.Binary.{Binary}
 use Rattle.kernel_check.specs.declared.translate.Ternary.{Ternary}
 
 module _ (P : Step → Type 0) (control : (s : ControlStep) → P (step.Control s)) (single : (s : SingleStep) → P (step.Single s))
-    (double : (s : DoubleStep) → P (step.Double s)) (atomic32 : (s : AtomicStep32) → P (step.Atomic32 s))
-    (atomic64 : (s : AtomicStep64) → P (step.Atomic64 s)) (ret : P step.Return) where
+    (double : (s : DoubleStep) → P (step.Double s)) (atomic32 : (s : AtomicStep (StepSource ℕ)) → P (step.Atomic32 s))
+    (atomic64 : (s : AtomicStep (StepSource ℕ)) → P (step.Atomic64 s)) (ret : P step.Return) where
   pub of_unary : (k : RegisterClass) (op : UnaryOperation) (target : ℕ) (s : TypedSource) → P (unary_in k op target s)
   of_unary class.Control Not target s = control _
   of_unary class.Control Move target s = control _

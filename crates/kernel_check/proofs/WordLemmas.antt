@@ -34,8 +34,8 @@ use Rattle.hsail_reader.specs.declared.types.UnaryOperation.{UnaryOperation}
 use Rattle.hsail_reader.specs.declared.types.UnaryOperation.TheVariants.{Move, Not, Convert}
 use Rattle.hsail_reader.specs.declared.types.WorkItemQuery.{WorkItemQuery}
 use Rattle.hsail_reader.proofs.WordRows.{every, every_passes}
-use Rattle.kernel_check.specs.StepWords.{access_names, answer_names, atomic32_words, atomic64_words, atomic_front, control_words, double_words, each_with, number_name, query_name, segment_between, single_words, step_words, word_of}
-use Rattle.kernel_check.specs.Steps.{as_atomic, as_binary, as_no_return, as_ternary, as_unary, atomic32_of, atomic64_of, atomic_at, atomic_in, atomic_pointer, binary32, binary64, binary_in, control_operation, double_operation, form_step, is_signed, load_at, load_from, number_type, pair32_of, pair64_of, read_in, register_in, register_of, shift64_of, single_operation, register_number, source1_of, source32_of, source64_of, source_of, step_of, store_at, store_from, target_in, ternary_in, unary_by, unary_in}
+use Rattle.kernel_check.specs.StepWords.{access_names, answer_names, atomic_front, change_words, control_words, double_words, each_with, number_name, query_name, segment_between, single_words, step_words, word_of}
+use Rattle.kernel_check.specs.Steps.{as_atomic, as_binary, as_no_return, as_ternary, as_unary, change_of, atomic_at, atomic_in, atomic_pointer, binary32, binary64, binary_in, control_operation, double_operation, form_step, is_signed, load_at, load_from, number_type, pair32_of, pair64_of, read_in, register_in, register_of, shift64_of, single_operation, register_number, source1_of, source32_of, source64_of, source_of, step_of, store_at, store_from, target_in, ternary_in, unary_by, unary_in}
 use Rattle.kernel_check.specs.declared.layout.Placed.{Placed}
 use Rattle.kernel_check.specs.declared.memory.Atomic.{Atomic}
 use Rattle.kernel_check.specs.declared.step.AtomicPointer.{AtomicPointer}
@@ -105,31 +105,19 @@ binary64_alike binary.ShiftRight true d e p q s t = refl
 binary64_alike (binary.Compare c) false d e p q s t = refl
 binary64_alike (binary.Compare c) true d e p q s t = refl
 
-atomic32_alike : (front between : List ℕ) (f : AtomicOperation) (signed : Bool) (s r t q : StepSource ℕ) → atomic32_words front between (atomic32_of f signed s r) ≡ atomic32_words front between (atomic32_of f signed t q)
-atomic32_alike front between atomic.Add signed s r t q = refl
-atomic32_alike front between atomic.Subtract signed s r t q = refl
-atomic32_alike front between atomic.Minimum false s r t q = refl
-atomic32_alike front between atomic.Minimum true s r t q = refl
-atomic32_alike front between atomic.Maximum false s r t q = refl
-atomic32_alike front between atomic.Maximum true s r t q = refl
-atomic32_alike front between atomic.And signed s r t q = refl
-atomic32_alike front between atomic.Or signed s r t q = refl
-atomic32_alike front between atomic.Xor signed s r t q = refl
-atomic32_alike front between atomic.Exchange signed s r t q = refl
-atomic32_alike front between atomic.CompareAndSwap signed s r t q = refl
-
-atomic64_alike : (front between : List ℕ) (f : AtomicOperation) (signed : Bool) (s r t q : StepSource ℕ) → atomic64_words front between (atomic64_of f signed s r) ≡ atomic64_words front between (atomic64_of f signed t q)
-atomic64_alike front between atomic.Add signed s r t q = refl
-atomic64_alike front between atomic.Subtract signed s r t q = refl
-atomic64_alike front between atomic.Minimum false s r t q = refl
-atomic64_alike front between atomic.Minimum true s r t q = refl
-atomic64_alike front between atomic.Maximum false s r t q = refl
-atomic64_alike front between atomic.Maximum true s r t q = refl
-atomic64_alike front between atomic.And signed s r t q = refl
-atomic64_alike front between atomic.Or signed s r t q = refl
-atomic64_alike front between atomic.Xor signed s r t q = refl
-atomic64_alike front between atomic.Exchange signed s r t q = refl
-atomic64_alike front between atomic.CompareAndSwap signed s r t q = refl
+change_alike : {S : Type 0} (width front between : List ℕ) (f : AtomicOperation) (signed : Bool) (s r t q : S)
+    → change_words width front between (change_of f signed s r) ≡ change_words width front between (change_of f signed t q)
+change_alike width front between atomic.Add signed s r t q = refl
+change_alike width front between atomic.Subtract signed s r t q = refl
+change_alike width front between atomic.Minimum false s r t q = refl
+change_alike width front between atomic.Minimum true s r t q = refl
+change_alike width front between atomic.Maximum false s r t q = refl
+change_alike width front between atomic.Maximum true s r t q = refl
+change_alike width front between atomic.And signed s r t q = refl
+change_alike width front between atomic.Or signed s r t q = refl
+change_alike width front between atomic.Xor signed s r t q = refl
+change_alike width front between atomic.Exchange signed s r t q = refl
+change_alike width front between atomic.CompareAndSwap signed s r t q = refl
 
 unary_in_alike : (k : RegisterClass) (f : UnaryOperation) (d e : ℕ) (s t : TypedSource) → step_words (unary_in k f d s) ≡ step_words (unary_in k f e t)
 unary_in_alike class.Control Not d e s t = refl
@@ -169,19 +157,19 @@ no_source = read_in operand.Absent
 
 -- what an atomic operation's words depend on
 abbrev atomic_words : RegisterClass → AtomicOperation → Bool → List ℕ → List ℕ → List (List ℕ)
-atomic_words class.Double f signed front between = atomic64_words front between (atomic64_of f signed (source64_of no_source) (source64_of no_source))
-atomic_words _ f signed front between = atomic32_words front between (atomic32_of f signed (source32_of no_source) (source32_of no_source))
+atomic_words class.Double f signed front between = change_words (codes "64") front between (change_of f signed (source64_of no_source) (source64_of no_source))
+atomic_words _ f signed front between = change_words (codes "32") front between (change_of f signed (source32_of no_source) (source32_of no_source))
 
 atomic_in_words : (k : RegisterClass) (a : Atomic) (p : AtomicPointer)
     → step_words (atomic_in k a p) ≡ atomic_words k a.operation (is_signed a.kind) (atomic_front a.target) (segment_between p)
 atomic_in_words class.Double a p =
-    atomic64_alike (atomic_front a.target) (segment_between p) a.operation (is_signed a.kind) (source64_of a.first) (source64_of a.second)
+    change_alike (codes "64") (atomic_front a.target) (segment_between p) a.operation (is_signed a.kind) (source64_of a.first) (source64_of a.second)
     (source64_of no_source) (source64_of no_source)
 atomic_in_words class.Control a p =
-    atomic32_alike (atomic_front a.target) (segment_between p) a.operation (is_signed a.kind) (source32_of a.first) (source32_of a.second)
+    change_alike (codes "32") (atomic_front a.target) (segment_between p) a.operation (is_signed a.kind) (source32_of a.first) (source32_of a.second)
     (source32_of no_source) (source32_of no_source)
 atomic_in_words class.Single a p =
-    atomic32_alike (atomic_front a.target) (segment_between p) a.operation (is_signed a.kind) (source32_of a.first) (source32_of a.second)
+    change_alike (codes "32") (atomic_front a.target) (segment_between p) a.operation (is_signed a.kind) (source32_of a.first) (source32_of a.second)
     (source32_of no_source) (source32_of no_source)
 
 abbrev nowhere : List ℕ → Option Placed

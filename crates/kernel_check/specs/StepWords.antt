@@ -11,10 +11,8 @@ use Rattle.hsail_reader.specs.declared.types.WorkItemQuery.{WorkItemQuery}
 use Rattle.hsail_reader.specs.declared.types.WorkItemQuery.TheVariants as query
 use Rattle.kernel_check.specs.declared.step.AnyRegister.{AnyRegister}
 use Rattle.kernel_check.specs.declared.step.AnyRegister.TheVariants as register
-use Rattle.kernel_check.specs.declared.step.AtomicOperation32.{AtomicOperation32}
-use Rattle.kernel_check.specs.declared.step.AtomicOperation32.TheVariants as atomic32
-use Rattle.kernel_check.specs.declared.step.AtomicOperation64.{AtomicOperation64}
-use Rattle.kernel_check.specs.declared.step.AtomicOperation64.TheVariants as atomic64
+use Rattle.kernel_check.specs.declared.step.AtomicChange.{AtomicChange}
+use Rattle.kernel_check.specs.declared.step.AtomicChange.TheVariants as change
 use Rattle.kernel_check.specs.declared.step.AtomicPointer.{AtomicPointer}
 use Rattle.kernel_check.specs.declared.step.AtomicPointer.TheVariants as places
 use Rattle.kernel_check.specs.declared.step.ControlOperation.{ControlOperation}
@@ -131,34 +129,20 @@ double_words (double.ShiftRightUnsigned p) = codes "shr_u64" ∷ []
 double_words (double.ShiftRightSigned p) = codes "shr_s64" ∷ []
 double_words (double.Choose c) = codes "cmov_b64" ∷ []
 
--- what an atomic operation of 32 bits does, by its name and the names of its types, with a front before and a segment
+-- what an atomic operation does, by its name and the names of its types of a width, with a front before and a segment
 -- between (PRM, Atomic Memory Operations)
-abbrev pub atomic32_words : List ℕ → List ℕ → AtomicOperation32 → List (List ℕ)
-atomic32_words front between (atomic32.Add s) = each_with (front ++ codes "add" ++ between) (codes "u32" ∷ codes "s32" ∷ [])
-atomic32_words front between (atomic32.Subtract s) = each_with (front ++ codes "sub" ++ between) (codes "u32" ∷ codes "s32" ∷ [])
-atomic32_words front between (atomic32.LeastUnsigned s) = each_with (front ++ codes "min" ++ between) (codes "u32" ∷ [])
-atomic32_words front between (atomic32.LeastSigned s) = each_with (front ++ codes "min" ++ between) (codes "s32" ∷ [])
-atomic32_words front between (atomic32.GreatestUnsigned s) = each_with (front ++ codes "max" ++ between) (codes "u32" ∷ [])
-atomic32_words front between (atomic32.GreatestSigned s) = each_with (front ++ codes "max" ++ between) (codes "s32" ∷ [])
-atomic32_words front between (atomic32.And s) = each_with (front ++ codes "and" ++ between) (codes "b32" ∷ [])
-atomic32_words front between (atomic32.Or s) = each_with (front ++ codes "or" ++ between) (codes "b32" ∷ [])
-atomic32_words front between (atomic32.Xor s) = each_with (front ++ codes "xor" ++ between) (codes "b32" ∷ [])
-atomic32_words front between (atomic32.Exchange s) = each_with (front ++ codes "exch" ++ between) (codes "b32" ∷ [])
-atomic32_words front between (atomic32.CompareAndSwap p) = each_with (front ++ codes "cas" ++ between) (codes "b32" ∷ [])
-
--- what one of 64 bits does
-abbrev pub atomic64_words : List ℕ → List ℕ → AtomicOperation64 → List (List ℕ)
-atomic64_words front between (atomic64.Add s) = each_with (front ++ codes "add" ++ between) (codes "u64" ∷ codes "s64" ∷ [])
-atomic64_words front between (atomic64.Subtract s) = each_with (front ++ codes "sub" ++ between) (codes "u64" ∷ codes "s64" ∷ [])
-atomic64_words front between (atomic64.LeastUnsigned s) = each_with (front ++ codes "min" ++ between) (codes "u64" ∷ [])
-atomic64_words front between (atomic64.LeastSigned s) = each_with (front ++ codes "min" ++ between) (codes "s64" ∷ [])
-atomic64_words front between (atomic64.GreatestUnsigned s) = each_with (front ++ codes "max" ++ between) (codes "u64" ∷ [])
-atomic64_words front between (atomic64.GreatestSigned s) = each_with (front ++ codes "max" ++ between) (codes "s64" ∷ [])
-atomic64_words front between (atomic64.And s) = each_with (front ++ codes "and" ++ between) (codes "b64" ∷ [])
-atomic64_words front between (atomic64.Or s) = each_with (front ++ codes "or" ++ between) (codes "b64" ∷ [])
-atomic64_words front between (atomic64.Xor s) = each_with (front ++ codes "xor" ++ between) (codes "b64" ∷ [])
-atomic64_words front between (atomic64.Exchange s) = each_with (front ++ codes "exch" ++ between) (codes "b64" ∷ [])
-atomic64_words front between (atomic64.CompareAndSwap p) = each_with (front ++ codes "cas" ++ between) (codes "b64" ∷ [])
+abbrev pub change_words : {S : Type 0} → List ℕ → List ℕ → List ℕ → AtomicChange S → List (List ℕ)
+change_words width front between (change.Add s) = each_with (front ++ codes "add" ++ between) ((codes "u" ++ width) ∷ (codes "s" ++ width) ∷ [])
+change_words width front between (change.Subtract s) = each_with (front ++ codes "sub" ++ between) ((codes "u" ++ width) ∷ (codes "s" ++ width) ∷ [])
+change_words width front between (change.LeastUnsigned s) = each_with (front ++ codes "min" ++ between) ((codes "u" ++ width) ∷ [])
+change_words width front between (change.LeastSigned s) = each_with (front ++ codes "min" ++ between) ((codes "s" ++ width) ∷ [])
+change_words width front between (change.GreatestUnsigned s) = each_with (front ++ codes "max" ++ between) ((codes "u" ++ width) ∷ [])
+change_words width front between (change.GreatestSigned s) = each_with (front ++ codes "max" ++ between) ((codes "s" ++ width) ∷ [])
+change_words width front between (change.And s) = each_with (front ++ codes "and" ++ between) ((codes "b" ++ width) ∷ [])
+change_words width front between (change.Or s) = each_with (front ++ codes "or" ++ between) ((codes "b" ++ width) ∷ [])
+change_words width front between (change.Xor s) = each_with (front ++ codes "xor" ++ between) ((codes "b" ++ width) ∷ [])
+change_words width front between (change.Exchange s) = each_with (front ++ codes "exch" ++ between) ((codes "b" ++ width) ∷ [])
+change_words width front between (change.CompareAndSwap p) = each_with (front ++ codes "cas" ++ between) ((codes "b" ++ width) ∷ [])
 
 -- one with a target answers the old value (PRM, Atomic No Return (atomicnoret) Operations)
 abbrev pub atomic_front : Option ℕ → List ℕ
@@ -195,8 +179,8 @@ step_words (step.Load l) = each_with (codes "ld_global_") (access_names l.kind)
 step_words (step.LoadGroup l) = each_with (codes "ld_group_") (access_names l.kind)
 step_words (step.Store s) = each_with (codes "st_global_") (access_names s.kind)
 step_words (step.StoreGroup s) = each_with (codes "st_group_") (access_names s.kind)
-step_words (step.Atomic32 a) = atomic32_words (atomic_front a.target) (segment_between a.pointer) a.operation
-step_words (step.Atomic64 a) = atomic64_words (atomic_front a.target) (segment_between a.pointer) a.operation
+step_words (step.Atomic32 a) = change_words (codes "32") (atomic_front a.target) (segment_between a.pointer) a.operation
+step_words (step.Atomic64 a) = change_words (codes "64") (atomic_front a.target) (segment_between a.pointer) a.operation
 step_words (step.Branch next) = codes "br" ∷ []
 step_words (step.ConditionalBranch b) = codes "cbr_b1" ∷ []
 step_words step.Return = codes "ret" ∷ []

@@ -11,10 +11,8 @@ use Rattle.kernel_check.specs.declared.step.AnyRegister.{AnyRegister}
 use Rattle.kernel_check.specs.declared.step.AnyRegister.TheVariants as register
 use Rattle.kernel_check.specs.declared.step.AnySource.{AnySource}
 use Rattle.kernel_check.specs.declared.step.AnySource.TheVariants as any
-use Rattle.kernel_check.specs.declared.step.AtomicOperation32.{AtomicOperation32}
-use Rattle.kernel_check.specs.declared.step.AtomicOperation32.TheVariants as atomic32
-use Rattle.kernel_check.specs.declared.step.AtomicOperation64.{AtomicOperation64}
-use Rattle.kernel_check.specs.declared.step.AtomicOperation64.TheVariants as atomic64
+use Rattle.kernel_check.specs.declared.step.AtomicChange.{AtomicChange}
+use Rattle.kernel_check.specs.declared.step.AtomicChange.TheVariants as change
 use Rattle.kernel_check.specs.declared.step.AtomicPointer.{AtomicPointer}
 use Rattle.kernel_check.specs.declared.step.AtomicPointer.TheVariants as places
 use Rattle.kernel_check.specs.declared.step.ControlOperation.{ControlOperation}
@@ -422,33 +420,19 @@ abbrev pub atomic_pointer : (List ℕ → Option Placed) → Segment → Address
 atomic_pointer variables segment.Group a = places.Group (group_pointer variables a)
 atomic_pointer variables _ a = places.Global (pointer_in a)
 
--- the operations of 32 bits, for types with a sign and without
-abbrev pub atomic32_of : AtomicOperation → Bool → StepSource ℕ → StepSource ℕ → AtomicOperation32
-atomic32_of atomic.Add signed s r = atomic32.Add s
-atomic32_of atomic.Subtract signed s r = atomic32.Subtract s
-atomic32_of atomic.Minimum false s r = atomic32.LeastUnsigned s
-atomic32_of atomic.Minimum true s r = atomic32.LeastSigned s
-atomic32_of atomic.Maximum false s r = atomic32.GreatestUnsigned s
-atomic32_of atomic.Maximum true s r = atomic32.GreatestSigned s
-atomic32_of atomic.And signed s r = atomic32.And s
-atomic32_of atomic.Or signed s r = atomic32.Or s
-atomic32_of atomic.Xor signed s r = atomic32.Xor s
-atomic32_of atomic.Exchange signed s r = atomic32.Exchange s
-atomic32_of atomic.CompareAndSwap signed s r = atomic32.CompareAndSwap (record { expected = s; replacement = r })
-
--- the operations of 64 bits
-abbrev pub atomic64_of : AtomicOperation → Bool → StepSource ℕ → StepSource ℕ → AtomicOperation64
-atomic64_of atomic.Add signed s r = atomic64.Add s
-atomic64_of atomic.Subtract signed s r = atomic64.Subtract s
-atomic64_of atomic.Minimum false s r = atomic64.LeastUnsigned s
-atomic64_of atomic.Minimum true s r = atomic64.LeastSigned s
-atomic64_of atomic.Maximum false s r = atomic64.GreatestUnsigned s
-atomic64_of atomic.Maximum true s r = atomic64.GreatestSigned s
-atomic64_of atomic.And signed s r = atomic64.And s
-atomic64_of atomic.Or signed s r = atomic64.Or s
-atomic64_of atomic.Xor signed s r = atomic64.Xor s
-atomic64_of atomic.Exchange signed s r = atomic64.Exchange s
-atomic64_of atomic.CompareAndSwap signed s r = atomic64.CompareAndSwap (record { expected = s; replacement = r })
+-- the operations on sources of a width, for types with a sign and without
+abbrev pub change_of : {S : Type 0} → AtomicOperation → Bool → S → S → AtomicChange S
+change_of atomic.Add signed s r = change.Add s
+change_of atomic.Subtract signed s r = change.Subtract s
+change_of atomic.Minimum false s r = change.LeastUnsigned s
+change_of atomic.Minimum true s r = change.LeastSigned s
+change_of atomic.Maximum false s r = change.GreatestUnsigned s
+change_of atomic.Maximum true s r = change.GreatestSigned s
+change_of atomic.And signed s r = change.And s
+change_of atomic.Or signed s r = change.Or s
+change_of atomic.Xor signed s r = change.Xor s
+change_of atomic.Exchange signed s r = change.Exchange s
+change_of atomic.CompareAndSwap signed s r = change.CompareAndSwap (record { expected = s; replacement = r })
 
 -- atomic has its target first, its address second and its sources behind them
 abbrev pub as_atomic : AtomicOperation → Operation → Atomic
@@ -474,12 +458,12 @@ abbrev pub atomic_in : RegisterClass → Atomic → AtomicPointer → Step
 atomic_in class.Double a p = step.Atomic64 (record {
   target = a.target;
   pointer = p;
-  operation = atomic64_of a.operation (is_signed a.kind) (source64_of a.first) (source64_of a.second);
+  operation = change_of a.operation (is_signed a.kind) (source64_of a.first) (source64_of a.second);
 })
 atomic_in _ a p = step.Atomic32 (record {
   target = a.target;
   pointer = p;
-  operation = atomic32_of a.operation (is_signed a.kind) (source32_of a.first) (source32_of a.second);
+  operation = change_of a.operation (is_signed a.kind) (source32_of a.first) (source32_of a.second);
 })
 
 abbrev pub atomic_at : (List ℕ → Option Placed) → Atomic → Operand → Step
@@ -588,33 +572,19 @@ double_reads (double.ShiftLeft s) = any.Double s.value ∷ any.Single s.count �
 double_reads (double.ShiftRightUnsigned s) = any.Double s.value ∷ any.Single s.count ∷ []
 double_reads (double.ShiftRightSigned s) = any.Double s.value ∷ any.Single s.count ∷ []
 
--- what an atomic operation of 32 bits reads beside memory
-abbrev pub atomic32_reads : AtomicOperation32 → List AnySource
-atomic32_reads (atomic32.Add s) = any.Single s ∷ []
-atomic32_reads (atomic32.Subtract s) = any.Single s ∷ []
-atomic32_reads (atomic32.LeastUnsigned s) = any.Single s ∷ []
-atomic32_reads (atomic32.LeastSigned s) = any.Single s ∷ []
-atomic32_reads (atomic32.GreatestUnsigned s) = any.Single s ∷ []
-atomic32_reads (atomic32.GreatestSigned s) = any.Single s ∷ []
-atomic32_reads (atomic32.And s) = any.Single s ∷ []
-atomic32_reads (atomic32.Or s) = any.Single s ∷ []
-atomic32_reads (atomic32.Xor s) = any.Single s ∷ []
-atomic32_reads (atomic32.Exchange s) = any.Single s ∷ []
-atomic32_reads (atomic32.CompareAndSwap p) = two any.Single p.expected p.replacement
-
--- what one of 64 bits reads
-abbrev pub atomic64_reads : AtomicOperation64 → List AnySource
-atomic64_reads (atomic64.Add s) = any.Double s ∷ []
-atomic64_reads (atomic64.Subtract s) = any.Double s ∷ []
-atomic64_reads (atomic64.LeastUnsigned s) = any.Double s ∷ []
-atomic64_reads (atomic64.LeastSigned s) = any.Double s ∷ []
-atomic64_reads (atomic64.GreatestUnsigned s) = any.Double s ∷ []
-atomic64_reads (atomic64.GreatestSigned s) = any.Double s ∷ []
-atomic64_reads (atomic64.And s) = any.Double s ∷ []
-atomic64_reads (atomic64.Or s) = any.Double s ∷ []
-atomic64_reads (atomic64.Xor s) = any.Double s ∷ []
-atomic64_reads (atomic64.Exchange s) = any.Double s ∷ []
-atomic64_reads (atomic64.CompareAndSwap p) = two any.Double p.expected p.replacement
+-- what an atomic operation reads beside memory
+abbrev pub change_reads : {S : Type 0} → (S → AnySource) → AtomicChange S → List AnySource
+change_reads of_width (change.Add s) = of_width s ∷ []
+change_reads of_width (change.Subtract s) = of_width s ∷ []
+change_reads of_width (change.LeastUnsigned s) = of_width s ∷ []
+change_reads of_width (change.LeastSigned s) = of_width s ∷ []
+change_reads of_width (change.GreatestUnsigned s) = of_width s ∷ []
+change_reads of_width (change.GreatestSigned s) = of_width s ∷ []
+change_reads of_width (change.And s) = of_width s ∷ []
+change_reads of_width (change.Or s) = of_width s ∷ []
+change_reads of_width (change.Xor s) = of_width s ∷ []
+change_reads of_width (change.Exchange s) = of_width s ∷ []
+change_reads of_width (change.CompareAndSwap p) = two of_width p.expected p.replacement
 
 -- the sources that a step reads, in order
 abbrev pub reads : Step → List AnySource
@@ -624,8 +594,8 @@ reads (step.Double s) = double_reads s.operation
 reads (step.Convert c) = c.source ∷ []
 reads (step.Store s) = s.source ∷ []
 reads (step.StoreGroup s) = s.source ∷ []
-reads (step.Atomic32 a) = atomic32_reads a.operation
-reads (step.Atomic64 a) = atomic64_reads a.operation
+reads (step.Atomic32 a) = change_reads any.Single a.operation
+reads (step.Atomic64 a) = change_reads any.Double a.operation
 reads (step.ConditionalBranch b) = any.Control b.condition ∷ []
 reads _ = []
 

@@ -30,10 +30,9 @@ pub use laws::{
 };
 pub use program::Program;
 pub use step::{
-    AnyRegister, AnySource, ArgumentStep, AtomicOperation32, AtomicOperation64, AtomicPointer,
-    AtomicStep32, AtomicStep64, BranchStep, Choice, Compare, ControlOperation, ControlStep,
-    ConvertStep, Dimension, DoubleOperation, DoubleStep, GroupLoadStep, GroupPointer,
-    GroupStoreStep, LinedStep, LoadStep, NumberType, Pair, Pointer, RegisterNumber, Shift64,
-    SingleOperation, SingleStep, Source, Source1, Source32, Source64, Step, StoreStep, Swap,
-    Triple, WorkItemQueryStep,
+    AnyRegister, AnySource, ArgumentStep, AtomicChange, AtomicPointer, AtomicStep, BranchStep,
+    Choice, Compare, ControlOperation, ControlStep, ConvertStep, Dimension, DoubleOperation,
+    DoubleStep, GroupLoadStep, GroupPointer, GroupStoreStep, LinedStep, LoadStep, NumberType, Pair,
+    Pointer, RegisterNumber, Shift64, SingleOperation, SingleStep, Source, Source1, Source32,
+    Source64, Step, StoreStep, Swap, Triple, WorkItemQueryStep,
 };

@@ -2,16 +2,15 @@
 
 ghost use Rattle.std.specs.Prelude.{◌≡◌, ◌+◌, ◌%◌, ◌^◌};
 ghost use Rattle.kernel_check.specs.Names.{find};
-ghost use Rattle.kernel_check.specs.Steps.{forms_of, pointer_of, pointer_in, known_offset, offset_of, group_place, group_pointer, load_from, load_at, store_from, store_at, atomic_pointer, atomic32_of, atomic64_of, atomic_in, atomic_at};
+ghost use Rattle.kernel_check.specs.Steps.{forms_of, pointer_of, pointer_in, known_offset, offset_of, group_place, group_pointer, load_from, load_at, store_from, store_at, atomic_pointer, change_of, atomic_in, atomic_at};
 ghost use Rattle.hsail_reader.specs.Types.{type_class};
 
 use crate::constants::bits;
 use crate::layout::Placed;
 use crate::names::Names;
 use crate::step::{
-    AddressForms, ArgumentStep, AtomicOperation32, AtomicOperation64, AtomicPointer, AtomicStep32,
-    AtomicStep64, GroupLoadStep, GroupPointer, GroupStoreStep, LoadStep, Pointer, RegisterNumber,
-    Source32, Source64, Step, StoreStep, Swap,
+    AddressForms, ArgumentStep, AtomicChange, AtomicPointer, AtomicStep, GroupLoadStep,
+    GroupPointer, GroupStoreStep, LoadStep, Pointer, RegisterNumber, Step, StoreStep, Swap,
 };
 use crate::values::{
     any_register, any_source, is_signed, number_type, register_number, source32, source64,
@@ -221,54 +220,27 @@ fn atomic_pointer(
     }
 }
 
-/// The operation of 32 bits, of a type with a sign or without.
-fn atomic32(
+/// The operation on sources of a width, of a type with a sign or without.
+fn change<S: Copy>(
     operation: AtomicOperation,
     signed: bool,
-    source: Source32,
-    replacement: Source32,
-) -> AtomicOperation32
-    ensures { result ≡ atomic32_of operation signed source replacement }
+    source: S,
+    replacement: S,
+) -> AtomicChange<S>
+    ensures { result ≡ change_of operation signed source replacement }
 {
     match (operation, signed) {
-        (AtomicOperation::Add, _) => AtomicOperation32::Add(source),
-        (AtomicOperation::Subtract, _) => AtomicOperation32::Subtract(source),
-        (AtomicOperation::Minimum, false) => AtomicOperation32::LeastUnsigned(source),
-        (AtomicOperation::Minimum, true) => AtomicOperation32::LeastSigned(source),
-        (AtomicOperation::Maximum, false) => AtomicOperation32::GreatestUnsigned(source),
-        (AtomicOperation::Maximum, true) => AtomicOperation32::GreatestSigned(source),
-        (AtomicOperation::And, _) => AtomicOperation32::And(source),
-        (AtomicOperation::Or, _) => AtomicOperation32::Or(source),
-        (AtomicOperation::Xor, _) => AtomicOperation32::Xor(source),
-        (AtomicOperation::Exchange, _) => AtomicOperation32::Exchange(source),
-        (AtomicOperation::CompareAndSwap, _) => AtomicOperation32::CompareAndSwap(Swap {
-            expected: source,
-            replacement,
-        }),
-    }
-}
-
-/// The operation of 64 bits, of a type with a sign or without.
-fn atomic64(
-    operation: AtomicOperation,
-    signed: bool,
-    source: Source64,
-    replacement: Source64,
-) -> AtomicOperation64
-    ensures { result ≡ atomic64_of operation signed source replacement }
-{
-    match (operation, signed) {
-        (AtomicOperation::Add, _) => AtomicOperation64::Add(source),
-        (AtomicOperation::Subtract, _) => AtomicOperation64::Subtract(source),
-        (AtomicOperation::Minimum, false) => AtomicOperation64::LeastUnsigned(source),
-        (AtomicOperation::Minimum, true) => AtomicOperation64::LeastSigned(source),
-        (AtomicOperation::Maximum, false) => AtomicOperation64::GreatestUnsigned(source),
-        (AtomicOperation::Maximum, true) => AtomicOperation64::GreatestSigned(source),
-        (AtomicOperation::And, _) => AtomicOperation64::And(source),
-        (AtomicOperation::Or, _) => AtomicOperation64::Or(source),
-        (AtomicOperation::Xor, _) => AtomicOperation64::Xor(source),
-        (AtomicOperation::Exchange, _) => AtomicOperation64::Exchange(source),
-        (AtomicOperation::CompareAndSwap, _) => AtomicOperation64::CompareAndSwap(Swap {
+        (AtomicOperation::Add, _) => AtomicChange::Add(source),
+        (AtomicOperation::Subtract, _) => AtomicChange::Subtract(source),
+        (AtomicOperation::Minimum, false) => AtomicChange::LeastUnsigned(source),
+        (AtomicOperation::Minimum, true) => AtomicChange::LeastSigned(source),
+        (AtomicOperation::Maximum, false) => AtomicChange::GreatestUnsigned(source),
+        (AtomicOperation::Maximum, true) => AtomicChange::GreatestSigned(source),
+        (AtomicOperation::And, _) => AtomicChange::And(source),
+        (AtomicOperation::Or, _) => AtomicChange::Or(source),
+        (AtomicOperation::Xor, _) => AtomicChange::Xor(source),
+        (AtomicOperation::Exchange, _) => AtomicChange::Exchange(source),
+        (AtomicOperation::CompareAndSwap, _) => AtomicChange::CompareAndSwap(Swap {
             expected: source,
             replacement,
         }),
@@ -283,26 +255,26 @@ fn atomic_step(atomic: &Atomic, pointer: AtomicPointer) -> Step
     let signed = is_signed(atomic.kind);
     match atomic.kind.class() {
         RegisterClass::Double => {
-            let operation = atomic64(
+            let operation = change(
                 operation,
                 signed,
                 source64(atomic.first),
                 source64(atomic.second),
             );
-            Step::Atomic64(AtomicStep64 {
+            Step::Atomic64(AtomicStep {
                 target,
                 pointer,
                 operation,
             })
         }
         RegisterClass::Control | RegisterClass::Single => {
-            let operation = atomic32(
+            let operation = change(
                 operation,
                 signed,
                 source32(atomic.first),
                 source32(atomic.second),
             );
-            Step::Atomic32(AtomicStep32 {
+            Step::Atomic32(AtomicStep {
                 target,
                 pointer,
                 operation,

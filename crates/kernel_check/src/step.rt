@@ -352,77 +352,41 @@ pub struct Swap<S> {
     pub replacement: S,
 }
 
-/// What an atomic operation puts in place of 32 bits of memory: the old value and its source, joined
+/// What an atomic operation puts in place of 32 or 64 bits of memory: the old value and its source, joined
 /// as it says. The order and the scope of the text have no effect here (own).
 #[derive(Clone, Copy)]
-pub enum AtomicOperation32 {
+pub enum AtomicChange<S> {
     /// `add_T`
-    Add(Source32),
+    Add(S),
     /// `sub_T`: the old value less the source
-    Subtract(Source32),
-    /// `min_u32`
-    LeastUnsigned(Source32),
-    /// `min_s32`
-    LeastSigned(Source32),
-    /// `max_u32`
-    GreatestUnsigned(Source32),
-    /// `max_s32`
-    GreatestSigned(Source32),
-    /// `and_b32`
-    And(Source32),
-    /// `or_b32`
-    Or(Source32),
-    /// `xor_b32`
-    Xor(Source32),
-    /// `exch_b32`: the source
-    Exchange(Source32),
-    /// `cas_b32`: nothing, where the old value is another than the expected one
-    CompareAndSwap(Swap<Source32>),
+    Subtract(S),
+    /// `min_u32` and `min_u64`
+    LeastUnsigned(S),
+    /// `min_s32` and `min_s64`
+    LeastSigned(S),
+    /// `max_u32` and `max_u64`
+    GreatestUnsigned(S),
+    /// `max_s32` and `max_s64`
+    GreatestSigned(S),
+    /// `and_T`
+    And(S),
+    /// `or_T`
+    Or(S),
+    /// `xor_T`
+    Xor(S),
+    /// `exch_T`: the source
+    Exchange(S),
+    /// `cas_T`: nothing, where the old value is another than the expected one
+    CompareAndSwap(Swap<S>),
 }
 
-/// What an atomic operation puts in place of 64 bits of memory, as `AtomicOperation32` says.
+/// `atomic_OP_SEG_O_S_T target, [address], ..`, which puts the old value into an `$s` or `$d` register, as
+/// wide as its sources; or `atomicnoret`, which has no target.
 #[derive(Clone, Copy)]
-pub enum AtomicOperation64 {
-    /// `add_T`
-    Add(Source64),
-    /// `sub_T`: the old value less the source
-    Subtract(Source64),
-    /// `min_u64`
-    LeastUnsigned(Source64),
-    /// `min_s64`
-    LeastSigned(Source64),
-    /// `max_u64`
-    GreatestUnsigned(Source64),
-    /// `max_s64`
-    GreatestSigned(Source64),
-    /// `and_b64`
-    And(Source64),
-    /// `or_b64`
-    Or(Source64),
-    /// `xor_b64`
-    Xor(Source64),
-    /// `exch_b64`: the source
-    Exchange(Source64),
-    /// `cas_b64`: nothing, where the old value is another than the expected one
-    CompareAndSwap(Swap<Source64>),
-}
-
-/// `atomic_OP_SEG_O_S_T target, [address], ..` of 32 bits, which puts the old value into an `$s`
-/// register; or `atomicnoret`, which has no target.
-#[derive(Clone, Copy)]
-pub struct AtomicStep32 {
+pub struct AtomicStep<S> {
     pub target: Option<RegisterNumber>,
     pub pointer: AtomicPointer,
-    pub operation: AtomicOperation32,
-}
-
-/// `atomic_OP_SEG_O_S_T target, [address], ..` of 64 bits, which puts the old value into a `$d`
-/// register; or `atomicnoret`, which has no target.
-#[derive(Clone, Copy)]
-pub struct AtomicStep64 {
-    pub target: Option<RegisterNumber>,
-    pub pointer: AtomicPointer,
-    pub operation: AtomicOperation64,
+    pub operation: AtomicChange<S>,
 }
 
 /// `cbr_b1 condition, @label`, with the number of the step behind the label, from 0. Where the label
@@ -482,8 +446,8 @@ pub enum Step {
     Store(StoreStep),
     LoadGroup(GroupLoadStep),
     StoreGroup(GroupStoreStep),
-    Atomic32(AtomicStep32),
-    Atomic64(AtomicStep64),
+    Atomic32(AtomicStep<Source32>),
+    Atomic64(AtomicStep<Source64>),
     /// `br @x`, with the number of the step behind the label, as in `BranchStep`
     Branch(usize),
     ConditionalBranch(BranchStep),
