@@ -10,8 +10,8 @@ use crate::act::Outcome;
 use crate::atomic_place::{find, place_of, put};
 use crate::item::{Item, ItemContext};
 use crate::memory::Memory;
+use crate::number::Number;
 use crate::registers::Registers;
-use crate::{number32, number64};
 use byteorder::{ByteOrder, LittleEndian};
 use kernel_check::{AtomicChange, AtomicStep, RegisterNumber, Source32, Source64};
 use std::alloc::Global;
@@ -22,18 +22,15 @@ fn replacing32(r: &Registers, operation: &AtomicChange<Source32>, old: u32) -> O
     ensures { result ≡ replacing32 r.now operation.now old }
 {
     Some(match operation {
-        AtomicChange::Add(source) => number32::add(old, r.read32(*source)),
-        AtomicChange::Subtract(source) => number32::subtract(old, r.read32(*source)),
-        AtomicChange::LeastUnsigned(source) => number32::least_unsigned(old, r.read32(*source)),
-        AtomicChange::LeastSigned(source) => number32::least_signed(old, r.read32(*source)),
-        AtomicChange::GreatestUnsigned(source) => number32::greatest_unsigned(
-            old,
-            r.read32(*source),
-        ),
-        AtomicChange::GreatestSigned(source) => number32::greatest_signed(old, r.read32(*source)),
-        AtomicChange::And(source) => number32::and(old, r.read32(*source)),
-        AtomicChange::Or(source) => number32::or(old, r.read32(*source)),
-        AtomicChange::Xor(source) => number32::xor(old, r.read32(*source)),
+        AtomicChange::Add(source) => Number::add(old, r.read32(*source)),
+        AtomicChange::Subtract(source) => Number::subtract(old, r.read32(*source)),
+        AtomicChange::LeastUnsigned(source) => Number::least_unsigned(old, r.read32(*source)),
+        AtomicChange::LeastSigned(source) => Number::least_signed(old, r.read32(*source)),
+        AtomicChange::GreatestUnsigned(source) => Number::greatest_unsigned(old, r.read32(*source)),
+        AtomicChange::GreatestSigned(source) => Number::greatest_signed(old, r.read32(*source)),
+        AtomicChange::And(source) => old & r.read32(*source),
+        AtomicChange::Or(source) => old | r.read32(*source),
+        AtomicChange::Xor(source) => old ^ r.read32(*source),
         AtomicChange::Exchange(source) => r.read32(*source),
         AtomicChange::CompareAndSwap(swap) => {
             if old != r.read32(swap.expected) {
@@ -50,18 +47,15 @@ fn replacing64(r: &Registers, operation: &AtomicChange<Source64>, old: u64) -> O
     ensures { result ≡ replacing64 r.now operation.now old }
 {
     Some(match operation {
-        AtomicChange::Add(source) => number64::add(old, r.read64(*source)),
-        AtomicChange::Subtract(source) => number64::subtract(old, r.read64(*source)),
-        AtomicChange::LeastUnsigned(source) => number64::least_unsigned(old, r.read64(*source)),
-        AtomicChange::LeastSigned(source) => number64::least_signed(old, r.read64(*source)),
-        AtomicChange::GreatestUnsigned(source) => number64::greatest_unsigned(
-            old,
-            r.read64(*source),
-        ),
-        AtomicChange::GreatestSigned(source) => number64::greatest_signed(old, r.read64(*source)),
-        AtomicChange::And(source) => number64::and(old, r.read64(*source)),
-        AtomicChange::Or(source) => number64::or(old, r.read64(*source)),
-        AtomicChange::Xor(source) => number64::xor(old, r.read64(*source)),
+        AtomicChange::Add(source) => Number::add(old, r.read64(*source)),
+        AtomicChange::Subtract(source) => Number::subtract(old, r.read64(*source)),
+        AtomicChange::LeastUnsigned(source) => Number::least_unsigned(old, r.read64(*source)),
+        AtomicChange::LeastSigned(source) => Number::least_signed(old, r.read64(*source)),
+        AtomicChange::GreatestUnsigned(source) => Number::greatest_unsigned(old, r.read64(*source)),
+        AtomicChange::GreatestSigned(source) => Number::greatest_signed(old, r.read64(*source)),
+        AtomicChange::And(source) => old & r.read64(*source),
+        AtomicChange::Or(source) => old | r.read64(*source),
+        AtomicChange::Xor(source) => old ^ r.read64(*source),
         AtomicChange::Exchange(source) => r.read64(*source),
         AtomicChange::CompareAndSwap(swap) => {
             if old != r.read64(swap.expected) {

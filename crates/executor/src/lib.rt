@@ -19,6 +19,7 @@ mod item_run;
 mod laws;
 mod location;
 mod memory;
+mod number;
 mod number32;
 mod number64;
 mod page;

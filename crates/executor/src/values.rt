@@ -1,9 +1,9 @@
 //! What operations compute of the registers.
-ghost use Rattle.std.specs.Prelude.{◌≡◌};
+ghost use Rattle.std.specs.Prelude.{◌≡◌, if◌then◌else◌};
 ghost use Rattle.executor.specs.Values.{bit, value1, value32, value64};
 
+use crate::number::Number;
 use crate::registers::Registers;
-use crate::{number32, number64};
 use kernel_check::{ControlOperation, DoubleOperation, SingleOperation};
 
 /// A bit as a number.
@@ -12,6 +12,14 @@ fn bit(value: bool) -> u32
     ensures { result ≡ bit value }
 {
     if value { 1 } else { 0 }
+}
+
+/// The first where the condition is 1, else the second (PRM, Conditional Move (cmov) Operation).
+#[inline(always)]
+fn choose<N: Copy>(condition: bool, one: N, zero: N) -> N
+    ensures { result ≡ (if condition then one else zero) }
+{
+    if condition { one } else { zero }
 }
 
 /// What an operation puts into a `$c` register.
@@ -29,19 +37,19 @@ pub fn value1(r: &Registers, operation: &ControlOperation) -> bool
         ControlOperation::Compare(c) => {
             let left = bit(r.read1(c.left));
             let right = bit(r.read1(c.right));
-            number32::compare_unsigned(c.comparison, left, right)
+            Number::compare_unsigned(c.comparison, left, right)
         }
         ControlOperation::CompareUnsigned32(c) => {
-            number32::compare_unsigned(c.comparison, r.read32(c.left), r.read32(c.right))
+            Number::compare_unsigned(c.comparison, r.read32(c.left), r.read32(c.right))
         }
         ControlOperation::CompareSigned32(c) => {
-            number32::compare_signed(c.comparison, r.read32(c.left), r.read32(c.right))
+            Number::compare_signed(c.comparison, r.read32(c.left), r.read32(c.right))
         }
         ControlOperation::CompareUnsigned64(c) => {
-            number64::compare_unsigned(c.comparison, r.read64(c.left), r.read64(c.right))
+            Number::compare_unsigned(c.comparison, r.read64(c.left), r.read64(c.right))
         }
         ControlOperation::CompareSigned64(c) => {
-            number64::compare_signed(c.comparison, r.read64(c.left), r.read64(c.right))
+            Number::compare_signed(c.comparison, r.read64(c.left), r.read64(c.right))
         }
     }
 }
@@ -53,58 +61,58 @@ pub fn value32(r: &Registers, operation: &SingleOperation) -> u32
 {
     match operation {
         SingleOperation::Move(a) => r.read32(*a),
-        SingleOperation::Not(a) => number32::not(r.read32(*a)),
-        SingleOperation::Add(p) => number32::add(r.read32(p.left), r.read32(p.right)),
-        SingleOperation::Subtract(p) => number32::subtract(r.read32(p.left), r.read32(p.right)),
-        SingleOperation::Multiply(p) => number32::multiply(r.read32(p.left), r.read32(p.right)),
+        SingleOperation::Not(a) => !r.read32(*a),
+        SingleOperation::Add(p) => Number::add(r.read32(p.left), r.read32(p.right)),
+        SingleOperation::Subtract(p) => Number::subtract(r.read32(p.left), r.read32(p.right)),
+        SingleOperation::Multiply(p) => Number::multiply(r.read32(p.left), r.read32(p.right)),
         SingleOperation::MultiplyAdd(t) => {
-            number32::multiply_add(r.read32(t.first), r.read32(t.second), r.read32(t.third))
+            Number::multiply_add(r.read32(t.first), r.read32(t.second), r.read32(t.third))
         }
-        SingleOperation::DivideUnsigned(p) => number32::divide_unsigned(
+        SingleOperation::DivideUnsigned(p) => Number::divide_unsigned(
             r.read32(p.left),
             r.read32(p.right),
         ),
-        SingleOperation::DivideSigned(p) => number32::divide_signed(
+        SingleOperation::DivideSigned(p) => Number::divide_signed(
             r.read32(p.left),
             r.read32(p.right),
         ),
-        SingleOperation::RemainderUnsigned(p) => number32::remainder_unsigned(
+        SingleOperation::RemainderUnsigned(p) => Number::remainder_unsigned(
             r.read32(p.left),
             r.read32(p.right),
         ),
-        SingleOperation::RemainderSigned(p) => number32::remainder_signed(
+        SingleOperation::RemainderSigned(p) => Number::remainder_signed(
             r.read32(p.left),
             r.read32(p.right),
         ),
-        SingleOperation::LeastUnsigned(p) => number32::least_unsigned(
+        SingleOperation::LeastUnsigned(p) => Number::least_unsigned(
             r.read32(p.left),
             r.read32(p.right),
         ),
-        SingleOperation::LeastSigned(p) => number32::least_signed(
+        SingleOperation::LeastSigned(p) => Number::least_signed(
             r.read32(p.left),
             r.read32(p.right),
         ),
-        SingleOperation::GreatestUnsigned(p) => number32::greatest_unsigned(
+        SingleOperation::GreatestUnsigned(p) => Number::greatest_unsigned(
             r.read32(p.left),
             r.read32(p.right),
         ),
-        SingleOperation::GreatestSigned(p) => number32::greatest_signed(
+        SingleOperation::GreatestSigned(p) => Number::greatest_signed(
             r.read32(p.left),
             r.read32(p.right),
         ),
-        SingleOperation::And(p) => number32::and(r.read32(p.left), r.read32(p.right)),
-        SingleOperation::Or(p) => number32::or(r.read32(p.left), r.read32(p.right)),
-        SingleOperation::Xor(p) => number32::xor(r.read32(p.left), r.read32(p.right)),
-        SingleOperation::ShiftLeft(p) => number32::shift_left(r.read32(p.left), r.read32(p.right)),
-        SingleOperation::ShiftRightUnsigned(p) => number32::shift_right_unsigned(
+        SingleOperation::And(p) => r.read32(p.left) & r.read32(p.right),
+        SingleOperation::Or(p) => r.read32(p.left) | r.read32(p.right),
+        SingleOperation::Xor(p) => r.read32(p.left) ^ r.read32(p.right),
+        SingleOperation::ShiftLeft(p) => Number::shift_left(r.read32(p.left), r.read32(p.right)),
+        SingleOperation::ShiftRightUnsigned(p) => Number::shift_right_unsigned(
             r.read32(p.left),
             r.read32(p.right),
         ),
-        SingleOperation::ShiftRightSigned(p) => number32::shift_right_signed(
+        SingleOperation::ShiftRightSigned(p) => Number::shift_right_signed(
             r.read32(p.left),
             r.read32(p.right),
         ),
-        SingleOperation::Choose(c) => number32::choose(
+        SingleOperation::Choose(c) => choose(
             r.read1(c.condition),
             r.read32(c.one),
             r.read32(c.zero),
@@ -119,58 +127,58 @@ pub fn value64(r: &Registers, operation: &DoubleOperation) -> u64
 {
     match operation {
         DoubleOperation::Move(a) => r.read64(*a),
-        DoubleOperation::Not(a) => number64::not(r.read64(*a)),
-        DoubleOperation::Add(p) => number64::add(r.read64(p.left), r.read64(p.right)),
-        DoubleOperation::Subtract(p) => number64::subtract(r.read64(p.left), r.read64(p.right)),
-        DoubleOperation::Multiply(p) => number64::multiply(r.read64(p.left), r.read64(p.right)),
+        DoubleOperation::Not(a) => !r.read64(*a),
+        DoubleOperation::Add(p) => Number::add(r.read64(p.left), r.read64(p.right)),
+        DoubleOperation::Subtract(p) => Number::subtract(r.read64(p.left), r.read64(p.right)),
+        DoubleOperation::Multiply(p) => Number::multiply(r.read64(p.left), r.read64(p.right)),
         DoubleOperation::MultiplyAdd(t) => {
-            number64::multiply_add(r.read64(t.first), r.read64(t.second), r.read64(t.third))
+            Number::multiply_add(r.read64(t.first), r.read64(t.second), r.read64(t.third))
         }
-        DoubleOperation::DivideUnsigned(p) => number64::divide_unsigned(
+        DoubleOperation::DivideUnsigned(p) => Number::divide_unsigned(
             r.read64(p.left),
             r.read64(p.right),
         ),
-        DoubleOperation::DivideSigned(p) => number64::divide_signed(
+        DoubleOperation::DivideSigned(p) => Number::divide_signed(
             r.read64(p.left),
             r.read64(p.right),
         ),
-        DoubleOperation::RemainderUnsigned(p) => number64::remainder_unsigned(
+        DoubleOperation::RemainderUnsigned(p) => Number::remainder_unsigned(
             r.read64(p.left),
             r.read64(p.right),
         ),
-        DoubleOperation::RemainderSigned(p) => number64::remainder_signed(
+        DoubleOperation::RemainderSigned(p) => Number::remainder_signed(
             r.read64(p.left),
             r.read64(p.right),
         ),
-        DoubleOperation::LeastUnsigned(p) => number64::least_unsigned(
+        DoubleOperation::LeastUnsigned(p) => Number::least_unsigned(
             r.read64(p.left),
             r.read64(p.right),
         ),
-        DoubleOperation::LeastSigned(p) => number64::least_signed(
+        DoubleOperation::LeastSigned(p) => Number::least_signed(
             r.read64(p.left),
             r.read64(p.right),
         ),
-        DoubleOperation::GreatestUnsigned(p) => number64::greatest_unsigned(
+        DoubleOperation::GreatestUnsigned(p) => Number::greatest_unsigned(
             r.read64(p.left),
             r.read64(p.right),
         ),
-        DoubleOperation::GreatestSigned(p) => number64::greatest_signed(
+        DoubleOperation::GreatestSigned(p) => Number::greatest_signed(
             r.read64(p.left),
             r.read64(p.right),
         ),
-        DoubleOperation::And(p) => number64::and(r.read64(p.left), r.read64(p.right)),
-        DoubleOperation::Or(p) => number64::or(r.read64(p.left), r.read64(p.right)),
-        DoubleOperation::Xor(p) => number64::xor(r.read64(p.left), r.read64(p.right)),
-        DoubleOperation::ShiftLeft(p) => number64::shift_left(r.read64(p.value), r.read32(p.count)),
-        DoubleOperation::ShiftRightUnsigned(p) => number64::shift_right_unsigned(
+        DoubleOperation::And(p) => r.read64(p.left) & r.read64(p.right),
+        DoubleOperation::Or(p) => r.read64(p.left) | r.read64(p.right),
+        DoubleOperation::Xor(p) => r.read64(p.left) ^ r.read64(p.right),
+        DoubleOperation::ShiftLeft(p) => Number::shift_left(r.read64(p.value), r.read32(p.count)),
+        DoubleOperation::ShiftRightUnsigned(p) => Number::shift_right_unsigned(
             r.read64(p.value),
             r.read32(p.count),
         ),
-        DoubleOperation::ShiftRightSigned(p) => number64::shift_right_signed(
+        DoubleOperation::ShiftRightSigned(p) => Number::shift_right_signed(
             r.read64(p.value),
             r.read32(p.count),
         ),
-        DoubleOperation::Choose(c) => number64::choose(
+        DoubleOperation::Choose(c) => choose(
             r.read1(c.condition),
             r.read64(c.one),
             r.read64(c.zero),

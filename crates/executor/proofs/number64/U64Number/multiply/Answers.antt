@@ -1,7 +1,7 @@
 use Rattle.std.proofs.Common.{arith}
 use Rattle.std.specs.Int.{w64}
 use Rattle.executor.proofs.NumberLemmas.{product_is}
-use Rattle.executor.proofs.number64.multiply.Goals as goal
+use Rattle.executor.proofs.number64.U64Number.multiply.Goals as goal
 
 pub returns : goal.returns
 returns c = λ sign. product_is w64 sign c.args.a c.args.b (omega arith) (omega arith)
