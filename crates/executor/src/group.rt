@@ -31,8 +31,8 @@ fn blank(alloc: Global, size: u32) -> Result<Memory, AllocError>
     })
 }
 
-/// How many work-groups there are along a dimension.
-fn groups_along(grid: u32, size: u32) -> u32
+/// How many work-groups there are along a dimension of the grid: the last may be smaller (PRM, Work-Groups).
+pub fn groups_along(grid: u32, size: u32) -> u32
     requires size { 1 ≤ size }
     requires grid { 1 ≤ grid }
     ensures value { result ≡ groups_along grid size }

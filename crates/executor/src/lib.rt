@@ -33,7 +33,7 @@ mod written_region;
 
 pub use dispatch::Dispatch;
 pub use fault::{ItemFault, RunFault};
-pub use group::run_group;
+pub use group::{groups_along, run_group};
 pub use held::HeldRegion;
 pub use laws::{
     law_checked_kernels_run_right, law_groups_come_to_an_end, law_groups_read_where_they_may,

@@ -1,5 +1,5 @@
 -- The launch rules are those of the layout, and then those of the fields.
-use Rattle.std.proofs.Common.{◌≡◌, ℕ, List, refl, sym, ◌∙◌, ap, Bool, Option, Some, None, arith}
+use Rattle.std.proofs.Common.{◌≡◌, ℕ, List, refl, sym, subst, ◌∙◌, ap, Bool, Option, Some, None, arith}
 use Rattle.std.specs.Prelude.{not, if◌then◌else◌}
 use Rattle.aql_packet.specs.declared.packet.Packet.{Packet}
 use Rattle.aql_packet.specs.declared.packet.CodecRule.{CodecRule}
@@ -10,7 +10,10 @@ use Rattle.queue_error.specs.declared.rule.Rule.{Rule}
 use Rattle.queue_error.specs.declared.rule.Rule.TheVariants as rule
 use Rattle.queue_error.specs.Texts.{rule_of}
 use Rattle.core_model.specs.LaunchRules.{Facts, first_failing_rule}
-use Rattle.packet_processor.specs.inner.FieldRules.{later_failing}
+use Rattle.packet_processor.specs.Asked.{AskedPacket}
+use Rattle.packet_processor.specs.Judged.{Judges}
+use Rattle.packet_processor.specs.declared.facts.Verdict.{Verdict}
+use Rattle.packet_processor.specs.inner.FieldRules.{later_failing, verdict_if}
 
 -- the first codec rule that fails, by what each answers
 first_codec : Bool → Bool → Bool → Option CodecRule
@@ -57,3 +60,15 @@ pub first_failing-decoded : (facts : Facts) (bytes : List ℕ) (p : Packet) → 
 first_failing-decoded facts bytes p e =
     let found = decoded-found bytes p e (refusal bytes) refl in
     launch_is facts bytes ∙ passed_first (passes codec.L1 bytes) (passes codec.L2 bytes) (passes codec.L3 bytes) _ (sym (codec_is bytes) ∙ found.0) ∙ ap (later_failing facts) found.1
+
+-- bytes that lay out a packet are judged by the first rule that fails, if there is one
+judged-by : (facts : Facts) (bytes : List ℕ) (asked : AskedPacket) → decoded bytes ≡ Some asked.packet → asked.agent ≡ facts.agent
+    → (o : Option Rule) → first_failing_rule facts bytes ≡ o → Judges facts bytes (verdict_if asked o)
+judged-by facts bytes asked laid runs None first = (laid, first, runs)
+judged-by facts bytes asked laid runs (Some rule) first = first
+
+-- so they are where the packet is judged
+pub judged-decoded : (facts : Facts) (bytes : List ℕ) (asked : AskedPacket) (v : Verdict) → decoded bytes ≡ Some asked.packet → asked.agent ≡ facts.agent
+    → v ≡ verdict_if asked (later_failing facts asked.packet) → Judges facts bytes v
+judged-decoded facts bytes asked v laid runs is =
+    subst (λ x. Judges facts bytes x) (sym is) (judged-by facts bytes asked laid runs _ (first_failing-decoded facts bytes asked.packet laid))

@@ -18,7 +18,8 @@ facts_seen lent = record {
   kernels = lent.kernels.now;
 }
 
--- bytes were judged: no rule fails and they lay out the packet, or this is the first rule that fails
+-- bytes were judged: no rule fails and they lay out the packet, for the agent that runs it, or this is the first rule that fails
 abbrev pub Judges : Facts → List ℕ → Verdict → Type 0
-Judges facts bytes (Launch packet) = (decoded bytes ≡ Some packet) × (first_failing_rule facts bytes ≡ None)
+Judges facts bytes (Launch asked) =
+    (decoded bytes ≡ Some asked.packet) × (first_failing_rule facts bytes ≡ None) × (asked.agent ≡ facts.agent)
 Judges facts bytes (Deny rule) = first_failing_rule facts bytes ≡ Some rule

@@ -1,3 +1,4 @@
+pub mod Asked
 pub mod Judged
 pub mod Holding
 pub mod Queueing

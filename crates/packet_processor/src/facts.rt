@@ -1,6 +1,7 @@
 //! What a packet is judged by, and the verdict.
 
-use aql_packet::{AgentHandle, ClientId, Packet};
+use crate::packet_needs::PacketNeeds;
+use aql_packet::{AgentHandle, ClientId};
 use core_model::KernelSegments;
 use grants::Grants;
 use policy::Takes;
@@ -25,10 +26,10 @@ pub struct Facts<'a> {
 }
 
 /// What is found of 64 bytes that are to be launched.
-#[derive(Clone, Copy, Debug, PartialEq, Eq)]
+#[derive(Drop)]
 pub enum Verdict {
-    /// No launch rule fails, and the bytes lay out this packet.
-    Launch(Packet),
+    /// No launch rule fails, and the bytes lay out this packet, which holds from then on what it needs.
+    Launch(PacketNeeds),
     /// This is the first launch rule that fails.
     Deny(Rule),
 }

@@ -12,8 +12,9 @@ ghost use Rattle.packet_processor.specs.inner.RightsPassing.{rights_passing};
 
 use crate::facts::Facts;
 use crate::judging::object_of;
-use crate::need_table::{Needs, needs};
-use aql_packet::{Address, AgentHandle, Packet};
+use crate::need_table::Needs;
+use crate::packet_needs::PacketNeeds;
+use aql_packet::Address;
 use byteorder::{ByteOrder, LittleEndian};
 use core_model::Need;
 use policy::{Object, Right, Rights};
@@ -25,20 +26,16 @@ use std::alloc::{AllocError, Global};
 type Held = (Object, Rights);
 
 /// What a packet holds from its launch on an agent on by what it needs, rule by rule.
-pub fn held_by_needs(
-    alloc: Global,
-    agent: AgentHandle,
-    packet: &Packet,
-) -> Result<Sequence<Held>, AllocError>
+pub fn held_by_needs(alloc: Global, asked: &PacketNeeds) -> Result<Sequence<Held>, AllocError>
     ensures { (client : ClientId) → IfOk result (λ held. held
-        ≡ map as_rights (held_by_needs (record { client = client; agent = agent }) packet.now)) }
+        ≡ map as_rights (held_by_needs (record { client = client; agent = asked.now.agent }) asked.now.packet)) }
 {
     let mut held = Sequence::new(alloc);
-    hold_all(&mut held, needs(Rule::L4, agent, packet))?;
-    hold_all(&mut held, needs(Rule::L6, agent, packet))?;
-    hold_all(&mut held, needs(Rule::L8, agent, packet))?;
-    hold_all(&mut held, needs(Rule::L9, agent, packet))?;
-    hold_all(&mut held, needs(Rule::L10, agent, packet))?;
+    hold_all(&mut held, asked.of_rule(Rule::L4))?;
+    hold_all(&mut held, asked.of_rule(Rule::L6))?;
+    hold_all(&mut held, asked.of_rule(Rule::L8))?;
+    hold_all(&mut held, asked.of_rule(Rule::L9))?;
+    hold_all(&mut held, asked.of_rule(Rule::L10))?;
     Ok(held)
 }
 
@@ -111,11 +108,11 @@ fn hold_if_in_force(
 }
 
 // Puts what is needed behind what is held.
-fn hold_all(held: &mut Sequence<Held>, needs: Needs) -> Result<(), AllocError>
+fn hold_all(held: &mut Sequence<Held>, needs: &Needs) -> Result<(), AllocError>
     ensures { OnOk result (held.new
-        ≡ held.old ++ map (λ need. as_rights (right_needed need)) (flat_map option_to_list needs)) }
+        ≡ held.old ++ map (λ need. as_rights (right_needed need)) (flat_map option_to_list needs.now)) }
 {
-    let [first, second, third, fourth, fifth] = needs;
+    let [first, second, third, fourth, fifth] = *needs;
     hold_one(held, first)?;
     hold_one(held, second)?;
     hold_one(held, third)?;

@@ -6,11 +6,12 @@ ghost use Rattle.core_model.specs.LaunchRules as rules;
 ghost use Rattle.core_model.specs.Needs.{object_of};
 ghost use Rattle.regions.specs.Memory.{lengths_of};
 ghost use Rattle.packet_processor.specs.Judged.{facts_seen, Judges};
-ghost use Rattle.packet_processor.specs.inner.FieldRules.{later_failing};
+ghost use Rattle.packet_processor.specs.inner.FieldRules.{later_failing, verdict_if};
 
 use crate::facts::{Facts, Verdict};
 use crate::kernels::{has_arguments, has_segments, has_sizes};
-use crate::need_table::{Needs, function_of, needs};
+use crate::need_table::{Needs, function_of};
+use crate::packet_needs::PacketNeeds;
 use aql_packet::{Packet, decode};
 use core_model::{Need, Subject};
 use policy::{Object, Takes};
@@ -35,28 +36,38 @@ pub fn verdict(bytes: &[u8; 64], facts: &Facts) -> Verdict
 {
     match decode(bytes) {
         Err(rule) => Verdict::Deny(Rule::from(rule)),
-        Ok(packet) => match first_failing(facts, &packet) {
-            Some(rule) => Verdict::Deny(rule),
-            None => Verdict::Launch(packet),
-        },
+        Ok(packet) => judge(facts, PacketNeeds::of(facts.agent, packet)),
+    }
+}
+
+// Judges a packet that is laid out.
+fn judge(facts: &Facts, asked: PacketNeeds) -> Verdict
+    requires agent { asked.agent ≡ facts.now.agent }
+    ensures { result ≡ verdict_if asked (later_failing (facts_seen facts.now) asked.packet) }
+{
+    match first_failing(facts, &asked) {
+        Some(rule) => Verdict::Deny(rule),
+        None => Verdict::Launch(asked),
     }
 }
 
 // The first rule that fails of those that look at the packet's fields.
-fn first_failing(facts: &Facts, packet: &Packet) -> Option<Rule>
-    ensures { result ≡ later_failing (facts_seen facts.now) packet.now }
+fn first_failing(facts: &Facts, asked: &PacketNeeds) -> Option<Rule>
+    requires { asked.now.agent ≡ facts.now.agent }
+    ensures { result ≡ later_failing (facts_seen facts.now) asked.now.packet }
 {
     RULES_OF_FIELDS
         .iter()
-        .find(|rule| !meets_rule(facts, packet, **rule))
+        .find(|rule| !meets_rule(facts, asked, **rule))
         .copied()
 }
 
 // Whether a packet is as a rule asks, and the rights that it needs are in force.
-fn meets_rule(facts: &Facts, packet: &Packet, rule: Rule) -> bool
-    ensures { result ≡ rules.meets_rule (facts_seen facts.now) packet.now rule }
+fn meets_rule(facts: &Facts, asked: &PacketNeeds, rule: Rule) -> bool
+    requires { asked.now.agent ≡ facts.now.agent }
+    ensures { result ≡ rules.meets_rule (facts_seen facts.now) asked.now.packet rule }
 {
-    has_form(facts, packet, rule) && are_met(facts, &needs(rule, facts.agent, packet))
+    has_form(facts, asked.packet(), rule) && are_met(facts, asked.of_rule(rule))
 }
 
 // Whether a packet is as a rule asks, beside the rights that it then holds.

@@ -13,6 +13,7 @@ use crate::judging::is_met_or_none;
 use crate::need_table::argument_need;
 use aql_packet::{KernelDispatch, Packet};
 use core_model::{KernelSegments, MOST_GROUP_ITEMS, MOST_SEGMENT_BYTES};
+use executor::groups_along;
 
 /// Whether the dimensions and sizes of a kernel dispatch are as they may be: 1 to 3 dimensions, at most
 /// 1,024 work-items in a work-group, and fewer than 2^32 work-groups (PSA, Kernel Dispatch Packet; own
@@ -58,9 +59,9 @@ fn has_few_groups(dispatch: &KernelDispatch) -> bool
     requires { rules.has_dimensions dispatch.now ≡ true }
     ensures { result ≡ nat_lt (locations.count_of (locations.groups_of (grid_size dispatch.now) (group_size dispatch.now))) (2 ^ 32) }
 {
-    let x = groups_along(dispatch.grid_size_x, dispatch.workgroup_size_x);
-    let y = groups_along(dispatch.grid_size_y, dispatch.workgroup_size_y);
-    let z = groups_along(dispatch.grid_size_z, dispatch.workgroup_size_z);
+    let x = groups_along(dispatch.grid_size_x, u32::from(dispatch.workgroup_size_x));
+    let y = groups_along(dispatch.grid_size_y, u32::from(dispatch.workgroup_size_y));
+    let z = groups_along(dispatch.grid_size_z, u32::from(dispatch.workgroup_size_z));
     is_small_product(x, y, z)
 }
 
@@ -71,16 +72,6 @@ fn is_small_product(x: u32, y: u32, z: u32) -> bool
 {
     let layer = x as u64 * y as u64;
     layer < 1 << 32 && layer * (z as u64) < 1 << 32
-}
-
-// How many work-groups there are along a dimension.
-fn groups_along(grid: u32, size: u16) -> u32
-    requires size { 1 ≤ size }
-    requires grid { 1 ≤ grid }
-    ensures value { result ≡ locations.groups_along grid size }
-    ensures some { 1 ≤ result }
-{
-    (grid - 1) / size as u32 + 1
 }
 
 /// Whether a dispatch asks for as much group memory as its kernel's variables take, and for neither

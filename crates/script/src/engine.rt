@@ -1,19 +1,50 @@
 //! The engine: it reads a line, does what it asks, and writes the reply.
 
-ghost use Rattle.std.specs.Prelude.{◌≡◌, ◌++◌, MatchResult, OnOk, OnErr, Result, string_bytes};
+ghost use Rattle.std.specs.Prelude.{◌≡◌, ◌++◌, MatchResult, OnOk, OnErr, Result, string_bytes, true};
+ghost use Rattle.core_model.specs.History.{beginning};
 ghost use Rattle.world.specs.declared.reply.Refusal.{Refusal};
 ghost use Rattle.script.specs.declared.command.LineAnswer.{LineAnswer};
 ghost use Rattle.script.specs.Expansions.{does};
+ghost use Rattle.script.specs.Entries.{text_of_audit};
 ghost use Rattle.script.specs.Replies.{text_of_line};
 ghost use Rattle.script.specs.Runs.{worlds, Served, Wanted};
 
 use crate::command::Command;
+use crate::entries::write_audit;
 use crate::expansions::perform;
 use crate::lines::{Line, read_line};
 use crate::replies::write_line;
+use core_model::Query;
 use policy::Policy;
 use std::alloc::{AllocError, Global};
-use world::World;
+use world::{Request, World};
+
+// Whether a line asks for the audit.
+fn asks_for_audit(command: &Command) -> bool
+    ensures { result ≡ true → command.now ≡ Command.Ask (Request.Query Query.Audit) }
+{
+    match command {
+        Command::Ask(Request::Query(Query::Audit)) => true,
+        _ => false,
+    }
+}
+
+// Puts the audit behind the other replies: it is lent, and written entry by entry. For want of memory nothing is written.
+fn tell_audit(alloc: Global, world: &World, out: &mut String) -> Result<(), AllocError>
+    ensures told { OnOk result (string_bytes out.new ≡ string_bytes out.old
+        ++ text_of_audit world.now.core.origin.policy (beginning world.now.core).before world.now.core.entries) }
+    ensures wanted { OnErr result (string_bytes out.new ≡ string_bytes out.old) }
+{
+    let core = world.core();
+    let mut reply = String::new(alloc);
+    write_audit(
+        &mut reply,
+        world.policy(),
+        core.entries_before(),
+        core.audit(),
+    )?;
+    out.push_str(reply.as_str())
+}
 
 // Does what a line asks, and puts the reply behind the others; for want of memory nothing is written.
 fn serve(
@@ -27,6 +58,9 @@ fn serve(
         × OnOk result (string_bytes out.new ≡ string_bytes out.old ++ text_of_line world.new.core.origin.policy told) }
     ensures wanted { OnErr result (string_bytes out.new ≡ string_bytes out.old) }
 {
+    if asks_for_audit(&command) {
+        return tell_audit(alloc, world, out);
+    }
     let told = perform(alloc, world, later, command);
     let mut reply = String::new(alloc);
     write_line(&mut reply, world.policy(), &told)?;

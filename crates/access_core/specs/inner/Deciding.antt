@@ -39,7 +39,7 @@ TakesNext history queue =
 
 -- the opening of the queue whose packet is launched
 abbrev pub opening_of : Launching → Opening
-opening_of launching = record { client = launching.client; agent = launching.agent }
+opening_of launching = record { client = launching.client; agent = launching.asked.agent }
 
 -- the argument block of a packet has its place in memory: it is empty, or lies whole in one region; only kernel dispatches have one
 abbrev pub IsBlockPlaced : History → Packet → Type 0
@@ -59,8 +59,8 @@ Decides history queue id bytes (Deny rule) =
     × TakesNext history queue
 Decides history queue id bytes (Launch launching) =
     (due history (Take queue id bytes) ≡ enters (outcome.Taken Launched) [])
-    × (decoded bytes ≡ Some launching.packet) × (lies_in_regions (region_lengths (beginning history).policy) launching.packet ≡ true) × TakesNext history queue
-    × (owner (beginning history) history.entries queue ≡ Some (opening_of launching)) × MayHold history (opening_of launching) launching.packet
+    × (decoded bytes ≡ Some launching.asked.packet) × (lies_in_regions (region_lengths (beginning history).policy) launching.asked.packet ≡ true) × TakesNext history queue
+    × (owner (beginning history) history.entries queue ≡ Some (opening_of launching)) × MayHold history (opening_of launching) launching.asked.packet
 
 -- the core's refusal where a change of grants is refused
 abbrev pub refusal_of : Why → Refusal

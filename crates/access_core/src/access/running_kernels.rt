@@ -3,7 +3,6 @@
 ghost use Rattle.core_model.specs.History.{beginning};
 ghost use Rattle.std.specs.Prelude.{◌≡◌, ◌*◌, ◌<◌, ◌≤◌, ◌^◌, All, IfErr, IfOk, Ok, length, true};
 ghost use Rattle.aql_packet.specs.declared.packet.Packet.TheVariants as kind;
-ghost use Rattle.executor.specs.Locations as locations;
 ghost use Rattle.executor.specs.Results.{wrote};
 ghost use Rattle.regions.specs.Memory.{is_within};
 ghost use Rattle.core_model.specs.Kernels.{grid_size, group_size};
@@ -22,7 +21,8 @@ use crate::kernel::kernel_at;
 use aql_packet::{KernelDispatch, PacketId, QueueId};
 use core_model::{Call, Effect, Effects, Event, Outcome, Refusal, Worked};
 use executor::{
-    Dispatch, Extent, ItemFault, RunFault, WrittenRange, law_groups_read_where_they_may, run_group,
+    Dispatch, Extent, ItemFault, RunFault, WrittenRange, groups_along,
+    law_groups_read_where_they_may, run_group,
 };
 use packet_processor::Place;
 use queue_error::QueueError;
@@ -161,19 +161,10 @@ pub(crate) fn group_count(dispatch: &KernelDispatch) -> u32
     requires { has_sizes dispatch.now ≡ true }
     ensures { result ≡ group_count (kind.Kernel dispatch.now) }
 {
-    let x = groups_along(dispatch.grid_size_x, dispatch.workgroup_size_x);
-    let y = groups_along(dispatch.grid_size_y, dispatch.workgroup_size_y);
-    let z = groups_along(dispatch.grid_size_z, dispatch.workgroup_size_z);
+    let x = groups_along(dispatch.grid_size_x, u32::from(dispatch.workgroup_size_x));
+    let y = groups_along(dispatch.grid_size_y, u32::from(dispatch.workgroup_size_y));
+    let z = groups_along(dispatch.grid_size_z, u32::from(dispatch.workgroup_size_z));
     product(x, y, z)
-}
-
-// How many work-groups there are along a dimension.
-fn groups_along(grid: u32, size: u16) -> u32
-    requires size { 1 ≤ size }
-    requires grid { 1 ≤ grid }
-    ensures { result ≡ locations.groups_along grid size }
-{
-    (grid - 1) / size as u32 + 1
 }
 
 // The product of three numbers, which is below 2^32.

@@ -16,21 +16,25 @@ ghost use Rattle.core_model.specs.Legal.{Meets, MeetsOrLacks, due};
 use crate::access::lookups::queue_of;
 use crate::access::{AccessCore, enter};
 use crate::queue::Queue;
-use aql_packet::{AgentHandle, ClientId, Packet, PacketId, QueueId, RawHeader, header_of};
+use aql_packet::{
+    AgentHandle, ClientId, Packet, PacketId, QueueId, RawHeader, header_in_first_word, header_of,
+    words_of,
+};
 use core_model::{Effects, Event, Outcome, Range, Refusal, Taken, WaitCause};
 use packet_processor::{
-    Facts, MayLaunch, QueueState, Verdict, held_by_arguments, held_by_needs, verdict,
+    Facts, MayLaunch, PacketNeeds, QueueState, Verdict, held_by_arguments, held_by_needs, verdict,
 };
 use policy::{Object, Rights, TAKES_NOTHING};
 use queue_error::{QueueError, Rule};
 use sequences::Sequence;
 use std::alloc::{AllocError, Global};
 
-// What a packet's header says, which the first two bytes hold.
+// What a packet's header says, which its first word holds.
 fn header(bytes: &[u8; 64]) -> RawHeader
     ensures { result.barrier ≡ barrier_bit bytes.now }
 {
-    header_of(u64::from(bytes[0]) + 256 * u64::from(bytes[1]))
+    header_in_first_word();
+    header_of(words_of(bytes)[0])
 }
 
 // What is decided of a packet that is next.
@@ -41,12 +45,11 @@ enum Decision {
     Launch(Launching),
 }
 
-// A packet that is launched, and whose queue it is.
+// A packet that is launched with what it needs on its agent, and whose queue it is.
 #[derive(Drop)]
 struct Launching {
     client: ClientId,
-    agent: AgentHandle,
-    packet: Packet,
+    asked: PacketNeeds,
 }
 
 // Puts the next packet of a queue into a place.
@@ -135,15 +138,12 @@ impl AccessCore {
             MayLaunch::Waiting(cause) => Ok(Decision::Wait(cause)),
             MayLaunch::Go => {
                 match self.judge(kept.client, kept.agent, bytes) {
-                    Verdict::Launch(packet) => {
+                    Verdict::Launch(asked) => {
                         if self.is_full_for_launch() {
                             return Err(Refusal::AuditFull);
                         }
-                        Ok(Decision::Launch(Launching {
-                            client: kept.client,
-                            agent: kept.agent,
-                            packet,
-                        }))
+                        let client = kept.client;
+                        Ok(Decision::Launch(Launching { client, asked }))
                     }
                     Verdict::Deny(rule) => {
                         if self.is_full() {
@@ -230,18 +230,18 @@ impl AccessCore {
         launching: &Launching,
         block: &[u8],
     ) -> Result<Sequence<(Object, Rights)>, AllocError>
-        requires { block.now ≡ arguments_of (beginning self.now.history) self.now.history.entries launching.now.packet }
+        requires { block.now ≡ arguments_of (beginning self.now.history) self.now.history.entries launching.now.asked.packet }
         ensures { IfOk result (λ rights. rights
-            ≡ map as_rights (rights_at_launch (beginning self.now.history) self.now.history.entries (opening_of launching.now) launching.now.packet)) }
+            ≡ map as_rights (rights_at_launch (beginning self.now.history) self.now.history.entries (opening_of launching.now) launching.now.asked.packet)) }
     {
-        let mut rights = held_by_needs(alloc, launching.agent, &launching.packet)?;
-        let Packet::Kernel(dispatch) = &launching.packet else {
+        let mut rights = held_by_needs(alloc, &launching.asked)?;
+        let Packet::Kernel(dispatch) = launching.asked.packet() else {
             return Ok(rights);
         };
         let Some(program) = self.kernel(dispatch) else {
             return Ok(rights);
         };
-        let facts = self.facts(launching.client, launching.agent);
+        let facts = self.facts(launching.client, launching.asked.agent());
         let pointed = held_by_arguments(alloc, &facts, program.wide_arguments(), block)?;
         append(&mut rights, pointed.as_slice())?;
         Ok(rights)
@@ -259,14 +259,14 @@ impl AccessCore {
         requires { Decides self.old.history queue packet bytes.now (Decision.Launch launching) }
         ensures met { MeetsOrLacks (Event.Take queue packet bytes.now) self.old.history self.new.history (map_ok Outcome.Taken result) }
     {
-        let block = self.argument_block(alloc, &launching.packet)?;
+        let block = self.argument_block(alloc, launching.asked.packet())?;
         let rights = self.rights_at_launch(alloc, &launching, block.as_slice())?;
         self.grants.reserve(rights.len())?;
         self.blocks.push(queue, packet, block)?;
         let client = launching.client;
         self.grants
             .hold_reserved(client, queue, packet, rights.as_slice());
-        place_next(&mut self.queues, queue, packet, launching.packet);
+        place_next(&mut self.queues, queue, packet, *launching.asked.packet());
         self.flying += 1;
         let event = Event::Take {
             queue,

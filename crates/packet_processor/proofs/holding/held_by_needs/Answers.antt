@@ -4,10 +4,10 @@ use Rattle.packet_processor.proofs.holding.held_by_needs.Goals as goal
 
 pub returns : goal.returns
 returns c = λ client.
-    held_by_rule (record { client = client; agent = c.args.agent }) c.args.packet.now _ _ _ _ _ _
+    held_by_rule (record { client = client; agent = c.args.asked.now.agent }) c.args.asked.now.packet _ _ _ _ _ _
     c.new-held.ensures
-    (rw c.needs.ensures at c.in_ok-hold_all.ensures)
-    (rw c.needs-2.ensures at c.in_ok-hold_all-2.ensures)
-    (rw c.needs-3.ensures at c.in_ok-hold_all-3.ensures)
-    (rw c.needs-4.ensures at c.in_ok-hold_all-4.ensures)
-    (rw c.needs-5.ensures at c.in_ok-hold_all-5.ensures)
+    (rw c.of_rule.ensures at c.in_ok-hold_all.ensures)
+    (rw c.of_rule-2.ensures at c.in_ok-hold_all-2.ensures)
+    (rw c.of_rule-3.ensures at c.in_ok-hold_all-3.ensures)
+    (rw c.of_rule-4.ensures at c.in_ok-hold_all-4.ensures)
+    (rw c.of_rule-5.ensures at c.in_ok-hold_all-5.ensures)

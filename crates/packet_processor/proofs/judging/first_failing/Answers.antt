@@ -12,5 +12,5 @@ use Rattle.packet_processor.proofs.judging.first_failing.Goals as goal
 pub returns : goal.returns
 returns c =
     c.copied.ensures
-    ∙ find_from_yields_List (λ rule. not (meets_rule (facts_seen c.args.facts.now) c.args.packet.now rule)) _ _ c.find.result c.find.ensures.ran
+    ∙ find_from_yields_List (λ rule. not (meets_rule (facts_seen c.args.facts.now) c.args.asked.now.packet rule)) _ _ c.find.result c.find.ensures.ran
     (YieldsList-from_slice rules_of_fields cc) (λ x b q k. search (rules, tests))

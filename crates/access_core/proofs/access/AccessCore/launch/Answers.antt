@@ -15,11 +15,11 @@ use Rattle.access_core.proofs.access.AccessCore.launch.Goals as goal
 pub hold_reserved-requires-clause-in_force : goal.hold_reserved-requires-clause-in_force
 hold_reserved-requires-clause-in_force c =
     launch-in_force c.self.inside c.self.invariant _ c.args.launching.client _
-    (rights_at_launch (start_of c.self.inside) c.self.inside.audit.items (opening_of c.args.launching) c.args.launching.packet)
+    (rights_at_launch (start_of c.self.inside) c.self.inside.audit.items (opening_of c.args.launching) c.args.launching.asked.packet)
     c.in_ok-reserve.ensures.same
-    (c.as_slice-2.ensures ∙ c.in_ok-rights.ensures ∙ ap (λ (h : History). map as_rights (rights_at_launch (beginning h) h.entries (opening_of c.args.launching) c.args.launching.packet))
+    (c.as_slice-2.ensures ∙ c.in_ok-rights.ensures ∙ ap (λ (h : History). map as_rights (rights_at_launch (beginning h) h.entries (opening_of c.args.launching) c.args.launching.asked.packet))
     (sym (seen c.self.view_is)))
-    (subst (λ h. MayHold h (opening_of c.args.launching) c.args.launching.packet) (sym (seen c.self.view_is)) c.requires.5)
+    (subst (λ h. MayHold h (opening_of c.args.launching) c.args.launching.asked.packet) (sym (seen c.self.view_is)) c.requires.5)
 
 pub place_next-requires : goal.place_next-requires
 place_next-requires c =
@@ -28,12 +28,12 @@ place_next-requires c =
     (can.opened.q, can.opened.found, can.few, can.opened.small)
 
 pub argument_block-requires : goal.argument_block-requires
-argument_block-requires c = block-placed c.args.self.now.history c.args.queue c.args.packet c.args.bytes.now c.args.launching.packet c.requires.0 c.requires.1
+argument_block-requires c = block-placed c.args.self.now.history c.args.queue c.args.packet c.args.bytes.now c.args.launching.asked.packet c.requires.0 c.requires.1
 
 pub invariant_of-self-2 : goal.invariant_of-self-2
 invariant_of-self-2 c =
     let a = c.self.inside in
-    let p = c.args.launching.packet in
+    let p = c.args.launching.asked.packet in
     let can = can-take a c.self.invariant c.args.queue (subst (λ h. TakesNext h c.args.queue) (sym (seen c.self.view_is)) c.requires.3) in
     let owing = owed-inside a c.self.invariant _ (seen c.self.view_is) _ _ _ c.requires.0 in
     let next = IsNext-from_owed (start_of a) a.audit.items c.args.queue c.args.packet c.args.bytes.now _ _ owing in

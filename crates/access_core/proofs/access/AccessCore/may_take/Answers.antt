@@ -78,15 +78,15 @@ returns-else-is_full_for_launch-clause-may c =
           (down, next, waits, judged-inside c.self.inside _ (seen c.self.view_is) c.in-Some.kept.now c.args.bytes.now None c.in-Launch.ensures.1) refl))
           ∙ (rw (room-launched _ c.args.queue c.args.packet _ _ c.in-Launch.ensures.0, ← c.is_full_for_launch.ensures, c.if-is_full_for_launch.false) refl),
       c.in-Launch.ensures.0,
-      subst (λ (h : History). lies_in_regions (region_lengths (beginning h).policy) c.in-Launch.packet ≡ true) (seen c.self.view_is)
-          (within-launched (start_of c.self.inside) c.self.inside.audit.items (cached_opening c.in-Some.kept.now) c.args.bytes.now c.in-Launch.packet c.in-Launch.ensures.0
+      subst (λ (h : History). lies_in_regions (region_lengths (beginning h).policy) c.in-Launch.asked.packet ≡ true) (seen c.self.view_is)
+          (within-launched (start_of c.self.inside) c.self.inside.audit.items (cached_opening c.in-Some.kept.now) c.args.bytes.now c.in-Launch.asked.packet c.in-Launch.ensures.0
           (judged-inside c.self.inside _ (seen c.self.view_is) c.in-Some.kept.now c.args.bytes.now None c.in-Launch.ensures.1)),
       subst (λ (h : History). TakesNext h c.args.queue) (seen c.self.view_is) (takes-next c.self.inside c.self.invariant _ _ _ some down waits),
       subst (λ (h : History). owner (beginning h) h.entries c.args.queue ≡ Some (cached_opening c.in-Some.kept.now)) (seen c.self.view_is)
           (owner-kept c.self.inside c.args.queue c.self.invariant ∙ ap (option_map cached_opening) some),
-      subst (λ (h : History). MayHold h (cached_opening c.in-Some.kept.now) c.in-Launch.packet) (seen c.self.view_is)
+      subst (λ (h : History). MayHold h (cached_opening c.in-Some.kept.now) c.in-Launch.asked.packet) (seen c.self.view_is)
           (may-hold (start_of c.self.inside) c.self.inside.audit.items (entry_of (Take c.args.queue c.args.packet c.args.bytes.now) (outcome.Taken Launched) [])
-          (cached_opening c.in-Some.kept.now) c.args.bytes.now c.in-Launch.packet c.in-Launch.ensures.0
+          (cached_opening c.in-Some.kept.now) c.args.bytes.now c.in-Launch.asked.packet c.in-Launch.ensures.0
           (judged-inside c.self.inside _ (seen c.self.view_is) c.in-Some.kept.now c.args.bytes.now None c.in-Launch.ensures.1)),
     )
 

@@ -10,30 +10,30 @@ pub returns-in_default : goal.returns-in_default
 returns-in_default c =
     let h = c.args.self.now.history in
     let launching = c.args.launching.now in
-    only-needs (beginning h) h.entries (opening_of launching) launching.packet _ (c.in_ok-rights.ensures launching.client)
-    (needs-alone (beginning h) h.entries launching.client launching.packet c.in_default.not-Kernel)
+    only-needs (beginning h) h.entries (opening_of launching) launching.asked.packet _ (c.in_ok-rights.ensures launching.client)
+    (needs-alone (beginning h) h.entries launching.client launching.asked.packet c.in_default.not-Kernel)
 
 pub returns-in_default-kernel : goal.returns-in_default-kernel
 returns-in_default-kernel c =
     let h = c.args.self.now.history in
     let launching = c.args.launching.now in
     let none : numbered (beginning h).kernels c.in-Kernel.dispatch.kernel_object.0 ≡ None = cc c.in_default-kernel.ensures in
-    only-needs (beginning h) h.entries (opening_of launching) launching.packet _ (c.in_ok-rights.ensures launching.client)
-    (no-arguments (beginning h) h.entries launching.client launching.packet c.in-Kernel.dispatch c.in-Kernel.is none)
+    only-needs (beginning h) h.entries (opening_of launching) launching.asked.packet _ (c.in_ok-rights.ensures launching.client)
+    (no-arguments (beginning h) h.entries launching.client launching.asked.packet c.in-Kernel.dispatch c.in-Kernel.is none)
 
 pub held_by_arguments-requires : goal.held_by_arguments-requires
 held_by_arguments-requires c =
     let h = c.args.self.now.history in
     let launching = c.args.launching.now in
-    grind (arith, block-long (beginning h) h.entries launching.packet c.in-Kernel.dispatch c.in-Kernel.is c.in-Some.program.now)
+    grind (arith, block-long (beginning h) h.entries launching.asked.packet c.in-Kernel.dispatch c.in-Kernel.is c.in-Some.program.now)
 
 pub returns : goal.returns
 returns c =
     let h = c.args.self.now.history in
     let launching = c.args.launching.now in
     let found : numbered (beginning h).kernels c.in-Kernel.dispatch.kernel_object.0 ≡ Some c.in-Some.program.now = cc c.in-Some.ensures in
-    both-held (beginning h) h.entries (opening_of launching) launching.packet _ _ _ (c.in_ok-rights.ensures launching.client)
+    both-held (beginning h) h.entries (opening_of launching) launching.asked.packet _ _ _ (c.in_ok-rights.ensures launching.client)
     (c.as_slice.ensures ∙ c.in_ok-pointed.ensures
-    ∙ pointed-is (beginning h) h.entries launching.packet c.in-Kernel.dispatch c.in-Kernel.is c.in-Some.program.now found (opening_of launching) _ c.facts-facts.ensures
+    ∙ pointed-is (beginning h) h.entries launching.asked.packet c.in-Kernel.dispatch c.in-Kernel.is c.in-Some.program.now found (opening_of launching) _ c.facts-facts.ensures
     _ _ c.wide_arguments.ensures.value c.requires)
     c.in_ok-append.ensures

@@ -1,8 +1,6 @@
--- The header is the low half of what is asked about.
-use Rattle.std.proofs.Common.{ℕ, ◌∙◌, ap, arith, ◌==◌}
-use Rattle.aql_packet.specs.Numbers.{number_at, bits}
+-- The header is in the first word.
+use Rattle.std.proofs.Common.{◌∙◌, arith}
 use Rattle.access_core.proofs.access.taking.header.Goals as goal
 
 pub returns : goal.returns
-unfolding number_at
-returns c = c.header_of.ensures.barrier ∙ ap (λ (n : ℕ). bits n 8 8 == 1) (omega arith)
+returns c = c.header_of.ensures.barrier ∙ c.header_in_first_word.ensures.barrier c.args.bytes.now _
