@@ -44,7 +44,7 @@ pub enum OpenFault {
     OutOfMemory,
     /// There isn't one kernel for each kernel of the policy.
     KernelCount,
-    /// The index of this kernel, the least such, is that of none of its checked kernels.
+    /// This kernel, the least such, has no index, or one that is none of its checked kernels'.
     NoEntry(KernelObject),
     /// The audit's capacity isn't 1 to 2^20 entries.
     BadCapacity,

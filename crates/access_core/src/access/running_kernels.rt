@@ -79,7 +79,7 @@ impl AccessCore {
         let view = self.view(alloc, queue, packet, client)?;
         let kernel = kernel_at(self.kernels.as_slice(), dispatch.kernel_object);
         let asked = Dispatch {
-            kernel: kernel.entry,
+            kernel: kernel.index(),
             group_size: group_size(&dispatch),
             grid_size: grid_size(&dispatch),
             group_segment_size: dispatch.group_segment_size,
