@@ -11,10 +11,10 @@ use Rattle.policy.specs.declared.fault.ReadPolicyError.{ReadPolicyError}
 use Rattle.policy.specs.declared.fault.ReadPolicyError.TheVariants as reading
 use Rattle.access_core.specs.declared.access.OpenFault.{OpenFault}
 use Rattle.access_core.specs.declared.kernel.Kernel as cores
-use Rattle.script.specs.declared.answers.Answers.{Answers}
+use Rattle.script.specs.declared.io_log.IoLog.{IoLog}
 use Rattle.script.specs.declared.fault.ScriptFault.{ScriptFault}
 use Rattle.script.specs.declared.fault.ScriptFault.TheVariants as why
-use Rattle.script.specs.Answers.{AppendsBeginning, IsCaused, NoneFailed, none_yet}
+use Rattle.script.specs.IoLogs.{AppendsBeginning, IsCaused, NoneFailed, none_yet}
 use Rattle.script.specs.Runs.{worlds}
 use Rattle.script.specs.Scripts.{RunsScript}
 use Rattle.world.specs.Starting.{Begins}
@@ -62,7 +62,7 @@ abbrev pub none_noted : Noted
 none_noted = record { asked = none_yet; faults = none_yet }
 
 -- how what was asked ended: all is done, or a failure is named
-abbrev pub TellsEnd : Result ⊤ ScriptFault → Answers → (before after : Option (List ℕ)) → Status → Type 0
+abbrev pub TellsEnd : Result ⊤ ScriptFault → IoLog → (before after : Option (List ℕ)) → Status → Type 0
 TellsEnd (Ok done) faults before after status = (after ≡ before) × (status ≡ Done)
 TellsEnd (Err fault) faults before after status = NamesFailure (failure_of_script fault) faults before after status
 
@@ -87,7 +87,7 @@ text_of_counts policy =
 
 -- how the writing of a text ended: it is written and nothing else; or memory was wanted for it, and nothing is written; or the writer
 -- failed behind a beginning of it
-abbrev pub WritesText : List ℕ → Result ⊤ ScriptFault → Answers → (before after : Option (List ℕ)) → Type 0
+abbrev pub WritesText : List ℕ → Result ⊤ ScriptFault → IoLog → (before after : Option (List ℕ)) → Type 0
 WritesText text (Ok done) answers before after = Appends before after text × (answers.write_failed ≡ false)
 WritesText text (Err why.OutOfMemory) answers before after = after ≡ before
 WritesText text (Err why.Write) answers before after = AppendsBeginning before after text × (answers.write_failed ≡ true)
@@ -135,7 +135,7 @@ StopsBefore failure noted before after status =
     (after.script ≡ before.script) × (after.replies ≡ before.replies) × NamesFailure failure noted.faults before.faults after.faults status
 
 -- what is told of the reader and the writer of a script is so: a fault has its cause, and where all was done neither failed
-abbrev pub IsTold : Result ⊤ ScriptFault → Answers → Type 0
+abbrev pub IsTold : Result ⊤ ScriptFault → IoLog → Type 0
 IsTold ended asked = IfErr ended (IsCaused asked) × OnOk ended (NoneFailed asked)
 
 -- a script runs over a world that is newly open, with these further policies

@@ -4,9 +4,9 @@ use Rattle.policy.specs.Policy.{Declared}
 use Rattle.access_core.specs.declared.access.OpenFault.{OpenFault}
 use Rattle.access_core.specs.declared.kernel.Kernel.{Kernel}
 use Rattle.picture.specs.Pages.{text_of_page}
-use Rattle.script.specs.declared.answers.Answers.{Answers}
+use Rattle.script.specs.declared.io_log.IoLog.{IoLog}
 use Rattle.script.specs.declared.fault.ScriptFault.{ScriptFault}
-use Rattle.script.specs.Answers.{IsCaused}
+use Rattle.script.specs.IoLogs.{IsCaused}
 use Rattle.world.specs.Starting.{Begins}
 use Rattle.world.specs.States.{Joined}
 use Rattle.commands.specs.declared.check.Setup.{Setup}
@@ -22,12 +22,12 @@ page_of world = text_of_page world.core.origin.policy world.core.entries
 
 -- what comes of a script that was run, and left a world: where all its lines were done, the page is written; else nothing is, and what
 -- ended the run ends the command. `page` and `drawn` are the bytes of the page's writer before and after
-abbrev pub DrawsEnd : Joined → Result ⊤ ScriptFault → Answers → (page drawn : Option (List ℕ)) → Result ⊤ ScriptFault → Type 0
+abbrev pub DrawsEnd : Joined → Result ⊤ ScriptFault → IoLog → (page drawn : Option (List ℕ)) → Result ⊤ ScriptFault → Type 0
 DrawsEnd world (Ok done) asked page drawn ended = WritesText (page_of world) ended asked page drawn
 DrawsEnd world (Err fault) asked page drawn ended = (drawn ≡ page) × (ended ≡ Err fault) × IsCaused asked fault
 
 -- a script runs over a world, once, its replies are kept by nobody, and what the audit tells then is drawn
-abbrev pub DrawsFrom : Joined → Answers → (script left page drawn : Option (List ℕ)) → Result ⊤ ScriptFault → Type 0
+abbrev pub DrawsFrom : Joined → IoLog → (script left page drawn : Option (List ℕ)) → Result ⊤ ScriptFault → Type 0
 DrawsFrom old asked script left page drawn ended =
     (new : Joined) × (ran : Result ⊤ ScriptFault) × RunsOver [] old new script left None None ran × DrawsEnd new ran asked page drawn ended
 

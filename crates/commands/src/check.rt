@@ -10,7 +10,7 @@ use crate::noted::Noted;
 use crate::status::Status;
 use access_core::Kernel;
 use policy::{Kind, Policy, Version, read_policy};
-use script::{Answers, ScriptFault, flush_once, write_through};
+use script::{IoLog, ScriptFault, flush_once, write_through};
 use std::alloc::{AllocError, Global};
 use std::io;
 
@@ -58,7 +58,7 @@ fn text_of_counts(alloc: Global, policy: &Policy) -> Result<String, AllocError>
 pub(crate) fn pass_on<W: io::Write>(
     text: &str,
     out: &mut W,
-    answers: &mut Answers,
+    answers: &mut IoLog,
 ) -> Result<(), ScriptFault>
     requires { answers.old.write_failed ≡ false }
     ensures { WritesText text.now result answers.new (W.contents out.old) (W.contents out.new) }
@@ -74,7 +74,7 @@ fn write_counts<W: io::Write>(
     alloc: Global,
     policy: &Policy,
     out: &mut W,
-    answers: &mut Answers,
+    answers: &mut IoLog,
 ) -> Result<(), ScriptFault>
     requires { answers.old.write_failed ≡ false }
     ensures { WritesText (text_of_counts policy.now) result answers.new (W.contents out.old) (W.contents out.new) }

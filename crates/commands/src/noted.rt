@@ -3,15 +3,15 @@
 ghost use Rattle.std.specs.Prelude.{◌≡◌};
 ghost use Rattle.commands.specs.Commands.{none_noted};
 
-use script::Answers;
+use script::IoLog;
 
 /// What the reader and the writers of a command answered so far.
 #[derive(Drop)]
 pub struct Noted {
     /// What the script's reader answered, and the writer of its replies, or of a policy's counts.
-    pub asked: Answers,
+    pub asked: IoLog,
     /// What the writer of faults answered.
-    pub faults: Answers,
+    pub faults: IoLog,
 }
 
 impl Noted {
@@ -20,8 +20,8 @@ impl Noted {
         ensures { result ≡ none_noted }
     {
         Noted {
-            asked: Answers::none(),
-            faults: Answers::none(),
+            asked: IoLog::none(),
+            faults: IoLog::none(),
         }
     }
 }

@@ -3,7 +3,7 @@
 ghost use Rattle.std.specs.Prelude.{◌≡◌, []};
 ghost use Rattle.commands.specs.Commands.{IsTold, RunsBehind, RunsOver, RunsFrom, RunsUnder, RunsPolicies, none_noted, streams};
 ghost use Rattle.commands.specs.declared.noted.Noted.{Noted};
-ghost use Rattle.script.specs.Answers.{none_yet};
+ghost use Rattle.script.specs.IoLogs.{none_yet};
 ghost use Rattle.world.specs.Starting.{Begins};
 
 use crate::check::{Setup, judge};
@@ -13,7 +13,7 @@ use crate::noted::Noted;
 use crate::status::Status;
 use access_core::{Kernel, OpenFault};
 use policy::Policy;
-use script::{Answers, ScriptFault, run_noting};
+use script::{IoLog, ScriptFault, run_noting};
 use std::alloc::Global;
 use std::io;
 use world::World;
@@ -41,7 +41,7 @@ pub(crate) fn run_through<R: io::Read, O: io::Write>(
     later: &[Policy],
     script: &mut R,
     out: &mut O,
-    answers: &mut Answers,
+    answers: &mut IoLog,
 ) -> Result<(), ScriptFault>
     requires { answers.old ≡ none_yet }
     ensures outcome { RunsOver later.now world.old world.new (R.remaining script.old) (R.remaining script.new) (O.contents out.old) (O.contents out.new) result }
@@ -57,7 +57,7 @@ fn run_in<R: io::Read, O: io::Write>(
     later: &[Policy],
     script: &mut R,
     out: &mut O,
-    answers: &mut Answers,
+    answers: &mut IoLog,
 ) -> Result<(), ScriptFault>
     requires { answers.old ≡ none_yet }
     ensures outcome { RunsFrom later.now world (R.remaining script.old) (R.remaining script.new) (O.contents out.old) (O.contents out.new) result }
