@@ -2,11 +2,11 @@
 
 ghost use Rattle.std.specs.Prelude.{◌≡◌, ◌++◌, IfOk, OnOk, string_bytes, false};
 ghost use Rattle.commands.specs.Commands.{JudgesPolicy, PassesPolicy, none_noted, text_of_count, text_of_counts, text_of_denies, WritesText, TellsCounts, ChecksPolicy};
-ghost use Rattle.commands.specs.declared.noted.Noted.{Noted};
+ghost use Rattle.commands.specs.declared.command_log.CommandLog.{CommandLog};
 
+use crate::command_log::CommandLog;
 use crate::failure::{Failure, name_failure, tell_end};
 use crate::kernels::check_kernels;
-use crate::noted::Noted;
 use crate::status::Status;
 use access_core::Kernel;
 use policy::{Kind, Policy, Version, read_policy};
@@ -98,7 +98,7 @@ fn count_rows<O: io::Write, E: io::Write>(
     policy: &Policy,
     out: &mut O,
     err: &mut E,
-    noted: &mut Noted,
+    noted: &mut CommandLog,
 ) -> Status
     requires { noted.old ≡ none_noted }
     ensures { TellsCounts policy.now noted.new (O.contents out.old) (O.contents out.new) (E.contents err.old) (E.contents err.new) result }
@@ -134,7 +134,7 @@ pub fn check_policy_noting<O: io::Write, E: io::Write>(
     text: &[u8],
     out: &mut O,
     err: &mut E,
-    noted: &mut Noted,
+    noted: &mut CommandLog,
 ) -> Status
     requires { noted.old ≡ none_noted }
     ensures { ChecksPolicy text.now noted.new (O.contents out.old) (O.contents out.new) (E.contents err.old) (E.contents err.new) result }
@@ -154,8 +154,8 @@ pub fn check_policy<O: io::Write, E: io::Write>(
     out: &mut O,
     err: &mut E,
 ) -> Status
-    ensures { (noted : Noted) × ChecksPolicy text.now noted (O.contents out.old) (O.contents out.new) (E.contents err.old) (E.contents err.new) result }
+    ensures { (noted : CommandLog) × ChecksPolicy text.now noted (O.contents out.old) (O.contents out.new) (E.contents err.old) (E.contents err.new) result }
 {
-    let mut noted = Noted::none();
+    let mut noted = CommandLog::none();
     check_policy_noting(alloc, text, out, err, &mut noted)
 }
