@@ -137,7 +137,7 @@ impl World {
         match Reserved::with_room(alloc, requests.len()) {
             Ok(replies) => Ok(self.serve_each(alloc, requests, replies)),
             Err(want) => {
-                self.is_joined();
+                self.law_is_joined();
                 Err(want)
             }
         }
@@ -159,12 +159,12 @@ impl World {
             let reply = self.serve(alloc, request);
             replies.push(reply);
         }
-        self.is_joined();
+        self.law_is_joined();
         replies
     }
 
     // Does nothing: what the type keeps is said to callers by it.
-    fn is_joined(&self)
+    fn law_is_joined(&self)
         ensures { IsJoined self.now }
     {
         let _ = &self.rings;
