@@ -13,8 +13,8 @@ use Rattle.script.specs.declared.fault.ScriptFault.{ScriptFault}
 use Rattle.script.specs.declared.fault.ScriptFault.TheVariants as script
 use Rattle.commands.specs.declared.failure.Failure.{Failure}
 use Rattle.commands.specs.declared.failure.Failure.TheVariants.{OutOfMemory, Policy, Kernel, KernelCount, NoEntry, Capacity, Line, Read, Write}
-use Rattle.commands.specs.declared.kernels.KernelError.{KernelError}
-use Rattle.commands.specs.declared.kernels.KernelError.TheVariants as kernels
+use Rattle.commands.specs.declared.kernel_judging.KernelError.{KernelError}
+use Rattle.commands.specs.declared.kernel_judging.KernelError.TheVariants as kernels
 use Rattle.commands.specs.declared.status.Status.{Status}
 use Rattle.commands.specs.declared.status.Status.TheVariants.{Refused, Failed}
 use Rattle.commands.specs.KernelTexts.{text_of_kernel_fault}

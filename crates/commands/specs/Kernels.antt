@@ -11,11 +11,11 @@ use Rattle.kernel_check.specs.Checks.{checking}
 use Rattle.kernel_check.specs.Programs.{Program}
 use Rattle.policy.specs.Names.{Name}
 use Rattle.policy.specs.Policy.{Source, row_of}
-use Rattle.commands.specs.declared.kernels.KernelCause.{KernelCause}
-use Rattle.commands.specs.declared.kernels.KernelCause.TheVariants.{Read, Check}
-use Rattle.commands.specs.declared.kernels.KernelError.{KernelError}
-use Rattle.commands.specs.declared.kernels.KernelError.TheVariants as error
-use Rattle.commands.specs.declared.kernels.KernelFault.{KernelFault}
+use Rattle.commands.specs.declared.kernel_judging.KernelCause.{KernelCause}
+use Rattle.commands.specs.declared.kernel_judging.KernelCause.TheVariants.{Read, Check}
+use Rattle.commands.specs.declared.kernel_judging.KernelError.{KernelError}
+use Rattle.commands.specs.declared.kernel_judging.KernelError.TheVariants as error
+use Rattle.commands.specs.declared.kernel_judging.KernelFault.{KernelFault}
 
 -- the checked kernels of a module, or what is wrong with it
 abbrev pub checked_or_cause : Result (List Program) CheckFault → Result (List Program) KernelCause

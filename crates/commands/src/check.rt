@@ -6,7 +6,7 @@ ghost use Rattle.commands.specs.declared.command_log.CommandLog.{CommandLog};
 
 use crate::command_log::CommandLog;
 use crate::failure::{Failure, name_failure, tell_end};
-use crate::kernels::check_kernels;
+use crate::kernel_judging::check_kernels;
 use crate::status::Status;
 use access_core::Kernel;
 use policy::{Kind, Policy, Version, read_policy};

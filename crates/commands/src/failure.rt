@@ -4,7 +4,7 @@ ghost use Rattle.std.specs.Prelude.{◌≡◌, IfOk, IfSome, None, string_bytes,
 ghost use Rattle.commands.specs.Commands.{TellsEnd};
 ghost use Rattle.commands.specs.Failures.{status_of, has_number, line_of_failure, NamesFailure, TellsLine, failure_of_reading, failure_of_kernels, failure_of_opening, failure_of_script};
 
-use crate::kernels::{KernelError, KernelFault};
+use crate::kernel_judging::{KernelError, KernelFault};
 use crate::status::Status;
 use access_core::OpenFault;
 use aql_packet::KernelObject;

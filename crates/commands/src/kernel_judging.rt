@@ -68,7 +68,7 @@ pub enum KernelError {
 
 impl From<AllocError> for KernelError {
     ghost use Rattle.std.specs.Prelude.{◌≡◌};
-    ghost use Rattle.commands.specs.declared.kernels.KernelError.TheVariants as error;
+    ghost use Rattle.commands.specs.declared.kernel_judging.KernelError.TheVariants as error;
 
     ghost from_gives = { λ _ why. why ≡ error.OutOfMemory };
 
