@@ -275,7 +275,7 @@ fn blank(
         memory,
         signals,
         queues: Vec::new(alloc),
-        flying: 0,
+        in_flight_count: 0,
         capacity,
         audit,
     }
