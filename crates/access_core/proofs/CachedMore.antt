@@ -38,7 +38,7 @@ pub record QueuesAfter (a : Inside) (new : List Queue) (count : ℕ) (event : Ev
   pub queues : (queue : QueueId) → cached_view (numbered new queue.0) ≡ queue_at (start_of a) (with_entry a.audit.items event outcome effects) queue
   pub sound : All IsSound new
   pub few_queues : length new ≤ QUEUES
-  pub flying : count ≡ length (flight (start_of a) (with_entry a.audit.items event outcome effects))
+  pub in_flight_count : count ≡ length (flight (start_of a) (with_entry a.audit.items event outcome effects))
   pub within : (f : InFlight) → launched_by event outcome ≡ Some f → lies_in_regions (region_lengths a.start.policy) f.packet ≡ true
 
 -- The audit has one entry more, and the other fields follow.
@@ -48,7 +48,7 @@ pub record FieldsAfter (a b : Inside) (event : Event) (outcome : Outcome) (effec
   pub grants : GrantsAfter a b.grants b.blocks.items event outcome effects
   pub memory : MemoryAfter a.memory b.memory effects
   pub values : b.signals ≡ fold signals_after a.signals effects
-  pub queues : QueuesAfter a b.queues.items b.flying event outcome effects
+  pub queues : QueuesAfter a b.queues.items b.in_flight_count event outcome effects
 
 -- what is due to an event after a history is due by the fields that show it
 due-inside : (a : Inside) (old : History) (event : Event) (owing : Owed) → history_of a ≡ old → due old event ≡ owing → due (history_of a) event ≡ owing
@@ -100,11 +100,11 @@ module _ (a b : Inside) (event : Event) (outcome : Outcome) (effects : List Effe
         queues = λ queue. rw (after.same.0.0, after.same.0.1, after.audit.items) (after.queues.queues queue);
         sound = after.queues.sound;
         few_queues = after.queues.few_queues;
-        flying = rw (after.same.0.0, after.same.0.1, after.audit.items) after.queues.flying;
+        in_flight_count = rw (after.same.0.0, after.same.0.1, after.audit.items) after.queues.in_flight_count;
         within = rw (after.same.0.0, after.same.0.1, after.audit.items, flight-more)
             (all-after (λ f. lies_in_regions (region_lengths a.start.policy) f.packet ≡ true) (entry_of event outcome effects)
             (flight (start_of a) a.audit.items) after.queues.within was.within);
-        room = omega (arith, longer, room, after.queues.flying, after.same.1);
+        room = omega (arith, longer, room, after.queues.in_flight_count, after.same.1);
         places = omega (arith, longer, after.audit.room, after.same.1, was.places);
         few = omega (arith, after.same.1, was.few);
         before = rw after.same.0.0 was.before;
@@ -123,12 +123,12 @@ pub memory-still : (memory : List (List ℕ)) (effects : List Effect) → ((x by
 memory-still memory effects none = record { lengths = refl; memory = λ x byte before. before ∙ ap Some (sym (none x byte)) }
 
 module _ (a : Inside) (was : IsCached a) (event : Event) (outcome : Outcome) (effects : List Effect) (quiet : IsQuiet event outcome effects) where
-  pub queues-still : opening_of event ≡ None → QueuesAfter a a.queues.items a.flying event outcome effects
+  pub queues-still : opening_of event ≡ None → QueuesAfter a a.queues.items a.in_flight_count event outcome effects
   queues-still none = record {
     openings = sym (ap (with_some (map cached_opening a.queues.items)) none);
     queues = λ m. was.queues m ∙ sym (queue_at-quiet (start_of a) a.audit.items event outcome effects quiet m);
     sound = was.sound;
     few_queues = was.few_queues;
-    flying = was.flying ∙ ap length (sym (flight-quiet (start_of a) a.audit.items event outcome effects quiet));
+    in_flight_count = was.in_flight_count ∙ ap length (sym (flight-quiet (start_of a) a.audit.items event outcome effects quiet));
     within = none-launched _ _ quiet.launches (start_of a);
   }

@@ -6,8 +6,8 @@ use Rattle.access_core.proofs.Terms.{IsInPlace}
 use Rattle.access_core.proofs.Terms.{IsLegal, IsNumber, IsRunnable, Kernel, KernelDispatch, LentRegion, PacketId, Place, Program, QueueId, WrittenRange, are_region_lengths, block_of}
 use Rattle.access_core.proofs.Terms.{granted-now, get_or_from_slice_get, given_at_launch, grid_size, group_bytes_of, group_count, group_input, group_result}
 use Rattle.access_core.proofs.Terms.{group_size}
-use Rattle.access_core.proofs.Terms.{has_entry, history_of, input_of, is_packet, is_within, kernel_of, lent_region, ltb-true, no_kernel, numbered, numbered-map, own_rights}
-use Rattle.access_core.proofs.Terms.{program_of}
+use Rattle.access_core.proofs.Terms.{has_entry, history_of, input_of, is_index, is_packet, is_within, kernel_of, lent_region, ltb-true, no_kernel, numbered, numbered-map, own_rights}
+use Rattle.access_core.proofs.Terms.{program_in, program_of}
 use Rattle.access_core.proofs.Terms.{region_lengths, slice_get-get_or, slice_get_within, unwrap_or, view_whole, wrote}
 use Rattle.aql_packet.specs.declared.packet.Packet.TheVariants as packet
 use Rattle.executor.specs.declared.fault.RunFault.{RunFault}
@@ -21,9 +21,9 @@ use Rattle.access_core.proofs.KernelLemmas.{views-alike}
 numbered-all : {X : Type 0} (P : X → Type 0) (xs : List X) (n : ℕ) (x : X) → All P xs → numbered xs n ≡ Some x → P x
 numbered-all P xs n x all found = grind (arith, get_or_from_slice_get, slice_get_within)
 
--- the program at a kernel's index
-abbrev pub program_at : Kernel → Program
-program_at k = get_or k.checked k.entry no_kernel
+-- the checked kernel at an index
+abbrev pub program_at : Kernel → ℕ → Program
+program_at k index = get_or k.checked index no_kernel
 
 -- what a group comes to depends on the bytes of regions with READ alone
 abbrev pub ReadsWhereItMay : Type 0
@@ -66,15 +66,18 @@ module _ (a : Inside) (kept : IsCached a) (old : History) (seen_as : history_of 
     pub entry-there : has_entry k ≡ true
     entry-there = numbered-all (λ kernel. has_entry kernel ≡ true) a.kernels.items d.kernel_object.0 k kept.entries at
 
-    pub entry-below : k.entry < length k.checked
-    entry-below = ltb-true _ _ entry-there
+    module _ (index : ℕ) (index_is : k.entry ≡ Some index) where
+      pub index-below : index < length k.checked
+      index-below = ltb-true _ _ (subst (λ o. is_index k.checked o ≡ true) index_is entry-there)
 
-    -- and so is its program
-    pub program-there : slice_get k.checked k.entry ≡ Some (program_at k)
-    program-there = slice_get-get_or k.checked k.entry no_kernel entry-below
+      -- and so is its program
+      pub program-there : slice_get k.checked index ≡ Some (program_at k index)
+      program-there = slice_get-get_or k.checked index no_kernel index-below
 
-    pub program-is : (p : Program) → slice_get k.checked k.entry ≡ Some p → p ≡ kernel_of (beginning old) d
-    program-is p here = sym (ap (λ o. unwrap_or o no_kernel) (kernels-are d.kernel_object.0 ∙ ap (option_map program_of) at) ∙ ap (λ o. unwrap_or o no_kernel) here)
+      pub program-is : (p : Program) → slice_get k.checked index ≡ Some p → p ≡ kernel_of (beginning old) d
+      program-is p here =
+          sym (ap (λ o. unwrap_or o no_kernel) (kernels-are d.kernel_object.0 ∙ ap (option_map program_of) at)
+          ∙ ap (program_in k.checked) index_is ∙ ap (λ o. unwrap_or o no_kernel) here)
 
   -- its argument block is as it was at its launch
   pub block-is : block_of a.blocks.items queue id ≡ arguments (beginning old) old.entries queue id

@@ -29,7 +29,7 @@ legal-opened policy kernels = whole-legal (opening_state policy kernels) [] (rec
 
 -- what is kept where nothing has happened is what the empty audit says
 pub IsCached-opened : (a : Inside) (policy : Declared) → IsOpeningOrigin policy a.start → IsNew a.grants → rules_in a.grants ≡ rules_of policy → a.memory ≡ zeros (region_lengths policy)
-    → a.signals ≡ initial_values policy → a.blocks.items ≡ [] → a.queues.items ≡ [] → a.flying ≡ 0 → a.audit.items ≡ [] → a.audit.room ≡ a.capacity → a.capacity ≤ MOST_ENTRIES
+    → a.signals ≡ initial_values policy → a.blocks.items ≡ [] → a.queues.items ≡ [] → a.in_flight_count ≡ 0 → a.audit.items ≡ [] → a.audit.room ≡ a.capacity → a.capacity ≤ MOST_ENTRIES
     → All (λ kernel. has_entry kernel ≡ true) a.kernels.items → a.segments.items ≡ map segments_of (map program_of a.kernels.items) → IsCached a
 unfolding rows_at in_force memory_at effects_of signals openings next_id errors is_stopped flight held arguments
 IsCached-opened a policy opened fresh ruled memory values blocks queues flying entries places few kernels segments =
@@ -52,7 +52,7 @@ IsCached-opened a policy opened fresh ruled memory values blocks queues flying e
       queues = λ queue. empty (λ now es. cached_view (numbered a.queues.items queue.0) ≡ queue_at now es queue) (rw (queues, numbered-none queue.0) refl);
       sound = rw queues (All-nil IsSound);
       few_queues = rw queues (omega arith);
-      flying = empty (λ now es. a.flying ≡ length (flight now es)) flying;
+      in_flight_count = empty (λ now es. a.in_flight_count ≡ length (flight now es)) flying;
       within = empty (λ now es. All (λ f. lies_in_regions (region_lengths a.start.policy) f.packet ≡ true) (flight now es)) (All-nil _);
       room = rw entries (omega (arith, flying));
       places = let none : length a.audit.items ≡ 0 = ap length entries in omega (arith, none, places);

@@ -10,7 +10,7 @@ use Rattle.core_model.specs.declared.refusal.Refusal.TheVariants as refusal
 use Rattle.access_core.proofs.Terms.{Call, Event, History, Inside, IsCached, Outcome, Owed, PacketId, QueueId, Refusal, Stop, answers, due, enters, history_of, owed, refuses}
 
 pub roomy : (a : Inside) → IsCached a → HasRoom (history_of a)
-roomy a kept = let flying = kept.flying in omega (arith, flying, kept.room)
+roomy a kept = let flying = kept.in_flight_count in omega (arith, flying, kept.room)
 
 pub roomy-seen : (a : Inside) → IsCached a → (old : History) → history_of a ≡ old → HasRoom old
 roomy-seen a kept old seen_as = subst HasRoom seen_as (roomy a kept)

@@ -74,7 +74,7 @@ module _ (a : Inside) (kept : IsCached a) where
         queues = λ queue. here (λ now es. cached_view (numbered a.queues.items queue.0) ≡ queue_at now es queue) (kept.queues queue);
         sound = kept.sound;
         few_queues = kept.few_queues;
-        flying = here (λ now es. a.flying ≡ length (flight now es)) kept.flying;
+        in_flight_count = here (λ now es. a.in_flight_count ≡ length (flight now es)) kept.in_flight_count;
         within = here (λ now es. All (λ (f : InFlight). lies_in_regions (region_lengths next.policy) f.packet ≡ true) (flight now es))
             (subst (λ ls. All (λ (f : InFlight). lies_in_regions ls f.packet ≡ true) (flight (start_of a) a.audit.items)) (sym lengths) kept.within);
         room = let before = kept.room in omega (arith, none, before);

@@ -81,18 +81,18 @@ module _ (a : Inside) (kept : IsCached a) (queue : QueueId) where
     freed-none : freed_by None a.queues.items queue ≡ 0
     freed-none = let freed-now = freed-at None a.queues.items queue at.q at.found in omega (arith, freed-now)
 
-    pub freed-stopped : (barrier : Option PacketId) → freed_by barrier a.queues.items queue ≤ a.flying
+    pub freed-stopped : (barrier : Option PacketId) → freed_by barrier a.queues.items queue ≤ a.in_flight_count
     freed-stopped barrier = grind (arith, freed-below)
 
     -- how the queues move along
-    pub queues-stopped : (barrier : Option PacketId) → QueuesAfter a (with_queue a.queues.items queue (with_leaving barrier leaving.Stopped)) (a.flying - freed_by barrier a.queues.items queue)
+    pub queues-stopped : (barrier : Option PacketId) → QueuesAfter a (with_queue a.queues.items queue (with_leaving barrier leaving.Stopped)) (a.in_flight_count - freed_by barrier a.queues.items queue)
         (Call (Stop queue)) outcome.Accepted (release_of queue barrier)
     queues-stopped None =
         let same = flight-unlaunched (start_of a) a.audit.items (Call (Stop queue)) outcome.Accepted [] refl in
         let count = ap length same in
         queues-after a kept queue at (with_leaving None leaving.Stopped) (stopped None) _ _ _ _ refl refl (record { room = at.sound.room; free = at.sound.free; below = at.sound.below }) refl
         (λ m. queue_at-more (start_of a) a.audit.items (Call (Stop queue)) outcome.Accepted [] m _ same ∙ pick (queue.0 == m.0) (queue_at (start_of a) a.audit.items m))
-        (omega (arith, count, freed-none, kept.flying)) (none-launched (Call (Stop queue)) outcome.Accepted refl (start_of a))
+        (omega (arith, count, freed-none, kept.in_flight_count)) (none-launched (Call (Stop queue)) outcome.Accepted refl (start_of a))
       where
         pick : (b : Bool) (v : QueueView) → record v { stopped = (if b then true else v.stopped) } ≡ (if b then stopped None v else v)
         pick b v = grind arith

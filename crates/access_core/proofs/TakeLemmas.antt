@@ -215,7 +215,7 @@ queues-after a kept queue at change view count event told effects none same soun
   queues = queues-changed a.queues.items queue change at.q at.found view (start_of a) a.audit.items (with_entry a.audit.items event told effects) alike kept.queues now;
   sound = sound-changed a.queues.items queue change at.q at.found sound kept.sound;
   few_queues = omega (arith, length-changed a.queues.items queue change at.q at.found, kept.few_queues);
-  flying = flying;
+  in_flight_count = flying;
   within = within;
 }
 
@@ -234,13 +234,13 @@ module _ (a : Inside) (kept : IsCached a) (queue : QueueId) (id : PacketId) (byt
   flight-denied rule = flight-unlaunched (start_of a) a.audit.items (Take queue id bytes) (outcome.Taken (Denied (error_without_place queue id.0 rule))) [] refl
 
   -- it is denied
-  pub queues-denied : (rule : Rule) → QueuesAfter a (with_queue a.queues.items queue (with_denied (error_without_place queue id.0 rule))) a.flying (Take queue id bytes)
+  pub queues-denied : (rule : Rule) → QueuesAfter a (with_queue a.queues.items queue (with_denied (error_without_place queue id.0 rule))) a.in_flight_count (Take queue id bytes)
       (outcome.Taken (Denied (error_without_place queue id.0 rule))) []
   queues-denied rule = grind (
     arith,
     queues-after a kept queue can.opened (with_denied (error_without_place queue id.0 rule))
-        (denied (error_without_place queue id.0 rule)) a.flying _ _ _ refl refl (sound-denied (error_without_place queue id.0 rule)) refl
-        (λ m. queue_at-denied (start_of a) a.audit.items queue id bytes rule m) (kept.flying ∙ ap length (sym (flight-denied rule)))
+        (denied (error_without_place queue id.0 rule)) a.in_flight_count _ _ _ refl refl (sound-denied (error_without_place queue id.0 rule)) refl
+        (λ m. queue_at-denied (start_of a) a.audit.items queue id bytes rule m) (kept.in_flight_count ∙ ap length (sym (flight-denied rule)))
         (none-launched (Take queue id bytes) (outcome.Taken (Denied (error_without_place queue id.0 rule))) refl (start_of a)),
   )
 
@@ -266,7 +266,7 @@ module _ (a : Inside) (kept : IsCached a) (queue : QueueId) (id : PacketId) (byt
               (omega (arith, next-is));
         }
 
-    pub flying-launched : a.flying + 1 ≡ length (flight (start_of a) (with_entry a.audit.items (Take queue id bytes) (outcome.Taken Launched) []))
+    pub flying-launched : a.in_flight_count + 1 ≡ length (flight (start_of a) (with_entry a.audit.items (Take queue id bytes) (outcome.Taken Launched) []))
     flying-launched = grind (
       arith,
       length-append (flight (start_of a) a.audit.items) (record { queue = queue; id = id; packet = p } ∷ []),
@@ -274,9 +274,9 @@ module _ (a : Inside) (kept : IsCached a) (queue : QueueId) (id : PacketId) (byt
     )
 
     pub queues-launched : lies_in_regions (region_lengths a.start.policy) p ≡ true
-        → QueuesAfter a (with_queue a.queues.items queue (with_launched id p)) (a.flying + 1) (Take queue id bytes) (outcome.Taken Launched) []
+        → QueuesAfter a (with_queue a.queues.items queue (with_launched id p)) (a.in_flight_count + 1) (Take queue id bytes) (outcome.Taken Launched) []
     queues-launched within =
-        queues-after a kept queue can.opened (with_launched id p) (launched id p) (a.flying + 1) _ _ _ refl refl sound-launched refl
+        queues-after a kept queue can.opened (with_launched id p) (launched id p) (a.in_flight_count + 1) _ _ _ refl refl sound-launched refl
         (λ m. queue_at-launched (start_of a) a.audit.items queue id bytes p reads below-id m) flying-launched packet-within
       where
         packet-within : (f : InFlight) → launched_by (Take queue id bytes) (outcome.Taken Launched) ≡ Some f → lies_in_regions (region_lengths a.start.policy) f.packet ≡ true

@@ -1,6 +1,6 @@
 -- The names that most proofs cite, passed on from one place. Declares nothing.
 pub use Rattle.access_core.specs.Cores.{Core, places_of}
-pub use Rattle.access_core.specs.Opening.{IsNumber, first_missing, has_entry, is_capacity, open_fault, program_of}
+pub use Rattle.access_core.specs.Opening.{IsNumber, first_missing, has_entry, is_capacity, is_index, open_fault, program_in, program_of}
 pub use Rattle.access_core.specs.declared.access.AccessCore.TheInside.{Inside}
 pub use Rattle.access_core.specs.declared.argument_blocks.ArgumentBlock.{ArgumentBlock}
 pub use Rattle.access_core.specs.declared.kernel.Kernel.{Kernel}

@@ -85,10 +85,10 @@ module _ (a : Inside) (kept : IsCached a) (queue : QueueId) (id : PacketId) wher
       omega (arith, freed-now, one, two, count, less)
 
   -- as many are in flight after a release as are left
-  pub flying-released : IsOpen a queue → a.flying - freed_by (Some id) a.queues.items queue ≡ length others
+  pub flying-released : IsOpen a queue → a.in_flight_count - freed_by (Some id) a.queues.items queue ≡ length others
   flying-released at = grind (arith, released-count id.0 queue.0 flying, freed-is)
 
-  pub freed-below : IsOpen a queue → freed_by (Some id) a.queues.items queue ≤ a.flying
+  pub freed-below : IsOpen a queue → freed_by (Some id) a.queues.items queue ≤ a.in_flight_count
   freed-below at = grind (arith, freed-is, filter-not_more)
 
   -- a packet that leaves flight leaves room for an entry
@@ -100,7 +100,7 @@ module _ (a : Inside) (kept : IsCached a) (queue : QueueId) (id : PacketId) wher
       → (at : IsOpen a queue) (change : Queue → Queue) (view : QueueView → QueueView)
       → cached_opening (change at.q) ≡ cached_opening at.q → IsSound (change at.q) → cached_view (Some (change at.q)) ≡ view (cached_view (Some at.q))
       → ((m : QueueId) (v : QueueView) → after_entry m event told v (if queue.0 == m.0 then without_packet id v.places else v.places) ≡ (if queue.0 == m.0 then view v else v))
-      → QueuesAfter a (with_queue a.queues.items queue change) (a.flying - freed_by (Some id) a.queues.items queue) event told effects
+      → QueuesAfter a (with_queue a.queues.items queue change) (a.in_flight_count - freed_by (Some id) a.queues.items queue) event told effects
   queues-released event told effects is none at change view same sound alike pick =
       queues-after a kept queue at change view _ event told effects none same sound alike
       (λ m. queue_at-released (start_of a) a.audit.items event told effects queue id is m ∙ pick m (queue_at (start_of a) a.audit.items m))
@@ -187,11 +187,11 @@ sound-advanced q id so_far sound =
 pub queues-advanced : (a : Inside) (kept : IsCached a) (queue : QueueId) (at : IsOpen a queue) (id : PacketId) (g : Progress → Progress) (event : Event) (told : Outcome)
     (effects : List Effect) → IsAdvance queue id g event told effects → opening_of event ≡ None
     → (so_far : Progress) → so_far ≡ g (progress (start_of a) a.audit.items queue id)
-    → QueuesAfter a (with_queue a.queues.items queue (with_advance id so_far)) a.flying event told effects
+    → QueuesAfter a (with_queue a.queues.items queue (with_advance id so_far)) a.in_flight_count event told effects
 queues-advanced a kept queue at id g event told effects is none so_far new =
-    queues-after a kept queue at (with_advance id so_far) (advanced id so_far) a.flying event told effects none refl (sound-advanced at.q id so_far at.sound) refl
+    queues-after a kept queue at (with_advance id so_far) (advanced id so_far) a.in_flight_count event told effects none refl (sound-advanced at.q id so_far at.sound) refl
     (λ m. queue_at-advanced (start_of a) a.audit.items event told effects queue id g is so_far new m)
-    (kept.flying ∙ ap length (sym (flight-advanced (start_of a) a.audit.items event told effects queue id g is))) (none-launched _ _ is.launches (start_of a))
+    (kept.in_flight_count ∙ ap length (sym (flight-advanced (start_of a) a.audit.items event told effects queue id g is))) (none-launched _ _ is.launches (start_of a))
 
 -- ---- a packet leaves flight, for which its own entry always finds room
 

@@ -1,5 +1,5 @@
 -- When a core is opened.
-use Rattle.std.specs.Prelude.{ℕ, ◌+◌, ◌==◌, ◌≡◌, ◌&&◌, Bool, not, nat_le, nat_lt, List, length, map, position, slice_get, Option, Some, None, Result, Ok, Err, if◌then◌else◌}
+use Rattle.std.specs.Prelude.{ℕ, ◌+◌, ◌==◌, ◌≡◌, ◌&&◌, Bool, false, not, nat_le, nat_lt, List, length, map, position, slice_get, Option, Some, None, Result, Ok, Err, if◌then◌else◌}
 use Rattle.std.specs.Option.{unwrap_or}
 use Rattle.kernel_check.specs.Programs.{Program}
 use Rattle.policy.specs.Policy.{Declared, numbered}
@@ -11,19 +11,29 @@ use Rattle.access_core.specs.declared.access.OpenFault.{OpenFault}
 use Rattle.access_core.specs.declared.access.OpenFault.TheVariants as fault
 use Rattle.access_core.specs.declared.kernel.Kernel.{Kernel}
 
--- whether a kernel's index is that of one of its checked kernels (own)
+-- whether an index is there, and is that of one of these checked kernels
+abbrev pub is_index : List Program → Option ℕ → Bool
+is_index checked None = false
+is_index checked (Some index) = nat_lt index (length checked)
+
+-- whether a kernel has an index, and it is that of one of its checked kernels (own)
 abbrev pub has_entry : Kernel → Bool
-has_entry kernel = nat_lt kernel.entry (length kernel.checked)
+has_entry kernel = is_index kernel.checked kernel.entry
+
+-- the checked kernel at an index
+abbrev pub program_in : List Program → Option ℕ → Program
+program_in checked None = no_kernel
+program_in checked (Some index) = unwrap_or (slice_get checked index) no_kernel
 
 -- the checked kernel at a kernel's index
 abbrev pub program_of : Kernel → Program
-program_of kernel = unwrap_or (slice_get kernel.checked kernel.entry) no_kernel
+program_of kernel = program_in kernel.checked kernel.entry
 
 -- a number, which counts from 1, is that of one of these kernels
 abbrev pub IsNumber : List Kernel → ℕ → Type 0
 IsNumber kernels number = (kernel : Kernel) × (numbered kernels number ≡ Some kernel)
 
--- the index of the first kernel whose own index is that of no checked kernel, if there is one
+-- the place of the first kernel that has no index, or one that is no checked kernel's, if there is one
 abbrev pub first_missing : List Kernel → Option ℕ
 first_missing kernels = position (λ kernel. not (has_entry kernel)) kernels
 
@@ -36,8 +46,8 @@ abbrev pub fault_behind : ℕ → Option ℕ → Option OpenFault
 fault_behind capacity (Some index) = Some (fault.NoEntry (record { 0 = index + 1 }))
 fault_behind capacity None = if is_capacity capacity then None else Some fault.BadCapacity
 
--- why a core can't be opened: by the first of these that stands, there isn't one kernel for each kernel of the policy; one has no checked
--- kernel at its index, of which the least is named; the audit's capacity is none (own)
+-- why a core can't be opened: by the first of these that stands, there isn't one kernel for each kernel of the policy; one has no index,
+-- or one that is no checked kernel's, of which the least is named; the audit's capacity is none (own)
 abbrev pub open_fault : Declared → List Kernel → ℕ → Option OpenFault
 open_fault policy kernels capacity =
     if length kernels == length policy.kernels then fault_behind capacity (first_missing kernels) else Some fault.KernelCount

@@ -44,7 +44,7 @@ pub enum OpenFault {
     OutOfMemory,
     /// There isn't one kernel for each kernel of the policy.
     KernelCount,
-    /// The index of this kernel, the least such, is that of none of its checked kernels.
+    /// This kernel, the least such, has no index, or one that is none of its checked kernels'.
     NoEntry(KernelObject),
     /// The audit's capacity isn't 1 to 2^20 entries.
     BadCapacity,
@@ -77,7 +77,7 @@ pub struct AccessCore {
     signals: Signals,
     queues: Vec<Queue>,
     /// How many packets are in flight, of all queues.
-    flying: usize,
+    in_flight_count: usize,
     capacity: usize,
     audit: Reserved<Entry>,
 }
@@ -94,7 +94,7 @@ impl Drop for AccessCore {
             memory: _,
             signals: _,
             queues: _,
-            flying: _,
+            in_flight_count: _,
             capacity: _,
             audit: _,
         } = self;
@@ -118,7 +118,7 @@ impl AccessCore {
     fn is_full(&self) -> bool
         ensures { result ≡ is_full self.now.history }
     {
-        self.capacity < self.audit.len() + 1 + self.flying
+        self.capacity < self.audit.len() + 1 + self.in_flight_count
     }
 
     // Whether it has none for an entry after which one packet more is in flight.
@@ -126,7 +126,7 @@ impl AccessCore {
         ensures { result ≡ nat_lt self.now.history.capacity
             (length self.now.history.entries + 1 + (length (flight (beginning self.now.history) self.now.history.entries) + 1)) }
     {
-        self.capacity < self.audit.len() + 1 + (self.flying + 1)
+        self.capacity < self.audit.len() + 1 + (self.in_flight_count + 1)
     }
 }
 

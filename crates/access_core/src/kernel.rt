@@ -15,16 +15,24 @@ use kernel_check::{Checked, Program};
 pub struct Kernel {
     /// The module's checked kernels.
     pub checked: Checked,
-    /// The kernel's index among them.
-    pub entry: u32,
+    /// The kernel's index among them, if the module has it.
+    pub entry: Option<u32>,
 }
 
 impl Kernel {
-    /// Whether the index is that of a checked kernel.
+    /// Whether it has an index, and that is the index of a checked kernel.
     pub fn has_entry(&self) -> bool
         ensures { result ≡ has_entry self.now }
     {
-        self.entry < self.checked.count()
+        self.entry.is_some_and(|index| index < self.checked.count())
+    }
+
+    /// Its index.
+    pub fn index(&self) -> u32
+        requires { has_entry self.now ≡ true }
+        ensures { self.now.entry ≡ Some result }
+    {
+        self.entry.unwrap()
     }
 
     /// The checked kernel.
@@ -32,7 +40,7 @@ impl Kernel {
         requires { has_entry self.now ≡ true }
         ensures { result.now ≡ program_of self.now }
     {
-        self.checked.kernel(self.entry)
+        self.checked.kernel(self.index())
     }
 
     /// How large its segments are.

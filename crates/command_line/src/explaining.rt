@@ -59,7 +59,7 @@ impl<T: Drop> From<AllocFailed<T>> for End {
 fn without_entry(kernels: &[Kernel]) -> Option<u32> {
     let mut number = 1u32;
     for kernel in kernels {
-        if kernel.entry >= kernel.checked.count() {
+        if !kernel.has_entry() {
             return Some(number);
         }
         number = number.saturating_add(1);

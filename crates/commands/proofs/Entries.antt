@@ -1,23 +1,22 @@
 -- The entry of a source is that of a kernel just where its module has one of the name.
-use Rattle.std.proofs.Common.{◌≡◌, ℕ, ◌==◌, List, map, length, refl, ap, ◌∙◌, true, not, Option, Some, None, nat_lt, arith, eq-eqb}
+use Rattle.std.proofs.Common.{◌≡◌, ℕ, ◌==◌, List, map, length, refl, ap, ◌∙◌, true, not, Option, Some, None, arith, eq-eqb}
 use Rattle.std.proofs.lemmas.Bool.Decides.{nat_tests}
 use Rattle.std.specs.Prelude.{position, is_some}
-use Rattle.std.specs.Option.{unwrap_or}
 use Rattle.std.specs.Str.{bytes_eq}
 use Rattle.std.proofs.lemmas.List.{length-map}
 use Rattle.std.proofs.lemmas.List.Quantifiers.{position-Some}
-use Rattle.access_core.specs.Opening.{fault_behind, first_missing, has_entry, open_fault}
+use Rattle.access_core.specs.Opening.{fault_behind, first_missing, has_entry, is_index, open_fault}
 use Rattle.core_model.specs.Kernels.{no_kernel}
 use Rattle.kernel_check.specs.Programs.{Program}
 use Rattle.policy.specs.Policy.{Declared, Name, Source}
 use Rattle.policy.proofs.NameLemmas.{position-map}
 use Rattle.commands.specs.Kernels.{entry_in, first_without_entry, has_its_entry, kernel_of, programs_in}
 
-entry-there : (programs : List Program) (entry : List ℕ) → nat_lt (entry_in programs entry) (length programs) ≡ is_some (position (λ kernel. bytes_eq entry kernel.name) programs)
-entry-there programs entry = by_place (position (λ kernel. bytes_eq entry kernel.name) programs) refl
+entry-there : (programs : List Program) (entry : List ℕ) → is_index programs (entry_in programs entry) ≡ is_some (entry_in programs entry)
+entry-there programs entry = by_place (entry_in programs entry) refl
   where
-    by_place : (o : Option ℕ) → position (λ kernel. bytes_eq entry kernel.name) programs ≡ o → nat_lt (unwrap_or o (length programs)) (length programs) ≡ is_some o
-    by_place None none = grind (arith, nat_tests)
+    by_place : (o : Option ℕ) → entry_in programs entry ≡ o → is_index programs o ≡ is_some o
+    by_place None none = refl
     by_place (Some i) found = let below = (position-Some (λ kernel. bytes_eq entry kernel.name) programs i no_kernel found).0 in grind (arith, nat_tests, below)
 
 -- a source's kernel has an entry just where its module has one of the name

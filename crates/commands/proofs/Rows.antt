@@ -3,8 +3,8 @@ use Rattle.std.proofs.Common.{◌≡◌, ℕ, zero, suc, ◌+◌, ◌<◌, ◌�
 use Rattle.std.proofs.lemmas.Bool.Decides.{nat_tests}
 use Rattle.std.specs.Borrow.{Bor}
 use Rattle.std.specs.Option.{IsSome, option_copied}
-use Rattle.commands.specs.declared.kernels.KernelError.{KernelError}
-use Rattle.commands.specs.declared.kernels.KernelError.TheVariants as error
+use Rattle.commands.specs.declared.kernel_judging.KernelError.{KernelError}
+use Rattle.commands.specs.declared.kernel_judging.KernelError.TheVariants as error
 use Rattle.commands.specs.Kernels.{AreRefused, JudgesKernel, Passes}
 use Rattle.std.proofs.Common.{option_map}
 use Rattle.policy.specs.Policy.{Name, Source, row_of}

@@ -11,15 +11,15 @@ use Rattle.policy.specs.declared.fault.ReadPolicyError.{ReadPolicyError}
 use Rattle.policy.specs.declared.fault.ReadPolicyError.TheVariants as reading
 use Rattle.access_core.specs.declared.access.OpenFault.{OpenFault}
 use Rattle.access_core.specs.declared.kernel.Kernel as cores
-use Rattle.script.specs.declared.answers.Answers.{Answers}
+use Rattle.script.specs.declared.io_log.IoLog.{IoLog}
 use Rattle.script.specs.declared.fault.ScriptFault.{ScriptFault}
 use Rattle.script.specs.declared.fault.ScriptFault.TheVariants as why
-use Rattle.script.specs.Answers.{AppendsBeginning, IsCaused, NoneFailed, none_yet}
+use Rattle.script.specs.IoLogs.{AppendsBeginning, IsCaused, NoneFailed, none_yet}
 use Rattle.script.specs.Runs.{worlds}
 use Rattle.script.specs.Scripts.{RunsScript}
 use Rattle.world.specs.Starting.{Begins}
 use Rattle.world.specs.States.{Joined}
-use Rattle.commands.specs.declared.noted.Noted.{Noted}
+use Rattle.commands.specs.declared.command_log.CommandLog.{CommandLog}
 use Rattle.commands.specs.declared.failure.Failure.{Failure}
 use Rattle.commands.specs.declared.check.Setup.{Setup}
 use Rattle.commands.specs.declared.failure.Failure.TheVariants.{OutOfMemory, Policy, Kernel, KernelCount, NoEntry, Capacity, Line, Read, Write}
@@ -58,11 +58,11 @@ PassesPolicy policy (Err Read) = ⊥
 PassesPolicy policy (Err Write) = ⊥
 
 -- neither the reader of the script nor a writer was asked yet
-abbrev pub none_noted : Noted
+abbrev pub none_noted : CommandLog
 none_noted = record { asked = none_yet; faults = none_yet }
 
 -- how what was asked ended: all is done, or a failure is named
-abbrev pub TellsEnd : Result ⊤ ScriptFault → Answers → (before after : Option (List ℕ)) → Status → Type 0
+abbrev pub TellsEnd : Result ⊤ ScriptFault → IoLog → (before after : Option (List ℕ)) → Status → Type 0
 TellsEnd (Ok done) faults before after status = (after ≡ before) × (status ≡ Done)
 TellsEnd (Err fault) faults before after status = NamesFailure (failure_of_script fault) faults before after status
 
@@ -87,7 +87,7 @@ text_of_counts policy =
 
 -- how the writing of a text ended: it is written and nothing else; or memory was wanted for it, and nothing is written; or the writer
 -- failed behind a beginning of it
-abbrev pub WritesText : List ℕ → Result ⊤ ScriptFault → Answers → (before after : Option (List ℕ)) → Type 0
+abbrev pub WritesText : List ℕ → Result ⊤ ScriptFault → IoLog → (before after : Option (List ℕ)) → Type 0
 WritesText text (Ok done) answers before after = Appends before after text × (answers.write_failed ≡ false)
 WritesText text (Err why.OutOfMemory) answers before after = after ≡ before
 WritesText text (Err why.Write) answers before after = AppendsBeginning before after text × (answers.write_failed ≡ true)
@@ -95,17 +95,17 @@ WritesText text (Err why.Read) answers before after = ⊥
 WritesText text (Err (why.BadLine number)) answers before after = ⊥
 
 -- the counts are written, or it is named why they aren't
-abbrev pub TellsCounts : Declared → Noted → (out counted err named : Option (List ℕ)) → Status → Type 0
+abbrev pub TellsCounts : Declared → CommandLog → (out counted err named : Option (List ℕ)) → Status → Type 0
 TellsCounts policy noted out counted err named status =
     (ended : Result ⊤ ScriptFault) × WritesText (text_of_counts policy) ended noted.asked out counted × TellsEnd ended noted.faults err named status
 
 -- the counts of a good policy are told, or the failure of another
-abbrev pub TellsVerdict : Result Setup Failure → Noted → (out counted err named : Option (List ℕ)) → Status → Type 0
+abbrev pub TellsVerdict : Result Setup Failure → CommandLog → (out counted err named : Option (List ℕ)) → Status → Type 0
 TellsVerdict (Ok setup) noted out counted err named status = TellsCounts setup.policy noted out counted err named status
 TellsVerdict (Err failure) noted out counted err named status = (counted ≡ out) × NamesFailure failure noted.faults err named status
 
 -- a policy is judged, and its counts or its failure told: what the writers answered, and their bytes before and after
-abbrev pub ChecksPolicy : List ℕ → Noted → (out counted err named : Option (List ℕ)) → Status → Type 0
+abbrev pub ChecksPolicy : List ℕ → CommandLog → (out counted err named : Option (List ℕ)) → Status → Type 0
 ChecksPolicy text noted out counted err named status =
     (verdict : Result Setup Failure) × JudgesPolicy text verdict × TellsVerdict verdict noted out counted err named status
 
@@ -130,49 +130,49 @@ abbrev pub RunsFrom : List Declared → Joined → (script left replies replied 
 RunsFrom later old script left replies replied ended = (new : Joined) × RunsOver later old new script left replies replied ended
 
 -- nothing was read and no reply written, and a failure is named
-abbrev pub StopsBefore : Failure → Noted → (before after : Streams) → Status → Type 0
+abbrev pub StopsBefore : Failure → CommandLog → (before after : Streams) → Status → Type 0
 StopsBefore failure noted before after status =
     (after.script ≡ before.script) × (after.replies ≡ before.replies) × NamesFailure failure noted.faults before.faults after.faults status
 
 -- what is told of the reader and the writer of a script is so: a fault has its cause, and where all was done neither failed
-abbrev pub IsTold : Result ⊤ ScriptFault → Answers → Type 0
+abbrev pub IsTold : Result ⊤ ScriptFault → IoLog → Type 0
 IsTold ended asked = IfErr ended (IsCaused asked) × OnOk ended (NoneFailed asked)
 
 -- a script runs over a world that is newly open, with these further policies
-abbrev pub RunsIn : List Declared → Joined → Noted → (before after : Streams) → Status → Type 0
+abbrev pub RunsIn : List Declared → Joined → CommandLog → (before after : Streams) → Status → Type 0
 RunsIn later world noted before after status =
     (ended : Result ⊤ ScriptFault) × RunsFrom later world before.script after.script before.replies after.replies ended
     × IsTold ended noted.asked × TellsEnd ended noted.faults before.faults after.faults status
 
 -- the script runs over a world with the further policies, where they are read; else it is named why they aren't
-abbrev pub RunsLater : Joined → Result (List Declared) ReadPolicyError → Noted → (before after : Streams) → Status → Type 0
+abbrev pub RunsLater : Joined → Result (List Declared) ReadPolicyError → CommandLog → (before after : Streams) → Status → Type 0
 RunsLater world (Ok later) noted before after status = RunsIn later world noted before after status
 RunsLater world (Err why) noted before after status = StopsBefore (failure_of_reading why) noted before after status
 
 -- the texts of the further policies are read in order, and the script runs over a world that is newly open
-abbrev pub RunsBehind : Joined → List (List ℕ) → Noted → (before after : Streams) → Status → Type 0
+abbrev pub RunsBehind : Joined → List (List ℕ) → CommandLog → (before after : Streams) → Status → Type 0
 RunsBehind world further noted before after status =
     (read : Result (List Declared) ReadPolicyError) × ReadsEach further read × RunsLater world read noted before after status
 
 -- the further policies are read, and the script runs over the world, where one was opened; else the failure is named: that of the first
 -- kernel without its entry, where there is one
-abbrev pub RunsWorld : Result Joined OpenFault → List (List ℕ) → Noted → (before after : Streams) → Status → Type 0
+abbrev pub RunsWorld : Result Joined OpenFault → List (List ℕ) → CommandLog → (before after : Streams) → Status → Type 0
 RunsWorld (Ok world) further noted before after status = RunsBehind world further noted before after status
 RunsWorld (Err fault) further noted before after status = StopsBefore (failure_of_opening fault) noted before after status
 
 -- a world is opened under a policy, with what packets may launch and so many places in its audit, and the script runs over it
-abbrev pub RunsUnder : Declared → List cores.Kernel → List (List ℕ) → ℕ → Noted → (before after : Streams) → Status → Type 0
+abbrev pub RunsUnder : Declared → List cores.Kernel → List (List ℕ) → ℕ → CommandLog → (before after : Streams) → Status → Type 0
 RunsUnder policy kernels further places noted before after status =
     (opened : Result Joined OpenFault) × Begins policy kernels places opened × RunsWorld opened further noted before after status
 
 -- the same, where the policy is good
-abbrev pub RunsVerdict : Result Setup Failure → List (List ℕ) → ℕ → Noted → (before after : Streams) → Status → Type 0
+abbrev pub RunsVerdict : Result Setup Failure → List (List ℕ) → ℕ → CommandLog → (before after : Streams) → Status → Type 0
 RunsVerdict (Ok setup) further places noted before after status =
     RunsUnder setup.policy setup.kernels.items further places noted before after status
 RunsVerdict (Err failure) further places noted before after status = StopsBefore failure noted before after status
 
 -- a policy is judged, then further ones are read, and the script runs, or the first failure is named: what the reader and the writers
 -- answered, and their bytes before and after
-abbrev pub RunsPolicies : List ℕ → List (List ℕ) → ℕ → Noted → (before after : Streams) → Status → Type 0
+abbrev pub RunsPolicies : List ℕ → List (List ℕ) → ℕ → CommandLog → (before after : Streams) → Status → Type 0
 RunsPolicies text further places noted before after status =
     (verdict : Result Setup Failure) × JudgesPolicy text verdict × RunsVerdict verdict further places noted before after status

@@ -7,14 +7,14 @@ use Rattle.policy.specs.declared.fault.ReadPolicyError.TheVariants as reading
 use Rattle.policy.specs.FaultTexts.{text_of_fault}
 use Rattle.access_core.specs.declared.access.OpenFault.{OpenFault}
 use Rattle.access_core.specs.declared.access.OpenFault.TheVariants as opening
-use Rattle.script.specs.Answers.{AppendsBeginning}
-use Rattle.script.specs.declared.answers.Answers.{Answers}
+use Rattle.script.specs.IoLogs.{AppendsBeginning}
+use Rattle.script.specs.declared.io_log.IoLog.{IoLog}
 use Rattle.script.specs.declared.fault.ScriptFault.{ScriptFault}
 use Rattle.script.specs.declared.fault.ScriptFault.TheVariants as script
 use Rattle.commands.specs.declared.failure.Failure.{Failure}
 use Rattle.commands.specs.declared.failure.Failure.TheVariants.{OutOfMemory, Policy, Kernel, KernelCount, NoEntry, Capacity, Line, Read, Write}
-use Rattle.commands.specs.declared.kernels.KernelError.{KernelError}
-use Rattle.commands.specs.declared.kernels.KernelError.TheVariants as kernels
+use Rattle.commands.specs.declared.kernel_judging.KernelError.{KernelError}
+use Rattle.commands.specs.declared.kernel_judging.KernelError.TheVariants as kernels
 use Rattle.commands.specs.declared.status.Status.{Status}
 use Rattle.commands.specs.declared.status.Status.TheVariants.{Refused, Failed}
 use Rattle.commands.specs.KernelTexts.{text_of_kernel_fault}
@@ -61,13 +61,13 @@ line_of_failure failure = text_of_failure failure ++ 10 ∷ []
 
 -- a line is written, and the command ends with a status; or the writer failed behind a beginning of the line, and so did the
 -- command. `told` and `tells` are the writer's bytes before and after
-abbrev pub TellsLine : List ℕ → Status → Answers → Option (List ℕ) → Option (List ℕ) → Status → Type 0
+abbrev pub TellsLine : List ℕ → Status → IoLog → Option (List ℕ) → Option (List ℕ) → Status → Type 0
 TellsLine line ending answers told tells status =
     (Appends told tells line × (answers.write_failed ≡ false) × (status ≡ ending))
     ⊎ (AppendsBeginning told tells line × (answers.write_failed ≡ true) × (status ≡ Failed))
 
 -- a failure is named in a line, and its status answered; or memory was wanted for a line with a number, and that is named
-abbrev pub NamesFailure : Failure → Answers → Option (List ℕ) → Option (List ℕ) → Status → Type 0
+abbrev pub NamesFailure : Failure → IoLog → Option (List ℕ) → Option (List ℕ) → Status → Type 0
 NamesFailure failure answers told tells status =
     TellsLine (line_of_failure failure) (status_of failure) answers told tells status
     ⊎ ((has_number failure ≡ true) × TellsLine (line_of_failure OutOfMemory) (status_of OutOfMemory) answers told tells status)

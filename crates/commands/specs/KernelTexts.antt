@@ -3,9 +3,9 @@ use Rattle.std.specs.Prelude.{ℕ, List, ◌++◌, codes}
 use Rattle.std.specs.Fmt.{decimal}
 use Rattle.hsail_reader.specs.Faults.{cause_number as number_of_reading}
 use Rattle.kernel_check.specs.Faults.{cause_number as number_of_checking}
-use Rattle.commands.specs.declared.kernels.KernelCause.{KernelCause}
-use Rattle.commands.specs.declared.kernels.KernelCause.TheVariants.{Read, Check}
-use Rattle.commands.specs.declared.kernels.KernelFault.{KernelFault}
+use Rattle.commands.specs.declared.kernel_judging.KernelCause.{KernelCause}
+use Rattle.commands.specs.declared.kernel_judging.KernelCause.TheVariants.{Read, Check}
+use Rattle.commands.specs.declared.kernel_judging.KernelFault.{KernelFault}
 
 -- the pass that refuses the kernel, its cause's number, and the place
 abbrev pub text_of_cause : KernelCause → List ℕ

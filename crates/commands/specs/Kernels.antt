@@ -1,6 +1,5 @@
 -- Which kernels of a policy are let pass, what packets may then launch, and which is the first that isn't let pass (own).
 use Rattle.std.specs.Prelude.{ℕ, ◌≡◌, ◌<◌, ◌≤◌, Bool, not, List, [], length, map, position, Option, Some, None, is_some, option_map, Result, Ok, Err, ⊤}
-use Rattle.std.specs.Option.{unwrap_or}
 use Rattle.std.specs.Result.{result_err, result_unwrap_or}
 use Rattle.std.specs.Str.{bytes_eq}
 use Rattle.access_core.specs.declared.kernel.Kernel.{Kernel}
@@ -12,11 +11,11 @@ use Rattle.kernel_check.specs.Checks.{checking}
 use Rattle.kernel_check.specs.Programs.{Program}
 use Rattle.policy.specs.Names.{Name}
 use Rattle.policy.specs.Policy.{Source, row_of}
-use Rattle.commands.specs.declared.kernels.KernelCause.{KernelCause}
-use Rattle.commands.specs.declared.kernels.KernelCause.TheVariants.{Read, Check}
-use Rattle.commands.specs.declared.kernels.KernelError.{KernelError}
-use Rattle.commands.specs.declared.kernels.KernelError.TheVariants as error
-use Rattle.commands.specs.declared.kernels.KernelFault.{KernelFault}
+use Rattle.commands.specs.declared.kernel_judging.KernelCause.{KernelCause}
+use Rattle.commands.specs.declared.kernel_judging.KernelCause.TheVariants.{Read, Check}
+use Rattle.commands.specs.declared.kernel_judging.KernelError.{KernelError}
+use Rattle.commands.specs.declared.kernel_judging.KernelError.TheVariants as error
+use Rattle.commands.specs.declared.kernel_judging.KernelFault.{KernelFault}
 
 -- the checked kernels of a module, or what is wrong with it
 abbrev pub checked_or_cause : Result (List Program) CheckFault → Result (List Program) KernelCause
@@ -39,9 +38,9 @@ programs_in text = result_unwrap_or (checked_text text) []
 abbrev pub cause_of : List ℕ → Option KernelCause
 cause_of text = result_err (checked_text text)
 
--- the index among checked kernels of the one that an entry names; where none has the name, that behind them all, which is no kernel's
-abbrev pub entry_in : List Program → List ℕ → ℕ
-entry_in programs entry = unwrap_or (position (λ kernel. bytes_eq entry kernel.name) programs) (length programs)
+-- the index among checked kernels of the one that an entry names, if one has the name
+abbrev pub entry_in : List Program → List ℕ → Option ℕ
+entry_in programs entry = position (λ kernel. bytes_eq entry kernel.name) programs
 
 -- what packets may launch by a source: the kernel of its module that its entry names
 abbrev pub kernel_of : Source → Kernel
@@ -52,7 +51,7 @@ kernel_of source = record {
 
 -- whether a source's module has a kernel of its entry's name
 abbrev pub has_its_entry : Source → Bool
-has_its_entry source = is_some (position (λ kernel. bytes_eq source.entry kernel.name) (programs_in source.text))
+has_its_entry source = is_some (entry_in (programs_in source.text) source.entry)
 
 -- the index of the first kernel whose module has none of its entry's name, if there is one
 abbrev pub first_without_entry : List (Name × Source) → Option ℕ

@@ -2,15 +2,15 @@
 
 ghost use Rattle.std.specs.Prelude.{◌≡◌, ◌++◌, IfOk, OnOk, string_bytes, false};
 ghost use Rattle.commands.specs.Commands.{JudgesPolicy, PassesPolicy, none_noted, text_of_count, text_of_counts, text_of_denies, WritesText, TellsCounts, ChecksPolicy};
-ghost use Rattle.commands.specs.declared.noted.Noted.{Noted};
+ghost use Rattle.commands.specs.declared.command_log.CommandLog.{CommandLog};
 
+use crate::command_log::CommandLog;
 use crate::failure::{Failure, name_failure, tell_end};
-use crate::kernels::check_kernels;
-use crate::noted::Noted;
+use crate::kernel_judging::check_kernels;
 use crate::status::Status;
 use access_core::Kernel;
 use policy::{Kind, Policy, Version, read_policy};
-use script::{Answers, ScriptFault, flush_once, write_through};
+use script::{IoLog, ScriptFault, flush_once, write_through};
 use std::alloc::{AllocError, Global};
 use std::io;
 
@@ -58,7 +58,7 @@ fn text_of_counts(alloc: Global, policy: &Policy) -> Result<String, AllocError>
 pub(crate) fn pass_on<W: io::Write>(
     text: &str,
     out: &mut W,
-    answers: &mut Answers,
+    answers: &mut IoLog,
 ) -> Result<(), ScriptFault>
     requires { answers.old.write_failed ≡ false }
     ensures { WritesText text.now result answers.new (W.contents out.old) (W.contents out.new) }
@@ -74,7 +74,7 @@ fn write_counts<W: io::Write>(
     alloc: Global,
     policy: &Policy,
     out: &mut W,
-    answers: &mut Answers,
+    answers: &mut IoLog,
 ) -> Result<(), ScriptFault>
     requires { answers.old.write_failed ≡ false }
     ensures { WritesText (text_of_counts policy.now) result answers.new (W.contents out.old) (W.contents out.new) }
@@ -98,7 +98,7 @@ fn count_rows<O: io::Write, E: io::Write>(
     policy: &Policy,
     out: &mut O,
     err: &mut E,
-    noted: &mut Noted,
+    noted: &mut CommandLog,
 ) -> Status
     requires { noted.old ≡ none_noted }
     ensures { TellsCounts policy.now noted.new (O.contents out.old) (O.contents out.new) (E.contents err.old) (E.contents err.new) result }
@@ -134,7 +134,7 @@ pub fn check_policy_noting<O: io::Write, E: io::Write>(
     text: &[u8],
     out: &mut O,
     err: &mut E,
-    noted: &mut Noted,
+    noted: &mut CommandLog,
 ) -> Status
     requires { noted.old ≡ none_noted }
     ensures { ChecksPolicy text.now noted.new (O.contents out.old) (O.contents out.new) (E.contents err.old) (E.contents err.new) result }
@@ -154,8 +154,8 @@ pub fn check_policy<O: io::Write, E: io::Write>(
     out: &mut O,
     err: &mut E,
 ) -> Status
-    ensures { (noted : Noted) × ChecksPolicy text.now noted (O.contents out.old) (O.contents out.new) (E.contents err.old) (E.contents err.new) result }
+    ensures { (noted : CommandLog) × ChecksPolicy text.now noted (O.contents out.old) (O.contents out.new) (E.contents err.old) (E.contents err.new) result }
 {
-    let mut noted = Noted::none();
+    let mut noted = CommandLog::none();
     check_policy_noting(alloc, text, out, err, &mut noted)
 }

@@ -3,16 +3,16 @@
 ghost use Rattle.std.specs.Prelude.{◌≡◌, [], IfOk, None, string_bytes, false};
 ghost use Rattle.commands.specs.Commands.{IsTold, RunsOver, WritesText, none_noted, streams};
 ghost use Rattle.commands.specs.Drawing.{DrawsFrom, DrawsUnder, DrawsPolicy, page_of};
-ghost use Rattle.commands.specs.declared.noted.Noted.{Noted};
-ghost use Rattle.script.specs.Answers.{none_yet};
+ghost use Rattle.commands.specs.declared.command_log.CommandLog.{CommandLog};
+ghost use Rattle.script.specs.IoLogs.{none_yet};
 
 use crate::check::{Setup, judge, pass_on};
+use crate::command_log::CommandLog;
 use crate::failure::{Failure, name_failure, tell_end};
-use crate::noted::Noted;
 use crate::run::{open_world, run_through};
 use crate::status::Status;
 use picture::write_page;
-use script::{Answers, ScriptFault};
+use script::{IoLog, ScriptFault};
 use std::alloc::{AllocError, Global};
 use std::io;
 use world::World;
@@ -31,7 +31,7 @@ fn draw_audit<O: io::Write>(
     alloc: Global,
     world: &World,
     out: &mut O,
-    answers: &mut Answers,
+    answers: &mut IoLog,
 ) -> Result<(), ScriptFault>
     requires { answers.old.write_failed ≡ false }
     ensures { WritesText (page_of world.now) result answers.new (O.contents out.old) (O.contents out.new) }
@@ -47,7 +47,7 @@ fn run_unheard<R: io::Read>(
     alloc: Global,
     world: &mut World,
     script: &mut R,
-    answers: &mut Answers,
+    answers: &mut IoLog,
 ) -> Result<(), ScriptFault>
     requires { answers.old ≡ none_yet }
     ensures outcome { RunsOver [] world.old world.new (R.remaining script.old) (R.remaining script.new) None None result }
@@ -62,7 +62,7 @@ fn draw_in<R: io::Read, O: io::Write>(
     world: World,
     script: &mut R,
     out: &mut O,
-    answers: &mut Answers,
+    answers: &mut IoLog,
 ) -> Result<(), ScriptFault>
     requires { answers.old ≡ none_yet }
     ensures { DrawsFrom world answers.new (R.remaining script.old) (R.remaining script.new) (O.contents out.old) (O.contents out.new) result }
@@ -82,7 +82,7 @@ fn draw_under<R: io::Read, O: io::Write, E: io::Write>(
     script: &mut R,
     out: &mut O,
     err: &mut E,
-    noted: &mut Noted,
+    noted: &mut CommandLog,
 ) -> Status
     requires { noted.old ≡ none_noted }
     ensures { DrawsUnder setup.policy setup.kernels.items places noted.new
@@ -108,7 +108,7 @@ pub fn draw_policy_noting<R: io::Read, O: io::Write, E: io::Write>(
     script: &mut R,
     out: &mut O,
     err: &mut E,
-    noted: &mut Noted,
+    noted: &mut CommandLog,
 ) -> Status
     requires { noted.old ≡ none_noted }
     ensures { DrawsPolicy text.now places noted.new (streams (R.remaining script.old) (O.contents out.old) (E.contents err.old))
@@ -131,9 +131,9 @@ pub fn draw_policy<R: io::Read, O: io::Write, E: io::Write>(
     out: &mut O,
     err: &mut E,
 ) -> Status
-    ensures { (noted : Noted) × DrawsPolicy text.now places noted (streams (R.remaining script.old) (O.contents out.old) (E.contents err.old))
+    ensures { (noted : CommandLog) × DrawsPolicy text.now places noted (streams (R.remaining script.old) (O.contents out.old) (E.contents err.old))
         (streams (R.remaining script.new) (O.contents out.new) (E.contents err.new)) result }
 {
-    let mut noted = Noted::none();
+    let mut noted = CommandLog::none();
     draw_policy_noting(alloc, text, places, script, out, err, &mut noted)
 }

@@ -4,12 +4,12 @@ ghost use Rattle.std.specs.Prelude.{◌≡◌, IfOk, IfSome, None, string_bytes,
 ghost use Rattle.commands.specs.Commands.{TellsEnd};
 ghost use Rattle.commands.specs.Failures.{status_of, has_number, line_of_failure, NamesFailure, TellsLine, failure_of_reading, failure_of_kernels, failure_of_opening, failure_of_script};
 
-use crate::kernels::{KernelError, KernelFault};
+use crate::kernel_judging::{KernelError, KernelFault};
 use crate::status::Status;
 use access_core::OpenFault;
 use aql_packet::KernelObject;
 use policy::{PolicyFault, ReadPolicyError};
-use script::{Answers, ScriptFault, write_through};
+use script::{IoLog, ScriptFault, write_through};
 use std::alloc::{AllocError, Global};
 use std::{fmt, io};
 
@@ -149,7 +149,7 @@ fn line_of(alloc: Global, failure: Failure) -> Result<String, AllocError>
 }
 
 // Writes a line, and tells how the command ends: failed, where the writer failed.
-fn tell_line<E: io::Write>(line: &str, ending: Status, err: &mut E, answers: &mut Answers) -> Status
+fn tell_line<E: io::Write>(line: &str, ending: Status, err: &mut E, answers: &mut IoLog) -> Status
     requires { answers.old.write_failed ≡ false }
     ensures { TellsLine line.now ending answers.new (E.contents err.old) (E.contents err.new) result }
 {
@@ -165,7 +165,7 @@ pub(crate) fn name_failure<E: io::Write>(
     alloc: Global,
     failure: Failure,
     err: &mut E,
-    answers: &mut Answers,
+    answers: &mut IoLog,
 ) -> Status
     requires { answers.old.write_failed ≡ false }
     ensures { NamesFailure failure answers.new (E.contents err.old) (E.contents err.new) result }
@@ -184,7 +184,7 @@ pub(crate) fn tell_end<E: io::Write>(
     alloc: Global,
     ended: Result<(), ScriptFault>,
     err: &mut E,
-    answers: &mut Answers,
+    answers: &mut IoLog,
 ) -> Status
     requires { answers.old.write_failed ≡ false }
     ensures { TellsEnd ended answers.new (E.contents err.old) (E.contents err.new) result }

@@ -4,21 +4,21 @@
 #![tactic(auto)]
 
 mod check;
+mod command_log;
 mod draw;
 mod failure;
 mod further;
-mod kernels;
+mod kernel_judging;
 mod laws;
-mod noted;
 mod run;
 mod status;
 
 pub use check::{check_policy, check_policy_noting};
+pub use command_log::CommandLog;
 pub use draw::{draw_policy, draw_policy_noting};
 pub use failure::Failure;
 pub use further::PolicyText;
-pub use kernels::{KernelCause, KernelError, KernelFault, check_kernels};
+pub use kernel_judging::{KernelCause, KernelError, KernelFault, check_kernels};
 pub use laws::missing_entries_are_told;
-pub use noted::Noted;
 pub use run::{run_policies, run_policies_noting, run_policy, run_policy_noting};
 pub use status::Status;

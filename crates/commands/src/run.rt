@@ -2,18 +2,18 @@
 
 ghost use Rattle.std.specs.Prelude.{◌≡◌, []};
 ghost use Rattle.commands.specs.Commands.{IsTold, RunsBehind, RunsOver, RunsFrom, RunsUnder, RunsPolicies, none_noted, streams};
-ghost use Rattle.commands.specs.declared.noted.Noted.{Noted};
-ghost use Rattle.script.specs.Answers.{none_yet};
+ghost use Rattle.commands.specs.declared.command_log.CommandLog.{CommandLog};
+ghost use Rattle.script.specs.IoLogs.{none_yet};
 ghost use Rattle.world.specs.Starting.{Begins};
 
 use crate::check::{Setup, judge};
+use crate::command_log::CommandLog;
 use crate::failure::{Failure, name_failure, tell_end};
 use crate::further::{PolicyText, read_further};
-use crate::noted::Noted;
 use crate::status::Status;
 use access_core::{Kernel, OpenFault};
 use policy::Policy;
-use script::{Answers, ScriptFault, run_noting};
+use script::{IoLog, ScriptFault, run_noting};
 use std::alloc::Global;
 use std::io;
 use world::World;
@@ -41,7 +41,7 @@ pub(crate) fn run_through<R: io::Read, O: io::Write>(
     later: &[Policy],
     script: &mut R,
     out: &mut O,
-    answers: &mut Answers,
+    answers: &mut IoLog,
 ) -> Result<(), ScriptFault>
     requires { answers.old ≡ none_yet }
     ensures outcome { RunsOver later.now world.old world.new (R.remaining script.old) (R.remaining script.new) (O.contents out.old) (O.contents out.new) result }
@@ -57,7 +57,7 @@ fn run_in<R: io::Read, O: io::Write>(
     later: &[Policy],
     script: &mut R,
     out: &mut O,
-    answers: &mut Answers,
+    answers: &mut IoLog,
 ) -> Result<(), ScriptFault>
     requires { answers.old ≡ none_yet }
     ensures outcome { RunsFrom later.now world (R.remaining script.old) (R.remaining script.new) (O.contents out.old) (O.contents out.new) result }
@@ -75,7 +75,7 @@ fn run_behind<R: io::Read, O: io::Write, E: io::Write>(
     script: &mut R,
     out: &mut O,
     err: &mut E,
-    noted: &mut Noted,
+    noted: &mut CommandLog,
 ) -> Status
     requires { noted.old ≡ none_noted }
     ensures { RunsBehind world further.now noted.new
@@ -107,7 +107,7 @@ fn run_under<R: io::Read, O: io::Write, E: io::Write>(
     script: &mut R,
     out: &mut O,
     err: &mut E,
-    noted: &mut Noted,
+    noted: &mut CommandLog,
 ) -> Status
     requires { noted.old ≡ none_noted }
     ensures { RunsUnder setup.policy setup.kernels.items further.now places noted.new
@@ -132,7 +132,7 @@ pub fn run_policies_noting<R: io::Read, O: io::Write, E: io::Write>(
     script: &mut R,
     out: &mut O,
     err: &mut E,
-    noted: &mut Noted,
+    noted: &mut CommandLog,
 ) -> Status
     requires { noted.old ≡ none_noted }
     ensures { RunsPolicies text.now further.now places noted.new (streams (R.remaining script.old) (O.contents out.old) (E.contents err.old))
@@ -159,10 +159,10 @@ pub fn run_policies<R: io::Read, O: io::Write, E: io::Write>(
     out: &mut O,
     err: &mut E,
 ) -> Status
-    ensures { (noted : Noted) × RunsPolicies text.now further.now places noted (streams (R.remaining script.old) (O.contents out.old) (E.contents err.old))
+    ensures { (noted : CommandLog) × RunsPolicies text.now further.now places noted (streams (R.remaining script.old) (O.contents out.old) (E.contents err.old))
         (streams (R.remaining script.new) (O.contents out.new) (E.contents err.new)) result }
 {
-    let mut noted = Noted::none();
+    let mut noted = CommandLog::none();
     run_policies_noting(alloc, text, further, places, script, out, err, &mut noted)
 }
 
@@ -174,7 +174,7 @@ pub fn run_policy_noting<R: io::Read, O: io::Write, E: io::Write>(
     script: &mut R,
     out: &mut O,
     err: &mut E,
-    noted: &mut Noted,
+    noted: &mut CommandLog,
 ) -> Status
     requires { noted.old ≡ none_noted }
     ensures { RunsPolicies text.now [] places noted.new (streams (R.remaining script.old) (O.contents out.old) (E.contents err.old))
@@ -192,7 +192,7 @@ pub fn run_policy<R: io::Read, O: io::Write, E: io::Write>(
     out: &mut O,
     err: &mut E,
 ) -> Status
-    ensures { (noted : Noted) × RunsPolicies text.now [] places noted (streams (R.remaining script.old) (O.contents out.old) (E.contents err.old))
+    ensures { (noted : CommandLog) × RunsPolicies text.now [] places noted (streams (R.remaining script.old) (O.contents out.old) (E.contents err.old))
         (streams (R.remaining script.new) (O.contents out.new) (E.contents err.new)) result }
 {
     run_policies(alloc, text, &[], places, script, out, err)

@@ -1,6 +1,6 @@
 //! Why a packet was denied, by the rule that is told and the packet's own bytes.
 
-use crate::kernels::{Shape, shape_of};
+use crate::kernel_texts::{Shape, shape_of};
 use crate::lacks::{lack_of, lack_of_need};
 use crate::owners::{Opening, owner};
 use crate::packets::{tell_header, tell_reserved, tell_sizes, tell_type};

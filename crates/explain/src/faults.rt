@@ -1,6 +1,6 @@
 //! Why a packet failed at its work.
 
-use crate::kernels::{Shape, checked, entry, line_of, put_kernel, put_marked, shape_of};
+use crate::kernel_texts::{Shape, checked, entry, line_of, put_kernel, put_marked, shape_of};
 use crate::lacks::{is_in_force, lack_of};
 use crate::owners::{Opening, owner};
 use crate::scene::{HandedOver, Scene, begin, handed_over, say, tell_lack};

@@ -7,7 +7,7 @@ mod asked;
 mod calls;
 mod denied;
 mod faults;
-mod kernels;
+mod kernel_texts;
 mod keys;
 mod lacks;
 mod laws;

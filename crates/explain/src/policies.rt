@@ -1,6 +1,6 @@
 //! What is wrong with a policy's file, or with a kernel of it.
 
-use crate::kernels::line_of;
+use crate::kernel_texts::line_of;
 use crate::keys::{Key, PARTS, is_right_value, keys_of, put_value, wanted};
 use crate::positions::{Found, NOWHERE, Position, begin, find, position_at, small};
 use crate::texts::put_word;

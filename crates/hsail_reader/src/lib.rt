@@ -5,7 +5,7 @@
 mod fault;
 mod grammar;
 mod instructions;
-mod kernels;
+mod kernel_reading;
 mod lexeme;
 mod module;
 mod operands;

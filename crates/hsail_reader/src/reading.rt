@@ -9,7 +9,7 @@ ghost use Rattle.hsail_reader.specs.Syntax.{module_at, read_at, reading, Answers
 ghost use Rattle.hsail_reader.specs.Terminals as terminals;
 
 use crate::fault::{Flaw, ReadCause, ReadError, ReadFault, Stop, told};
-use crate::kernels::{kernels, word_of_token};
+use crate::kernel_reading::{kernels, word_of_token};
 use crate::module::{Module, Profile, Rounding};
 use crate::operands::{Read, Tokens, global, mark, refused};
 use crate::token::{Header, Token, TokenKind};

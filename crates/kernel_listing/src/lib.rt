@@ -4,7 +4,7 @@
 #![tactic(auto)]
 
 mod faults;
-mod kernels;
+mod kernel_lines;
 mod lines;
 
 use hsail_reader::{Module, ReadError, read_module};
@@ -23,7 +23,7 @@ pub enum Listing {
 // What is told of a module.
 fn list_module(alloc: Global, text: &[u8], module: &Module) -> Result<Listing, AllocError> {
     match check(alloc, module) {
-        Ok(checked) => Ok(Listing::Kernels(kernels::listed(alloc, text, module, &checked)?)),
+        Ok(checked) => Ok(Listing::Kernels(kernel_lines::listed(alloc, text, module, &checked)?)),
         Err(CheckError::OutOfMemory) => Err(AllocError),
         Err(CheckError::Fault(fault)) => Ok(Listing::Fault(faults::checked(alloc, text, fault)?)),
     }

@@ -8,8 +8,8 @@ ghost use Rattle.regions.specs.Memory.{lengths_of};
 ghost use Rattle.packet_processor.specs.Judged.{facts_seen, Judges};
 ghost use Rattle.packet_processor.specs.inner.FieldRules.{later_failing, verdict_if};
 
+use crate::dispatch_rules::{has_arguments, has_segments, has_sizes};
 use crate::facts::{Facts, Verdict};
-use crate::kernels::{has_arguments, has_segments, has_sizes};
 use crate::need_table::{Needs, function_of};
 use crate::packet_needs::PacketNeeds;
 use aql_packet::{Packet, decode};

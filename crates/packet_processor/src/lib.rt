@@ -4,10 +4,10 @@
 // The check tries its tactics on what is left of each proof.
 #![tactic(auto)]
 
+mod dispatch_rules;
 mod facts;
 mod holding;
 mod judging;
-mod kernels;
 mod need_table;
 mod packet_needs;
 mod packets;

@@ -2,12 +2,12 @@
 use Rattle.std.proofs.Common.{◌≡◌, ℕ, ◌+◌, List, [], ◌∷◌, ◌++◌, length, take, Option, Some, None, Result, Ok, Err, inl, inr, refl, sym, ap, ◌∙◌, subst, append_assoc, append-nil, length-append, arith}
 use Rattle.std.specs.Prelude.{⊤, MatchResult, IfErr}
 use Rattle.std.specs.Io.KnownBytes.{Appends, Consumes, Keeps, IsAtEnd}
-use Rattle.script.specs.declared.answers.Answers.{Answers}
+use Rattle.script.specs.declared.io_log.IoLog.{IoLog}
 use Rattle.script.specs.declared.fault.ScriptFault.{ScriptFault}
 use Rattle.script.specs.declared.fault.ScriptFault.TheVariants.{OutOfMemory, BadLine, Read, Write}
 use Rattle.script.specs.declared.session.Session.{Session}
 use Rattle.script.specs.Words.{nonempty_before}
-use Rattle.script.specs.Answers.{AppendsBeginning, IsCaused, NoneFailed, ReadsBlock, read_more}
+use Rattle.script.specs.IoLogs.{AppendsBeginning, IsCaused, NoneFailed, ReadsBlock, read_more}
 use Rattle.script.specs.Runs.{Law, Runs, StopsNear, lines_from, lines_of}
 use Rattle.script.specs.Sessions.{Took, Failed, Ended, Why, begun, pending, with_further, at_end}
 use Rattle.script.specs.Scripts.{Outcome, Replies, RunsScript, Tells}
@@ -285,18 +285,18 @@ outcome_of law old new held holds had left (Ok done) case = case
 outcome_of law old new held holds had left (Err fault) case = case
 
 -- a read more is no failure
-pub fine_still : (before after : Answers) → after ≡ read_more before → NoneFailed before → NoneFailed after
+pub fine_still : (before after : IoLog) → after ≡ read_more before → NoneFailed before → NoneFailed after
 fine_still before after read fine = (ap (λ answers. answers.read_failed) read ∙ fine.0, ap (λ answers. answers.write_failed) read ∙ fine.1)
 
 -- what a session fails with is no fault of the reader or the writer
-pub caused_fault : {S : Type 0} (law : Law S) (old new : S) (before after : Session) (lines : List ℕ → List (List ℕ)) (answers : Answers) (fault : ScriptFault) →
+pub caused_fault : {S : Type 0} (law : Law S) (old new : S) (before after : Session) (lines : List ℕ → List (List ℕ)) (answers : IoLog) (fault : ScriptFault) →
     Failed law old new before after lines fault → IsCaused answers fault
 caused_fault law old new before after lines answers OutOfMemory failed = tt
 caused_fault law old new before after lines answers (BadLine number) failed = tt
 caused_fault law old new before after lines answers Read failed = absurd (failed.why [])
 caused_fault law old new before after lines answers Write failed = absurd (failed.why [])
 
-pub caused_result : {S : Type 0} (law : Law S) (old new : S) (before after : Session) (lines : List ℕ → List (List ℕ)) (answers : Answers) (Done : ⊤ → Type 0) (result : Result ⊤ ScriptFault) →
+pub caused_result : {S : Type 0} (law : Law S) (old new : S) (before after : Session) (lines : List ℕ → List (List ℕ)) (answers : IoLog) (Done : ⊤ → Type 0) (result : Result ⊤ ScriptFault) →
     MatchResult result Done (Failed law old new before after lines) → IfErr result (IsCaused answers)
 caused_result law old new before after lines answers Done (Ok done) case = tt
 caused_result law old new before after lines answers Done (Err fault) case = caused_fault law old new before after lines answers fault case

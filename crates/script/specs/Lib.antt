@@ -9,5 +9,5 @@ pub mod Runs
 pub mod Splitting
 pub mod Faults
 pub mod Sessions
-pub mod Answers
+pub mod IoLogs
 pub mod Scripts

@@ -3,7 +3,7 @@ use Rattle.std.specs.Prelude.{ℕ, ◌≡◌, ◌+◌, List, ◌∷◌, ◌++◌
 use Rattle.std.specs.Io.KnownBytes.{Appends, IsAtEnd}
 use Rattle.script.specs.declared.fault.ScriptFault.{ScriptFault}
 use Rattle.script.specs.declared.fault.ScriptFault.TheVariants.{OutOfMemory, BadLine, Read, Write}
-use Rattle.script.specs.Answers.{AppendsBeginning}
+use Rattle.script.specs.IoLogs.{AppendsBeginning}
 use Rattle.script.specs.Lines.{line_of}
 use Rattle.script.specs.Runs.{Law, Runs, StopsAt, StopsNear, lines_from, lines_of}
 

@@ -3,12 +3,12 @@
 // The check tries its tactics on what is left of each proof.
 #![tactic(auto)]
 
-mod answers;
 mod command;
 mod engine;
 mod entries;
 mod expansions;
 mod fault;
+mod io_log;
 mod laws;
 mod lines;
 mod numbers;
@@ -20,10 +20,10 @@ mod texts;
 mod verbs;
 mod words;
 
-pub use answers::{Answers, flush_once};
 pub use command::{Command, Form, LineAnswer, LineReply, Shown};
 pub use expansions::perform;
 pub use fault::ScriptFault;
+pub use io_log::{IoLog, flush_once};
 pub use laws::{
     lines_give_their_text_back, numbers_are_sums_of_their_digits, scripts_are_requests,
 };

@@ -2,13 +2,13 @@
 
 ghost use Rattle.std.specs.Prelude.{◌≡◌, [], IfErr, OnErr, OnOk, string_bytes};
 ghost use Rattle.std.specs.Io.KnownBytes.{Appends};
-ghost use Rattle.script.specs.Answers.{none_yet, AppendsBeginning, IsCaused, NoneFailed, write_failing};
+ghost use Rattle.script.specs.IoLogs.{none_yet, AppendsBeginning, IsCaused, NoneFailed, write_failing};
 ghost use Rattle.script.specs.Runs.{worlds};
 ghost use Rattle.script.specs.Scripts.{RunsScript};
 ghost use Rattle.script.specs.declared.fault.ScriptFault.TheVariants.{Write};
 
-use crate::answers::{Answers, flush_once};
 use crate::fault::ScriptFault;
+use crate::io_log::{IoLog, flush_once};
 use crate::session::{Session, take_bytes, take_end};
 use crate::streams::{read_once, write_through};
 use policy::Policy;
@@ -26,7 +26,7 @@ const BLOCK: usize = 4096;
 fn hand_over<W: io::Write>(
     writer: &mut W,
     out: &mut String,
-    answers: &mut Answers,
+    answers: &mut IoLog,
 ) -> Result<(), ScriptFault>
     ensures handed { OnOk result (Appends (W.contents writer.old) (W.contents writer.new) (string_bytes out.old)) }
     ensures begun { OnErr result (AppendsBeginning (W.contents writer.old) (W.contents writer.new) (string_bytes out.old)) }
@@ -52,7 +52,7 @@ pub fn run_noting<R: io::Read, W: io::Write>(
     writer: &mut W,
     world: &mut World,
     later: &[Policy],
-    answers: &mut Answers,
+    answers: &mut IoLog,
 ) -> Result<(), ScriptFault>
     requires { answers.old ≡ none_yet }
     ensures outcome { RunsScript (worlds later.now) world.old world.new (W.contents writer.old) (W.contents writer.new)
@@ -98,6 +98,6 @@ pub fn run_script<R: io::Read, W: io::Write>(
     ensures { RunsScript (worlds later.now) world.old world.new (W.contents writer.old) (W.contents writer.new)
         (R.remaining reader.old) (R.remaining reader.new) result }
 {
-    let mut answers = Answers::none();
+    let mut answers = IoLog::none();
     run_noting(alloc, reader, writer, world, later, &mut answers)
 }

@@ -2,11 +2,11 @@
 
 ghost use Rattle.std.specs.Prelude.{◌≡◌, ◌<◌, ◌^◌, length, IfErr, OnErr, OnOk};
 ghost use Rattle.std.specs.Io.KnownBytes.{Appends};
-ghost use Rattle.script.specs.Answers.{read_more, read_failing, write_failing, after_taking, ReadsBlock, Takes, AppendsBeginning};
+ghost use Rattle.script.specs.IoLogs.{read_more, read_failing, write_failing, after_taking, ReadsBlock, Takes, AppendsBeginning};
 ghost use Rattle.script.specs.declared.fault.ScriptFault.TheVariants.{Read, Write};
 
-use crate::answers::{Answers, ReadAnswer, WriteAnswer};
 use crate::fault::ScriptFault;
+use crate::io_log::{IoLog, ReadAnswer, WriteAnswer};
 use std::io;
 
 // The most writes for one text, of those that are interrupted too (own).
@@ -16,7 +16,7 @@ const MOST_WRITES: u64 = 1 << 40;
 pub fn read_once<R: io::Read>(
     reader: &mut R,
     block: &mut [u8],
-    answers: &mut Answers,
+    answers: &mut IoLog,
 ) -> Result<Option<usize>, ScriptFault>
     requires room { 0 < length block.old }
     requires few { answers.old.reads < 2 ^ 40 }
@@ -34,7 +34,7 @@ pub fn read_once<R: io::Read>(
 
 // Writes once: how many bytes the writer took, 0 where the write was interrupted and is to be made again, and none
 // where it failed or took no byte.
-fn write_once<W: io::Write>(writer: &mut W, bytes: &[u8], answers: &mut Answers) -> Option<usize>
+fn write_once<W: io::Write>(writer: &mut W, bytes: &[u8], answers: &mut IoLog) -> Option<usize>
     ensures taken { Takes (W.contents writer.old) (W.contents writer.new) result bytes.now }
     ensures noted { answers.new ≡ after_taking result answers.old }
 {
@@ -49,7 +49,7 @@ fn write_once<W: io::Write>(writer: &mut W, bytes: &[u8], answers: &mut Answers)
 pub fn write_through<W: io::Write>(
     writer: &mut W,
     bytes: &[u8],
-    answers: &mut Answers,
+    answers: &mut IoLog,
 ) -> Result<(), ScriptFault>
     ensures handed { OnOk result (Appends (W.contents writer.old) (W.contents writer.new) bytes.now) }
     ensures begun { OnErr result (AppendsBeginning (W.contents writer.old) (W.contents writer.new) bytes.now) }

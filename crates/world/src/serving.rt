@@ -30,7 +30,7 @@ struct Opening {
 }
 
 // Serves a request.
-pub(crate) fn obey(
+pub(crate) fn serve_request(
     alloc: Global,
     core: &mut AccessCore,
     rings: &mut Vec<QueueRing>,

@@ -15,7 +15,7 @@ use crate::queue_ring::QueueRing;
 use crate::reply::Reply;
 use crate::request::Request;
 use crate::rings::ring_at;
-use crate::serving::obey;
+use crate::serving::serve_request;
 use access_core::{AccessCore, Kernel, OpenFault};
 use aql_packet::QueueId;
 use policy::Policy;
@@ -120,7 +120,7 @@ impl World {
         ensures served { IsServed self.old request result self.new }
         ensures joined { IsJoined self.new }
     {
-        obey(alloc, &mut self.core, &mut self.rings, request)
+        serve_request(alloc, &mut self.core, &mut self.rings, request)
     }
 
     /// Serves requests in turn, and tells the reply to each. Want of memory for the list of replies is
@@ -137,7 +137,7 @@ impl World {
         match Reserved::with_room(alloc, requests.len()) {
             Ok(replies) => Ok(self.serve_each(alloc, requests, replies)),
             Err(want) => {
-                self.is_joined();
+                self.law_is_joined();
                 Err(want)
             }
         }
@@ -159,12 +159,12 @@ impl World {
             let reply = self.serve(alloc, request);
             replies.push(reply);
         }
-        self.is_joined();
+        self.law_is_joined();
         replies
     }
 
     // Does nothing: what the type keeps is said to callers by it.
-    fn is_joined(&self)
+    fn law_is_joined(&self)
         ensures { IsJoined self.now }
     {
         let _ = &self.rings;

@@ -100,10 +100,10 @@ pub record IsCached (a : Inside) : Type 0 where
   pub sound : All IsSound a.queues.items
   pub few_queues : length a.queues.items ≤ QUEUES
   -- how many packets are in flight, each with all its ranges within regions
-  pub flying : a.flying ≡ length (flight (start_of a) a.audit.items)
+  pub in_flight_count : a.in_flight_count ≡ length (flight (start_of a) a.audit.items)
   pub within : All (λ f. lies_in_regions (region_lengths a.start.policy) f.packet ≡ true) (flight (start_of a) a.audit.items)
   -- room for an entry of each packet in flight, and memory for as many entries as there may be
-  pub room : length a.audit.items + a.flying ≤ a.capacity
+  pub room : length a.audit.items + a.in_flight_count ≤ a.capacity
   pub places : a.capacity ≡ length a.audit.items + a.audit.room
   pub few : a.capacity ≤ MOST_ENTRIES
   -- no more entries came before than may

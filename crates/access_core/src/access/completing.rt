@@ -34,7 +34,7 @@ impl AccessCore {
         let effects = complete(&mut self.signals, queue, packet, &place.packet);
         leave_flight(
             &mut self.queues,
-            &mut self.flying,
+            &mut self.in_flight_count,
             &mut self.grants,
             &mut self.blocks,
             queue,

@@ -64,7 +64,7 @@ fn leave_queue(
 /// and its arguments are dropped.
 pub(crate) fn leave_flight(
     queues: &mut Vec<Queue>,
-    flying: &mut usize,
+    in_flight_count: &mut usize,
     grants: &mut Grants,
     blocks: &mut ArgumentBlocks,
     queue: QueueId,
@@ -72,10 +72,10 @@ pub(crate) fn leave_flight(
     leaving: Leaving,
 )
     requires there { CanLeave queues.old.items queue leaving }
-    requires counted { freed_by packet queues.old.items queue ≤ flying.old }
+    requires counted { freed_by packet queues.old.items queue ≤ in_flight_count.old }
     ensures queues { queues.new.items ≡ with_queue queues.old.items queue (with_leaving packet leaving) }
     ensures capacity { vec_capacity queues.new ≡ vec_capacity queues.old }
-    ensures flying { flying.new ≡ flying.old - freed_by packet queues.old.items queue }
+    ensures in_flight_count { in_flight_count.new ≡ in_flight_count.old - freed_by packet queues.old.items queue }
     ensures released { IfSome packet (λ id. Releases grants.old grants.new queue id) }
     ensures dropped { IfSome packet (λ id. blocks.new.items ≡ filter (λ block. not (is_block queue id block)) blocks.old.items) }
     ensures same { IfNone packet (grants.new ≡ grants.old) }
@@ -83,7 +83,7 @@ pub(crate) fn leave_flight(
     ensures places { places grants.new ≡ places grants.old }
     ensures block_places { places_of blocks.new ≡ places_of blocks.old }
 {
-    *flying -= leave_queue(queues, queue, packet, leaving);
+    *in_flight_count -= leave_queue(queues, queue, packet, leaving);
     if let Some(packet) = packet {
         grants.release(queue, packet);
         blocks.release(queue, packet);

@@ -45,8 +45,8 @@ impl AccessCore {
     /// Opens a core over a policy, with a kernel for each of the policy's: no right is in force, memory
     /// is all zeros, each signal has its initial value, no queue is open, and the audit is empty, with
     /// places for `capacity` entries. Memory for all of them is got here. Refused in this order: there
-    /// isn't one kernel for each of the policy's; one has no checked kernel at its index; the capacity
-    /// isn't 1 to 2^20.
+    /// isn't one kernel for each of the policy's; one has no index, or one that is no checked kernel's; the
+    /// capacity isn't 1 to 2^20.
     pub fn open(
         alloc: Global,
         policy: Policy,
@@ -79,7 +79,7 @@ fn open_fault(policy: &Policy, kernels: &[Kernel], capacity: usize) -> Option<Op
     }
 }
 
-// The index of the first kernel whose own index is that of no checked kernel, if there is one.
+// The place of the first kernel that has no index, or one that is no checked kernel's, if there is one.
 fn first_missing(kernels: &[Kernel]) -> Option<usize>
     ensures place { result ≡ first_missing kernels.now }
     ensures within { IfSome result (λ index. index < length kernels.now) }
@@ -275,7 +275,7 @@ fn blank(
         memory,
         signals,
         queues: Vec::new(alloc),
-        flying: 0,
+        in_flight_count: 0,
         capacity,
         audit,
     }

@@ -96,7 +96,7 @@ impl AccessCore {
         };
         leave_flight(
             &mut self.queues,
-            &mut self.flying,
+            &mut self.in_flight_count,
             &mut self.grants,
             &mut self.blocks,
             queue,

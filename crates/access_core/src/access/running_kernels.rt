@@ -79,7 +79,7 @@ impl AccessCore {
         let view = self.view(alloc, queue, packet, client)?;
         let kernel = kernel_at(self.kernels.as_slice(), dispatch.kernel_object);
         let asked = Dispatch {
-            kernel: kernel.entry,
+            kernel: kernel.index(),
             group_size: group_size(&dispatch),
             grid_size: grid_size(&dispatch),
             group_segment_size: dispatch.group_segment_size,
@@ -118,7 +118,7 @@ impl AccessCore {
         };
         leave_flight(
             &mut self.queues,
-            &mut self.flying,
+            &mut self.in_flight_count,
             &mut self.grants,
             &mut self.blocks,
             queue,

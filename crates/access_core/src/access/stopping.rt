@@ -23,7 +23,7 @@ impl AccessCore {
         let barrier = self.may_stop(queue)?;
         leave_flight(
             &mut self.queues,
-            &mut self.flying,
+            &mut self.in_flight_count,
             &mut self.grants,
             &mut self.blocks,
             queue,

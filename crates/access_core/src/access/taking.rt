@@ -267,7 +267,7 @@ impl AccessCore {
         self.grants
             .hold_reserved(client, queue, packet, rights.as_slice());
         place_next(&mut self.queues, queue, packet, *launching.asked.packet());
-        self.flying += 1;
+        self.in_flight_count += 1;
         let event = Event::Take {
             queue,
             packet,

@@ -1,6 +1,6 @@
 -- The lines that ended in what was read are done, and no reply waits.
 use Rattle.std.proofs.Common.{◌≡◌, ◌+◌, ◌*◌, ◌≤◌, ◌^◌, []}
-use Rattle.script.specs.Answers.{NoneFailed}
+use Rattle.script.specs.IoLogs.{NoneFailed}
 use Rattle.script.specs.Runs.{worlds}
 use Rattle.script.specs.Sessions.{pending}
 use Rattle.script.proofs.Blocks.{Going}

@@ -43,7 +43,7 @@ invariant_of-self c =
           (flight-released (start_of a) a.audit.items _ _ _ c.args.queue c.args.packet is) c.leave_flight.ensures.released c.leave_flight.ensures.dropped;
       memory = memory-still a.memory _ (λ x byte. refl);
       values = refl;
-      queues = rw (c.leave_flight.ensures.queues, c.leave_flight.ensures.flying)
+      queues = rw (c.leave_flight.ensures.queues, c.leave_flight.ensures.in_flight_count)
           (queues-released a c.self.invariant c.args.queue c.args.packet _ _ _ is refl at (with_leaving (Some c.args.packet) (leaving.Failed error)) (failed error c.args.packet)
           refl (sound-failed a c.self.invariant c.args.queue c.args.packet at error found.flying found.found) refl (λ m v. grind arith));
     })

@@ -39,7 +39,7 @@ invariant_of-self c =
           (flight-released (start_of a) a.audit.items _ _ _ c.args.queue c.args.packet is) c.leave_flight.ensures.released c.leave_flight.ensures.dropped;
       memory = memory-still a.memory _ (λ x byte. memory-completed a.signals (completion_signal p) c.args.queue c.args.packet x byte);
       values = rw c.complete-effects.ensures.effects at c.complete-effects.ensures.values;
-      queues = rw (c.leave_flight.ensures.queues, c.leave_flight.ensures.flying)
+      queues = rw (c.leave_flight.ensures.queues, c.leave_flight.ensures.in_flight_count)
           (queues-released a c.self.invariant c.args.queue c.args.packet _ _ _ is refl at (with_leaving (Some c.args.packet) leaving.Completed) (λ v. record v { places = without_packet c.args.packet v.places })
           refl (sound-released at.q c.args.packet at.sound) refl (λ m v. grind arith));
     })

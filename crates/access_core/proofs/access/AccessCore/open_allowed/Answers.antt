@@ -42,7 +42,7 @@ invariant_of-self-2 c =
             }));
         few_queues = rw push (few_after a.queues.items _ (openings-count a c.self.invariant
             (subst (λ h. length (openings (beginning h) h.entries) < QUEUES) (sym (seen c.self.view_is)) fewer.few)));
-        flying = c.self.invariant.flying ∙ ap length (sym (flight-quiet (start_of a) a.audit.items _ _ _ calm));
+        in_flight_count = c.self.invariant.in_flight_count ∙ ap length (sym (flight-quiet (start_of a) a.audit.items _ _ _ calm));
         within = none-launched (Open c.args.client c.args.agent c.args.size) (outcome.Opened c.args.queue) refl (start_of a);
       };
     })

@@ -29,7 +29,7 @@ invariant_of-self c =
           c.leave_flight.ensures.same_blocks;
       memory = memory-still a.memory _ (λ x byte. memory-released c.args.queue barrier x byte);
       values = sym (values-released c.args.queue barrier a.signals);
-      queues = rw (c.leave_flight.ensures.queues, c.leave_flight.ensures.flying) (queues-stopped a c.self.invariant c.args.queue at barrier);
+      queues = rw (c.leave_flight.ensures.queues, c.leave_flight.ensures.in_flight_count) (queues-stopped a c.self.invariant c.args.queue at barrier);
     })
     _ (seen c.self.view_is) c.in_ok-barrier.ensures.may
 

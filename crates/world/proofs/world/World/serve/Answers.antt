@@ -12,23 +12,23 @@ pub invariant_of-self : goal.invariant_of-self
 invariant_of-self c =
     let old = c.self.inside in
     let h = c.self.invariant.0 in
-    let new : Joined = World c.obey.new.core.history c.obey.new.rings.items in
-    let served : IsServed (World old.core.history old.rings.items) c.args.request c.obey.result new =
-    obeyed_served old.core.history c.obey.new.core.history old.rings.items c.obey.new.rings.items c.self.invariant.1 c.obey.result c.args.request c.obey.ensures in (
-      record { first = h.first; prior = h.prior ++ handed c.obey.result; behind = served_kept h.first h.prior (World old.core.history old.rings.items) h.behind c.args.request c.obey.result new served },
-      obeyed_decided old.core.history c.obey.new.core.history old.rings.items c.obey.new.rings.items h.first h.prior h.behind c.self.invariant.1 c.obey.result c.args.request c.obey.ensures,
+    let new : Joined = World c.serve_request.new.core.history c.serve_request.new.rings.items in
+    let served : IsServed (World old.core.history old.rings.items) c.args.request c.serve_request.result new =
+    obeyed_served old.core.history c.serve_request.new.core.history old.rings.items c.serve_request.new.rings.items c.self.invariant.1 c.serve_request.result c.args.request c.serve_request.ensures in (
+      record { first = h.first; prior = h.prior ++ handed c.serve_request.result; behind = served_kept h.first h.prior (World old.core.history old.rings.items) h.behind c.args.request c.serve_request.result new served },
+      obeyed_decided old.core.history c.serve_request.new.core.history old.rings.items c.serve_request.new.rings.items h.first h.prior h.behind c.self.invariant.1 c.serve_request.result c.args.request c.serve_request.ensures,
     )
 
 pub returns-clause-served : goal.returns-clause-served
 returns-clause-served c =
-    subst (λ (w : Joined). IsServed w c.args.request c.obey.result (World c.obey.new.core.history c.obey.new.rings.items)) c.self.view_is
-    (obeyed_served c.self.inside.core.history c.obey.new.core.history c.self.inside.rings.items c.obey.new.rings.items c.self.invariant.1 c.obey.result c.args.request c.obey.ensures)
+    subst (λ (w : Joined). IsServed w c.args.request c.serve_request.result (World c.serve_request.new.core.history c.serve_request.new.rings.items)) c.self.view_is
+    (obeyed_served c.self.inside.core.history c.serve_request.new.core.history c.self.inside.rings.items c.serve_request.new.rings.items c.self.invariant.1 c.serve_request.result c.args.request c.serve_request.ensures)
 
 pub returns-clause-joined : goal.returns-clause-joined
 returns-clause-joined c =
     let old = c.self.inside in
     let h = c.self.invariant.0 in
-    let new : Joined = World c.obey.new.core.history c.obey.new.rings.items in
-    let served : IsServed (World old.core.history old.rings.items) c.args.request c.obey.result new =
-    obeyed_served old.core.history c.obey.new.core.history old.rings.items c.obey.new.rings.items c.self.invariant.1 c.obey.result c.args.request c.obey.ensures in
-    record { first = h.first; prior = h.prior ++ handed c.obey.result; behind = served_kept h.first h.prior (World old.core.history old.rings.items) h.behind c.args.request c.obey.result new served }
+    let new : Joined = World c.serve_request.new.core.history c.serve_request.new.rings.items in
+    let served : IsServed (World old.core.history old.rings.items) c.args.request c.serve_request.result new =
+    obeyed_served old.core.history c.serve_request.new.core.history old.rings.items c.serve_request.new.rings.items c.self.invariant.1 c.serve_request.result c.args.request c.serve_request.ensures in
+    record { first = h.first; prior = h.prior ++ handed c.serve_request.result; behind = served_kept h.first h.prior (World old.core.history old.rings.items) h.behind c.args.request c.serve_request.result new served }

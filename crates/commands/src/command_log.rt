@@ -3,25 +3,25 @@
 ghost use Rattle.std.specs.Prelude.{◌≡◌};
 ghost use Rattle.commands.specs.Commands.{none_noted};
 
-use script::Answers;
+use script::IoLog;
 
 /// What the reader and the writers of a command answered so far.
 #[derive(Drop)]
-pub struct Noted {
+pub struct CommandLog {
     /// What the script's reader answered, and the writer of its replies, or of a policy's counts.
-    pub asked: Answers,
+    pub asked: IoLog,
     /// What the writer of faults answered.
-    pub faults: Answers,
+    pub faults: IoLog,
 }
 
-impl Noted {
+impl CommandLog {
     /// None of them was asked yet.
-    pub fn none() -> Noted
+    pub fn none() -> CommandLog
         ensures { result ≡ none_noted }
     {
-        Noted {
-            asked: Answers::none(),
-            faults: Answers::none(),
+        CommandLog {
+            asked: IoLog::none(),
+            faults: IoLog::none(),
         }
     }
 }

@@ -3,7 +3,7 @@ use Rattle.std.proofs.Common.{◌∙◌, ◌++◌, ◌∷◌, [], ap, arith}
 use Rattle.std.proofs.lemmas.Result.{err_from_is_err_and}
 use Rattle.commands.specs.Kernels.{kernel_of}
 use Rattle.commands.proofs.Rows.{passes-next, refused-next, rows-next}
-use Rattle.commands.proofs.kernels.check_kernels.Goals as goal
+use Rattle.commands.proofs.kernel_judging.check_kernels.Goals as goal
 
 pub kernels-preserved : goal.kernels-preserved
 kernels-preserved c = (

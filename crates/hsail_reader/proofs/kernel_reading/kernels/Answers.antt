@@ -7,7 +7,7 @@ use Rattle.hsail_reader.specs.Terminals.{semicolon}
 use Rattle.hsail_reader.specs.Tokens.{token_view, token_views}
 use Rattle.hsail_reader.proofs.Decided.{kernel_shortens}
 use Rattle.hsail_reader.proofs.Loop as loop
-use Rattle.hsail_reader.proofs.kernels.kernels.Goals as goal
+use Rattle.hsail_reader.proofs.kernel_reading.kernels.Goals as goal
 
 pub kernels-init : goal.kernels-init
 unfolding kernels

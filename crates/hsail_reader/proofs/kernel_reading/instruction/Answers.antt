@@ -1,6 +1,6 @@
 use Rattle.std.proofs.Common.{Some, ap, sym, ◌∙◌}
 use Rattle.hsail_reader.proofs.RowOperations.{word_of_row}
-use Rattle.hsail_reader.proofs.kernels.instruction.Goals as goal
+use Rattle.hsail_reader.proofs.kernel_reading.instruction.Goals as goal
 
 pub operands-requires : goal.operands-requires
 operands-requires c =

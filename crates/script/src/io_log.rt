@@ -3,7 +3,7 @@
 
 ghost use Rattle.std.specs.Prelude.{◌≡◌, ◌<◌, ◌^◌, length, IfErr, OnErr, OnOk};
 ghost use Rattle.std.specs.Io.KnownBytes.{Keeps};
-ghost use Rattle.script.specs.Answers.{none_yet, after_read, after_write, write_failing, HasRead, HasTaken};
+ghost use Rattle.script.specs.IoLogs.{none_yet, after_read, after_write, write_failing, HasRead, HasTaken};
 ghost use Rattle.script.specs.declared.fault.ScriptFault.TheVariants.{Write};
 
 use crate::fault::ScriptFault;
@@ -11,7 +11,7 @@ use std::io;
 
 /// What the reader and the writer of a run answered so far.
 #[derive(Drop)]
-pub struct Answers {
+pub struct IoLog {
     // How many reads were made.
     reads: u64,
     // Whether a read failed.
@@ -42,12 +42,12 @@ pub(crate) enum WriteAnswer {
     Failed,
 }
 
-impl Answers {
+impl IoLog {
     /// Neither was asked yet.
-    pub fn none() -> Answers
+    pub fn none() -> IoLog
         ensures { result ≡ none_yet }
     {
-        Answers {
+        IoLog {
             reads: 0,
             read_failed: false,
             write_failed: false,
@@ -100,7 +100,7 @@ impl Answers {
 }
 
 /// Has the writer pass on what it holds.
-pub fn flush_once<W: io::Write>(writer: &mut W, answers: &mut Answers) -> Result<(), ScriptFault>
+pub fn flush_once<W: io::Write>(writer: &mut W, answers: &mut IoLog) -> Result<(), ScriptFault>
     ensures kept { Keeps (W.contents writer.old) (W.contents writer.new) }
     ensures fault { IfErr result (λ fault. fault ≡ Write) }
     ensures flushed { OnOk result (answers.new ≡ answers.old) }

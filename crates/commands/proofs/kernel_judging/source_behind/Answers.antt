@@ -3,7 +3,7 @@ use Rattle.std.proofs.Common.{◌+◌}
 use Rattle.policy.specs.Policy.{row_of}
 use Rattle.access_core.proofs.PolicyRows.{rows_none}
 use Rattle.commands.proofs.Rows.{copied-some}
-use Rattle.commands.proofs.kernels.source_behind.Goals as goal
+use Rattle.commands.proofs.kernel_judging.source_behind.Goals as goal
 
 pub unwrap-requires : goal.unwrap-requires
 unwrap-requires c =

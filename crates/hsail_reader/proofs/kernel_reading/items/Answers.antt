@@ -7,7 +7,7 @@ use Rattle.hsail_reader.specs.Terminals.{close_brace, open_brace}
 use Rattle.hsail_reader.specs.Tokens.{token_view, token_views}
 use Rattle.hsail_reader.proofs.Decided.{item_shortens}
 use Rattle.hsail_reader.proofs.Loop as loop
-use Rattle.hsail_reader.proofs.kernels.items.Goals as goal
+use Rattle.hsail_reader.proofs.kernel_reading.items.Goals as goal
 
 pub items-init : goal.items-init
 unfolding items

@@ -3,7 +3,7 @@
 ghost use Rattle.std.specs.Prelude.{◌≡◌, ◌+◌, ◌<◌, ◌++◌, ◌∷◌, [], IfOk, IfErr, OnOk, Some, length};
 ghost use Rattle.policy.specs.Policy.{row_of};
 ghost use Rattle.kernel_check.specs.Checks.{checking};
-ghost use Rattle.commands.specs.Kernels.{AreLaunchable, AreRefused, ChecksSource, ChecksText, checked_or_cause, checked_text, entry_in, JudgesKernel};
+ghost use Rattle.commands.specs.Kernels.{AreLaunchable, AreRefused, ChecksSource, ChecksText, checked_or_cause, checked_text, JudgesKernel};
 
 use access_core::Kernel;
 use aql_packet::KernelObject;
@@ -68,7 +68,7 @@ pub enum KernelError {
 
 impl From<AllocError> for KernelError {
     ghost use Rattle.std.specs.Prelude.{◌≡◌};
-    ghost use Rattle.commands.specs.declared.kernels.KernelError.TheVariants as error;
+    ghost use Rattle.commands.specs.declared.kernel_judging.KernelError.TheVariants as error;
 
     ghost from_gives = { λ _ why. why ≡ error.OutOfMemory };
 
@@ -106,21 +106,13 @@ fn checked_module(alloc: Global, number: u32, source: &Module) -> Result<Checked
     }
 }
 
-// The index of the kernel that an entry names. Where none has the name it is that behind them all, by
-// which no core is opened.
-fn entry_in(checked: &Checked, entry: &[u8]) -> u32
-    ensures { result ≡ entry_in checked.now entry.now }
-{
-    checked.find(entry).unwrap_or(checked.count())
-}
-
 // What packets may launch by a source, that of the kernel of a number.
 fn check_source(alloc: Global, number: u32, source: &KernelSource) -> Result<Kernel, KernelError>
     ensures { ChecksSource source.now number result }
 {
     match checked_text(alloc, number, source.text().as_bytes()) {
         Ok(checked) => {
-            let entry = entry_in(&checked, source.entry().as_bytes());
+            let entry = checked.find(source.entry().as_bytes());
             Ok(Kernel { checked, entry })
         }
         Err(why) => Err(why),
@@ -155,8 +147,8 @@ fn put_kernel(kernels: &mut Vec<Kernel>, kernel: Kernel) -> Result<(), AllocErro
 }
 
 /// Reads and checks each kernel of a policy, in order, and tells what packets may launch by them, or the
-/// first that is refused. A kernel whose module has none of its entry's name is let pass: its index is
-/// that of no kernel, and no core is opened with it.
+/// first that is refused. A kernel whose module has none of its entry's name is let pass: it has no
+/// index, and no core is opened with it.
 pub fn check_kernels(alloc: Global, policy: &Policy) -> Result<Vec<Kernel>, KernelError>
     ensures passed { IfOk result (λ kernels. AreLaunchable policy.now.kernels kernels.items) }
     ensures refused { IfErr result (AreRefused policy.now.kernels) }

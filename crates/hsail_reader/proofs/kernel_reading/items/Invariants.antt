@@ -4,7 +4,7 @@ use Rattle.hsail_reader.specs.Grammars.{read, all_at, begins}
 use Rattle.hsail_reader.specs.Terminals.{close_brace}
 use Rattle.hsail_reader.specs.Tokens.{token_views}
 use Rattle.hsail_reader.proofs.Loop.{with_front}
-use Rattle.hsail_reader.proofs.kernels.items.Given as goal
+use Rattle.hsail_reader.proofs.kernel_reading.items.Given as goal
 
 abbrev pub invariant-items : goal.invariant-items
 invariant-items l =

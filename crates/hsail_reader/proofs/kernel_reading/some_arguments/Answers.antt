@@ -7,7 +7,7 @@ use Rattle.hsail_reader.specs.Terminals.{close_parenthesis}
 use Rattle.hsail_reader.specs.Tokens.{token_view, token_views}
 use Rattle.hsail_reader.proofs.Decided.{next_argument_shortens}
 use Rattle.hsail_reader.proofs.Loop as loop
-use Rattle.hsail_reader.proofs.kernels.some_arguments.Goals as goal
+use Rattle.hsail_reader.proofs.kernel_reading.some_arguments.Goals as goal
 
 pub arguments-init : goal.arguments-init
 unfolding some_arguments

@@ -3,7 +3,7 @@ use Rattle.hsail_reader.specs.Grammar.{is_none_left, kernel, kernels}
 use Rattle.hsail_reader.specs.Grammars.{read, all_at}
 use Rattle.hsail_reader.specs.Tokens.{token_views}
 use Rattle.hsail_reader.proofs.Loop.{with_front}
-use Rattle.hsail_reader.proofs.kernels.kernels.Given as goal
+use Rattle.hsail_reader.proofs.kernel_reading.kernels.Given as goal
 
 abbrev pub invariant-kernels : goal.invariant-kernels
 invariant-kernels l =

@@ -1,7 +1,7 @@
 -- The kernels so far are let pass, and what packets may launch by them is there.
 use Rattle.std.proofs.Common.{◌≡◌, ℕ, ◌≤◌, map, take}
 use Rattle.commands.specs.Kernels.{Passes, kernel_of}
-use Rattle.commands.proofs.kernels.check_kernels.Given as goal
+use Rattle.commands.proofs.kernel_judging.check_kernels.Given as goal
 
 abbrev pub invariant-kernels : goal.invariant-kernels
 invariant-kernels l =

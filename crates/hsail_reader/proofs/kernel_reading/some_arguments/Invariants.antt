@@ -4,7 +4,7 @@ use Rattle.hsail_reader.specs.Grammars.{read, all_at, begins}
 use Rattle.hsail_reader.specs.Terminals.{close_parenthesis}
 use Rattle.hsail_reader.specs.Tokens.{token_views}
 use Rattle.hsail_reader.proofs.Loop.{with_front}
-use Rattle.hsail_reader.proofs.kernels.some_arguments.Given as goal
+use Rattle.hsail_reader.proofs.kernel_reading.some_arguments.Given as goal
 
 abbrev pub invariant-arguments : goal.invariant-arguments
 invariant-arguments l =
