@@ -4,7 +4,7 @@ use Rattle.std.proofs.Common.{◌≡◌, ◌∙◌, ap, refl, sym, subst, true, 
 use Rattle.access_core.proofs.Terms.{History, IsNext-from_owed, Launched, MayHold, Packet, Take, TakesNext, arguments_of, as_rights, entry_of, launched_by, lies_in_regions, owner}
 use Rattle.access_core.proofs.Terms.{region_lengths, rights_at_launch, start_of}
 use Rattle.access_core.proofs.Seen.{seen}
-use Rattle.access_core.specs.inner.Deciding.{opening_of}
+use Rattle.access_core.specs.inner.Deciding.{IsBlockPlaced, opening_of}
 use Rattle.access_core.proofs.HeldAfter.{grants-launched, launch-in_force}
 use Rattle.access_core.proofs.CachedMore.{IsCached-more, memory-still, owed-inside}
 use Rattle.access_core.proofs.QueueAt.{flight-launched}
@@ -28,7 +28,9 @@ place_next-requires c =
     (can.opened.q, can.opened.found, can.few, can.opened.small)
 
 pub argument_block-requires : goal.argument_block-requires
-argument_block-requires c = block-placed c.args.self.now.history c.args.queue c.args.packet c.args.bytes.now c.args.launching.asked.packet c.requires.0 c.requires.1
+argument_block-requires c =
+    subst (λ p. IsBlockPlaced c.args.self.now.history p) (sym c.packet.ensures)
+    (block-placed c.args.self.now.history c.args.queue c.args.packet c.args.bytes.now c.args.launching.asked.packet c.requires.0 c.requires.1)
 
 pub invariant_of-self-2 : goal.invariant_of-self-2
 invariant_of-self-2 c =
@@ -52,9 +54,10 @@ invariant_of-self-2 c =
           (c.as_slice-2.ensures ∙ c.in_ok-rights.ensures ∙ ap (λ (h : History). map as_rights (rights_at_launch (beginning h) h.entries (opening_of c.args.launching) p))
           (sym (seen c.self.view_is)))
           owned c.hold_reserved.ensures.holds
-          (c.in_ok-block.ensures ∙ ap (λ (h : History). arguments_of (beginning h) h.entries p) (sym (seen c.self.view_is))) c.in_ok-push.ensures.ok;
+          (c.in_ok-block.ensures ∙ ap (λ q. arguments_of (beginning c.args.self.now.history) c.args.self.now.history.entries q) c.packet.ensures
+          ∙ ap (λ (h : History). arguments_of (beginning h) h.entries p) (sym (seen c.self.view_is))) c.in_ok-push.ensures.ok;
       memory = memory-still a.memory _ (λ x byte. refl);
       values = refl;
-      queues = rw c.place_next.ensures (queues-launched a c.self.invariant c.args.queue c.args.packet c.args.bytes.now can p c.requires.1 next.id_is within);
+      queues = rw (c.place_next.ensures, c.packet-2.ensures) (queues-launched a c.self.invariant c.args.queue c.args.packet c.args.bytes.now can p c.requires.1 next.id_is within);
     })
     _ (seen c.self.view_is) c.requires.0

@@ -3,6 +3,7 @@ use Rattle.core_model.specs.History.{beginning}
 use Rattle.std.proofs.Common.{◌≡◌, refl, ◌∙◌, true, false, Some, None, [], length, rules, ap, subst, nat_lt, ◌||◌, ◌==◌, map, option_map, arith}
 use Rattle.packet_processor.proofs.QueueingLemmas.{launching-waits, launching-goes}
 use Rattle.access_core.proofs.Seen.{seen}
+use Rattle.core_model.specs.declared.origin.Opening.{Opening}
 use Rattle.access_core.proofs.Calls.{due-by}
 use Rattle.access_core.proofs.TakeLemmas.{judged-inside, owner-kept, room-launched, may-hold, take-unknown, take-known, within-launched, takes-next}
 use Rattle.access_core.proofs.Terms.{Denied, History, Launched, MayHold, Place, Take, TakesNext, Waiting, answers, barrier_bit, cached_opening, enters}
@@ -72,7 +73,9 @@ returns-else-is_full_for_launch-clause-may c =
     let down : (nat_lt 0 (length c.in-Some.kept.now.errors.items) || c.in-Some.kept.now.stopped) ≡ false = cc in
     let next : (c.args.packet.0 == c.in-Some.kept.now.next) ≡ true = search rules in
     let waits : cause_to_wait (map (λ (p : Place). p.packet) c.in-Some.kept.now.places) (barrier_bit c.args.bytes.now) ≡ None =
-    cc (launching-goes _ c.in-Go.ensures, c.as_slice-2.ensures, c.header.ensures) in (
+    cc (launching-goes _ c.in-Go.ensures, c.as_slice-2.ensures, c.header.ensures) in
+    let same : cached_opening c.in-Some.kept.now ≡ record { client = c.in-Some.kept.now.client; agent = c.in-Launch.asked.agent } =
+    rw c.in-Launch.ensures.2 refl in (
       due-by c.self.inside _ (seen c.self.view_is) (Take c.args.queue c.args.packet c.args.bytes.now) (enters (outcome.Taken Launched) [])
           (take-known c.self.inside c.self.invariant _ _ _ _ some ∙ (rw
           (down, next, waits, judged-inside c.self.inside _ (seen c.self.view_is) c.in-Some.kept.now c.args.bytes.now None c.in-Launch.ensures.1) refl))
@@ -83,11 +86,12 @@ returns-else-is_full_for_launch-clause-may c =
           (judged-inside c.self.inside _ (seen c.self.view_is) c.in-Some.kept.now c.args.bytes.now None c.in-Launch.ensures.1)),
       subst (λ (h : History). TakesNext h c.args.queue) (seen c.self.view_is) (takes-next c.self.inside c.self.invariant _ _ _ some down waits),
       subst (λ (h : History). owner (beginning h) h.entries c.args.queue ≡ Some (cached_opening c.in-Some.kept.now)) (seen c.self.view_is)
-          (owner-kept c.self.inside c.args.queue c.self.invariant ∙ ap (option_map cached_opening) some),
-      subst (λ (h : History). MayHold h (cached_opening c.in-Some.kept.now) c.in-Launch.asked.packet) (seen c.self.view_is)
+          (owner-kept c.self.inside c.args.queue c.self.invariant ∙ ap (option_map cached_opening) some) ∙ ap Some same,
+      subst (λ (o : Opening). MayHold c.args.self.now.history o c.in-Launch.asked.packet) same
+          (subst (λ (h : History). MayHold h (cached_opening c.in-Some.kept.now) c.in-Launch.asked.packet) (seen c.self.view_is)
           (may-hold (start_of c.self.inside) c.self.inside.audit.items (entry_of (Take c.args.queue c.args.packet c.args.bytes.now) (outcome.Taken Launched) [])
           (cached_opening c.in-Some.kept.now) c.args.bytes.now c.in-Launch.asked.packet c.in-Launch.ensures.0
-          (judged-inside c.self.inside _ (seen c.self.view_is) c.in-Some.kept.now c.args.bytes.now None c.in-Launch.ensures.1)),
+          (judged-inside c.self.inside _ (seen c.self.view_is) c.in-Some.kept.now c.args.bytes.now None c.in-Launch.ensures.1))),
     )
 
 pub returns-else-is_full-clause-may : goal.returns-else-is_full-clause-may
