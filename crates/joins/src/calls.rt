@@ -103,7 +103,8 @@ fn check_module(alloc: Global, module: &Module) -> Result<Checked, CheckError> {
 fn kernel_of(alloc: Global, source: &KernelSource) -> Result<Kernel, Fault> {
     let module = read_text(alloc, source)?;
     let checked = check_module(alloc, &module)?;
-    Ok(Kernel { checked, entry: 0 })
+    let entry = Some(0);
+    Ok(Kernel { checked, entry })
 }
 
 /// The kernels of the policy, one for its one row.
