@@ -1,8 +1,9 @@
 #!/usr/bin/env python3
-"""Runs `rt ci`, and behind it the trials of this folder on the program that it has proved and built.
+"""Runs `rt ci`, and behind it the trials of this folder on the programs that it has proved and built.
 
 The last line is `N passed, M failed` over all, and the status is 0 only where nothing failed. `rt ci` leaves each
-program that it has proved as crates/NAME/out/NAME. With a path, gate.py PROGRAM, the trials alone are run, on that one.
+program that it has proved as crates/NAME/out/NAME. With a path, gate.py PROGRAM, the trials alone are run, on that one
+in place of brokerd.
 """
 import os
 import re
@@ -12,6 +13,7 @@ import sys
 from trial import HERE, TOP
 
 CASES = f"{TOP}/crates/cases/data"
+JOINS = f"{TOP}/crates/joins/out/joins"
 TRIALS = ("words.py", "memory.py", "streams.py", "texts.py", "explain.py", "picture.py", "rotation.py", "docs.py")
 
 
@@ -46,9 +48,9 @@ def main(program=None):
     counts = [] if program else [told(["rt", "ci"])]
     program = program or f"{TOP}/crates/brokerd/out/brokerd"
     counts.append(written_anew())
-    for script in TRIALS:
+    for script, tried in [*((it, program) for it in TRIALS), ("joins.py", JOINS)]:
         print(f"== {script}", flush=True)
-        counts.append(told([sys.executable, "-B", f"{HERE}/{script}", os.path.abspath(program)]))
+        counts.append(told([sys.executable, "-B", f"{HERE}/{script}", os.path.abspath(tried)]))
     passed, failed = (sum(column) for column in zip(*counts))
     print(f"{passed} passed, {failed} failed")
     sys.exit(1 if failed else 0)
