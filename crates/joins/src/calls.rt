@@ -99,14 +99,14 @@ fn check_module(alloc: Global, module: &Module) -> Result<Checked, CheckError> {
     check(alloc, module)
 }
 
-/// The kernel of a text, the only one.
+// The kernel of a text, the only one.
 fn kernel_of(alloc: Global, source: &KernelSource) -> Result<Kernel, Fault> {
     let module = read_text(alloc, source)?;
     let checked = check_module(alloc, &module)?;
     Ok(Kernel { checked, entry: 0 })
 }
 
-/// The kernels of the policy, one for its one row.
+// The kernels of the policy, one for its one row.
 fn kernels(alloc: Global, policy: &Policy) -> Result<Vec<Kernel>, Fault> {
     match policy.kernel_source(TURN) {
         Some(source) => Ok(vec![in alloc; kernel_of(alloc, source)?]?),
@@ -159,7 +159,7 @@ fn reload(alloc: Global, core: &mut AccessCore, policy: Policy) -> Result<(), (R
     core.reload(alloc, policy)
 }
 
-/// The argument's bytes.
+// The argument's bytes.
 fn argument(alloc: Global) -> Result<Sequence<u8>, AllocError> {
     Ok(Sequence::from_vec(Vec::from_slice(alloc, &START)?))
 }
