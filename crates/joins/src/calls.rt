@@ -99,7 +99,7 @@ fn check_module(alloc: Global, module: &Module) -> Result<Checked, CheckError> {
     check(alloc, module)
 }
 
-/// The kernel of a text, the only one.
+// The kernel of a text, the only one.
 fn kernel_of(alloc: Global, source: &KernelSource) -> Result<Kernel, Fault> {
     let module = read_text(alloc, source)?;
     let checked = check_module(alloc, &module)?;
@@ -107,7 +107,7 @@ fn kernel_of(alloc: Global, source: &KernelSource) -> Result<Kernel, Fault> {
     Ok(Kernel { checked, entry })
 }
 
-/// The kernels of the policy, one for its one row.
+// The kernels of the policy, one for its one row.
 fn kernels(alloc: Global, policy: &Policy) -> Result<Vec<Kernel>, Fault> {
     match policy.kernel_source(TURN) {
         Some(source) => Ok(vec![in alloc; kernel_of(alloc, source)?]?),
@@ -160,7 +160,7 @@ fn reload(alloc: Global, core: &mut AccessCore, policy: Policy) -> Result<(), (R
     core.reload(alloc, policy)
 }
 
-/// The argument's bytes.
+// The argument's bytes.
 fn argument(alloc: Global) -> Result<Sequence<u8>, AllocError> {
     Ok(Sequence::from_vec(Vec::from_slice(alloc, &START)?))
 }
