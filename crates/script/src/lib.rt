@@ -21,7 +21,7 @@ mod verbs;
 mod words;
 
 pub use answers::{Answers, flush_once};
-pub use command::{Command, Form, LineAnswer, LineReply, Shown};
+pub use command::{Command, Form, LineAnswer, LineReply};
 pub use expansions::perform;
 pub use fault::ScriptFault;
 pub use laws::{
