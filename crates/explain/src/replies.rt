@@ -11,7 +11,7 @@ use aql_packet::{PacketId, QueueId};
 use core_model::{Answer, Entry, Outcome, Part, Polled, Taken, Worked};
 use script::{LineAnswer, LineReply};
 use std::alloc::{AllocError, Global};
-use world::{Refusal, World};
+use world::{Refusal, Sent, World};
 
 // The queue that a line asks something of; 0 where it asks nothing of one.
 fn queue_of(asked: Asked) -> QueueId {
@@ -112,6 +112,21 @@ fn not_publishable(out: &mut String, scene: &Scene<'_>) -> Result<(), AllocError
     )
 }
 
+// What is told of a packet that was to be published.
+fn tell_sent(
+    out: &mut String,
+    scene: &Scene<'_>,
+    world: &World,
+    queue: QueueId,
+    sent: &Sent,
+) -> Result<(), AllocError> {
+    match sent {
+        Sent::Published(_) => Ok(()),
+        Sent::Busy { ticket, .. } => busy(out, scene, world, queue, *ticket),
+        Sent::NotPublishable(_) => not_publishable(out, scene),
+    }
+}
+
 // What is told of a reply.
 fn tell(
     alloc: Global,
@@ -124,8 +139,7 @@ fn tell(
     match reply {
         Ok(LineAnswer::Answered { answer, .. }) => answered(alloc, out, scene, asked, answer),
         Ok(LineAnswer::Empty) => empty(out, scene, world, queue_of(asked)),
-        Ok(LineAnswer::Busy { ticket, .. }) => busy(out, scene, world, queue_of(asked), *ticket),
-        Ok(LineAnswer::NotPublishable(_)) => not_publishable(out, scene),
+        Ok(LineAnswer::Sent(sent)) => tell_sent(out, scene, world, queue_of(asked), sent),
         Ok(_) => Ok(()),
         Err(Refusal::Core(refusal)) => tell_refusal(alloc, out, scene, world, asked, refusal),
         Err(Refusal::NotAStep) => tell_step(out, scene, world, asked),
@@ -149,7 +163,7 @@ fn looks_back(answer: &world::Answer) -> bool {
 fn wants_entries(reply: &LineReply) -> bool {
     match reply {
         Ok(LineAnswer::Answered { answer, .. }) => looks_back(answer),
-        Ok(LineAnswer::Empty | LineAnswer::Busy { .. }) => true,
+        Ok(LineAnswer::Empty | LineAnswer::Sent(Sent::Busy { .. })) => true,
         Ok(_) => false,
         Err(_) => true,
     }

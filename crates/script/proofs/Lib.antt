@@ -8,5 +8,4 @@ pub mod Appending
 pub mod Writing
 pub mod Blocks
 pub mod Joining
-pub mod Acting
 pub mod Reaching

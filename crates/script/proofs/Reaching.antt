@@ -1,153 +1,22 @@
 -- What a line does is a list of requests.
-use Rattle.std.proofs.Common.{◌≡◌, ℕ, zero, suc, ◌+◌, Bool, true, false, List, [], ◌∷◌, ◌++◌, drop, length, replicate, slice_index, slice_set, Option, Some, None, Result, Ok, Err, refl, subst}
-use Rattle.aql_packet.specs.declared.ids.PacketId.{PacketId}
-use Rattle.aql_packet.specs.declared.ids.QueueId.{QueueId}
-use Rattle.ring_core.specs.declared.access.Access.{Access}
-use Rattle.ring_core.specs.declared.access.Access.TheVariants.{Reserve, LoadReadIndex, StoreBody, StoreHeader, LoadHeader, LoadBody, ClearHeader, RaiseReadIndex}
-use Rattle.ring_core.specs.Tickets.{shows_room}
-use Rattle.ring_core.specs.Words.{is_invalid}
+use Rattle.std.proofs.Common.{◌≡◌, ℕ, List, [], ◌∷◌, Option, Some, None, Result}
 use Rattle.policy.specs.Policy.{Declared, numbered}
-use Rattle.world.specs.declared.reply.Answer.{Answer}
 use Rattle.world.specs.declared.reply.Refusal.{Refusal}
 use Rattle.world.specs.declared.request.Request.{Request}
 use Rattle.world.specs.declared.request.Request.TheVariants as request
-use Rattle.world.specs.Dues.{AreReplies, Reply}
-use Rattle.world.specs.States.{Joined, slots_of}
+use Rattle.world.specs.Actions.{Action, Reaches, and_then, asks, returns}
+use Rattle.world.specs.Lanes.{peek, publish, retire, serve_next, submit}
+use Rattle.world.specs.States.{Joined}
+use Rattle.world.proofs.Requesting.{Keeps, keeps_asks, keeps_peek, keeps_publish, keeps_retire, keeps_returns, keeps_serve_next, keeps_submit, keeps_then, reaches, reaches_more, reaches_none}
 use Rattle.script.specs.declared.command.Command.{Command}
 use Rattle.script.specs.declared.command.Command.TheVariants as command
-use Rattle.script.specs.declared.command.Form.TheVariants as form
 use Rattle.script.specs.declared.command.LineAnswer.{LineAnswer}
 use Rattle.script.specs.declared.command.LineAnswer.TheVariants as line
-use Rattle.script.specs.declared.command.Shown.{Shown}
 use Rattle.script.specs.declared.lines.Line.{Line}
 use Rattle.script.specs.declared.lines.Line.TheVariants as lines
-use Rattle.script.specs.Actions.{Action, and_then, asks, goes_on, if_else, makes, number_read, packet_read, reads, returns, step}
-use Rattle.script.specs.Expansions.{ask, collects, copies, does, form_of, leaves_ring, peek, peek_line, publish, publish_room, publish_where, reload, retire, retire_decided, retire_line, serve, serve_shown, shown_as, shown_or_empty, shows, stores, stores_body, submit}
+use Rattle.script.specs.Expansions.{ask, copies, does, form_of, raised, reload, served_or_empty, shown_or_empty}
 use Rattle.script.specs.Lines.{line_of}
-use Rattle.script.specs.Runs.{Reaches, RepliedAs, Runs, worlds}
-
--- ---- requests behind one another
-
-replies_append : (old mid new : Joined) (requests others : List Request) (replies further : List Reply) → AreReplies old requests replies mid →
-    AreReplies mid others further new → AreReplies old (requests ++ others) (replies ++ further) new
-replies_append old mid new [] others [] further a b = subst (λ (w : Joined). AreReplies w others further new) a b
-replies_append old mid new (r ∷ requests) others (p ∷ replies) further a b = (a.0, a.1, replies_append a.0 mid new requests others replies further a.2 b)
-replies_append old mid new [] others (p ∷ replies) further a b = absurd a
-replies_append old mid new (r ∷ requests) others [] further a b = absurd a
-
-reaches_none : (old new : Joined) → new ≡ old → Reaches old new
-reaches_none old new same = ([], [], same)
-
-reaches_more : (old mid new : Joined) → Reaches old mid → Reaches mid new → Reaches old new
-reaches_more old mid new a b = (a.0 ++ b.0, a.1 ++ b.1, replies_append old mid new a.0 b.0 a.1 b.1 a.2 b.2)
-
--- ---- whatever is done
-
-Keeps : {X : Type 0} → Action X → Type 0
-Keeps {X = X} action = (old : Joined) (result : Result X Refusal) (new : Joined) → action old result new → Reaches old new
-
-keeps_returns : {X : Type 0} (x : X) → Keeps (returns x)
-unfolding Keeps
-keeps_returns x old result new done = reaches_none old new done.1
-
-keeps_asks : (asked : Request) → Keeps (asks asked)
-unfolding Keeps asks
-keeps_asks asked old reply new served = (asked ∷ [], reply ∷ [], (new, served, refl))
-
-goes_where : {X Y : Type 0} (first : Action X) (next : X → Action Y) → Keeps first → ((x : X) → Keeps (next x)) → (old : Joined) (result : Result Y Refusal) (new : Joined)
-    (reached : Result X Refusal) (mid : Joined) → first old reached mid → goes_on next reached mid result new → Reaches old new
-unfolding Keeps
-goes_where first next f n old result new (Ok x) mid done more = reaches_more old mid new (f old (Ok x) mid done) (n x mid result new more)
-goes_where first next f n old result new (Err why) mid done more = reaches_more old mid new (f old (Err why) mid done) (reaches_none mid new more.1)
-
-keeps_then : {X Y : Type 0} (first : Action X) (next : X → Action Y) → Keeps first → ((x : X) → Keeps (next x)) → Keeps (and_then first next)
-unfolding Keeps
-keeps_then first next f n old result new done = goes_where first next f n old result new done.0 done.1 done.2 done.3
-
-keeps_if : {X : Type 0} (test : Bool) (first second : Action X) → Keeps first → Keeps second → Keeps (if_else test first second)
-unfolding Keeps
-keeps_if true first second f s = f
-keeps_if false first second f s = s
-
-keeps_reads : (queue : QueueId) (seat : ℕ) (access : Access) → Keeps (reads queue seat access)
-keeps_reads queue seat access = keeps_then (asks (step queue seat access)) (λ answer. returns (number_read answer)) (keeps_asks (step queue seat access)) (λ answer. keeps_returns (number_read answer))
-
-keeps_makes : (queue : QueueId) (seat : ℕ) (access : Access) → Keeps (makes queue seat access)
-keeps_makes queue seat access = keeps_then (asks (step queue seat access)) (λ answer. returns tt) (keeps_asks (step queue seat access)) (λ answer. keeps_returns tt)
-
--- ---- publish, submit
-
-keeps_body : (queue : QueueId) (producer : ℕ) (ticket : PacketId) (place : ℕ) (words : List ℕ) → Keeps (stores_body queue producer ticket place words)
-unfolding stores_body
-keeps_body queue producer ticket place [] = keeps_returns tt
-keeps_body queue producer ticket place (word ∷ words) =
-    keeps_then (makes queue producer (StoreBody ticket place word)) (λ stored. stores_body queue producer ticket (place + 1) words)
-    (keeps_makes queue producer (StoreBody ticket place word)) (λ stored. keeps_body queue producer ticket (place + 1) words)
-
-keeps_stores : (queue : QueueId) (producer : ℕ) (ticket : PacketId) (words : List ℕ) → Keeps (stores queue producer ticket words)
-keeps_stores queue producer ticket words =
-    keeps_then (stores_body queue producer ticket 1 (drop 1 words)) _ (keeps_body queue producer ticket 1 (drop 1 words)) (λ body.
-    keeps_then (makes queue producer (StoreHeader ticket (slice_index words 0))) _ (keeps_makes queue producer (StoreHeader ticket (slice_index words 0))) (λ header.
-    keeps_returns (line.Published ticket)))
-
-keeps_room : (queue : QueueId) (producer : ℕ) (ticket : PacketId) (words : List ℕ) (index : ℕ) → Keeps (publish_room queue producer ticket words index)
-unfolding Keeps
-keeps_room queue producer ticket words index old result new done =
-    keeps_if (shows_room (slots_of old queue) ticket.0 (Some index)) (stores queue producer ticket words) (returns (line.Busy ticket index))
-    (keeps_stores queue producer ticket words) (keeps_returns (line.Busy ticket index)) old result new done
-
-keeps_where : (queue : QueueId) (producer : ℕ) (ticket : PacketId) (words : List ℕ) → Keeps (publish_where queue producer ticket words)
-keeps_where queue producer ticket words =
-    keeps_then (reads queue producer (LoadReadIndex ticket)) _ (keeps_reads queue producer (LoadReadIndex ticket)) (λ index. keeps_room queue producer ticket words index)
-
-keeps_publish : (queue : QueueId) (producer : ℕ) (ticket : PacketId) (words : List ℕ) → Keeps (publish queue producer ticket words)
-keeps_publish queue producer ticket words =
-    keeps_if (is_invalid (slice_index words 0)) (returns (line.NotPublishable ticket)) (publish_where queue producer ticket words)
-    (keeps_returns (line.NotPublishable ticket)) (keeps_where queue producer ticket words)
-
-keeps_submit : (queue : QueueId) (producer : ℕ) (words : List ℕ) → Keeps (submit queue producer words)
-keeps_submit queue producer words =
-    keeps_then (reads queue producer Reserve) _ (keeps_reads queue producer Reserve) (λ ticket. keeps_publish queue producer (record { 0 = ticket }) words)
-
--- ---- peek, retire, serve
-
-keeps_collects : (queue : QueueId) (place count : ℕ) (words : List ℕ) → Keeps (collects queue place count words)
-unfolding collects
-keeps_collects queue place zero words = keeps_returns words
-keeps_collects queue place (suc count) words =
-    keeps_then (reads queue 0 (LoadBody place)) (λ word. collects queue (place + 1) count (slice_set words place word))
-    (keeps_reads queue 0 (LoadBody place)) (λ word. keeps_collects queue (place + 1) count (slice_set words place word))
-
-keeps_shows : (queue : QueueId) (packet : PacketId) (header : ℕ) → Keeps (shows queue packet header)
-keeps_shows queue packet header =
-    keeps_if (is_invalid header) (returns None) (and_then (collects queue 1 7 (header ∷ replicate 7 0)) (λ words. returns (Some (shown_as packet words))))
-    (keeps_returns None)
-    (keeps_then (collects queue 1 7 (header ∷ replicate 7 0)) _ (keeps_collects queue 1 7 (header ∷ replicate 7 0)) (λ words. keeps_returns (Some (shown_as packet words))))
-
-keeps_peek : (queue : QueueId) → Keeps (peek queue)
-keeps_peek queue =
-    keeps_then (asks (step queue 0 LoadHeader)) _ (keeps_asks (step queue 0 LoadHeader)) (λ answer. keeps_shows queue (packet_read answer) (number_read answer))
-
-keeps_peek_line : (queue : QueueId) → Keeps (peek_line queue)
-keeps_peek_line queue = keeps_then (peek queue) _ (keeps_peek queue) (λ shown. keeps_returns (shown_or_empty shown))
-
-keeps_retire : (queue : QueueId) → Keeps (retire queue)
-keeps_retire queue = keeps_then (makes queue 0 ClearHeader) _ (keeps_makes queue 0 ClearHeader) (λ cleared. keeps_asks (step queue 0 RaiseReadIndex))
-
-keeps_retire_line : (queue : QueueId) → Keeps (retire_line queue)
-keeps_retire_line queue = keeps_then (retire queue) _ (keeps_retire queue) (λ answer. keeps_returns (line.Answered form.Raised answer))
-
-keeps_decided : (queue : QueueId) (answer : Answer) → Keeps (retire_decided queue answer)
-keeps_decided queue answer =
-    keeps_if (leaves_ring answer) (and_then (retire queue) (λ raised. returns (line.Answered form.Plain answer))) (returns (line.Answered form.Plain answer))
-    (keeps_then (retire queue) _ (keeps_retire queue) (λ raised. keeps_returns (line.Answered form.Plain answer))) (keeps_returns (line.Answered form.Plain answer))
-
-keeps_serve_shown : (queue : QueueId) (shown : Option Shown) → Keeps (serve_shown queue shown)
-keeps_serve_shown queue None = keeps_returns line.Empty
-keeps_serve_shown queue (Some shown) = keeps_then (asks (request.Take queue)) _ (keeps_asks (request.Take queue)) (λ answer. keeps_decided queue answer)
-
-keeps_serve : (queue : QueueId) → Keeps (serve queue)
-keeps_serve queue = keeps_then (peek queue) _ (keeps_peek queue) (λ shown. keeps_serve_shown queue shown)
+use Rattle.script.specs.Runs.{RepliedAs, Runs, worlds}
 
 -- ---- any line
 
@@ -161,19 +30,22 @@ keeps_copies named old result new done = reaches_none old new done.1
 keeps_reload : (named : Option Declared) → Keeps (reload named)
 keeps_reload named = keeps_then (copies named) _ (keeps_copies named) (λ policy. keeps_ask (request.Reload policy))
 
+-- a call of the world, and its value told so
+keeps_told : {X : Type 0} (call : Action X) (told : X → LineAnswer) → Keeps call → Keeps (and_then call (λ value. returns (told value)))
+keeps_told call told kept = keeps_then call (λ value. returns (told value)) kept (λ value. keeps_returns (told value))
+
 keeps_does : (later : List Declared) (asked : Command) → Keeps (does later asked)
 unfolding does
 keeps_does later (command.Ask asked) = keeps_ask asked
-keeps_does later (command.Publish queue producer ticket words) = keeps_publish queue producer ticket words
-keeps_does later (command.Submit queue producer words) = keeps_submit queue producer words
-keeps_does later (command.Peek queue) = keeps_peek_line queue
-keeps_does later (command.Retire queue) = keeps_retire_line queue
-keeps_does later (command.Serve queue) = keeps_serve queue
+keeps_does later (command.Publish queue producer ticket words) = keeps_told (publish queue producer ticket words) line.Sent (keeps_publish queue producer ticket words)
+keeps_does later (command.Submit queue producer words) = keeps_told (submit queue producer words) line.Sent (keeps_submit queue producer words)
+keeps_does later (command.Peek queue) = keeps_told (peek queue) shown_or_empty (keeps_peek queue)
+keeps_does later (command.Retire queue) = keeps_told (retire queue) raised (keeps_retire queue)
+keeps_does later (command.Serve queue) = keeps_told (serve_next queue) served_or_empty (keeps_serve_next queue)
 keeps_does later (command.Reload number) = keeps_reload (numbered later number)
 
 pub line_reaches : (later : List Declared) (asked : Command) (old : Joined) (told : Result LineAnswer Refusal) (new : Joined) → does later asked old told new → Reaches old new
-unfolding Keeps
-line_reaches later asked old told new done = keeps_does later asked old told new done
+line_reaches later asked old told new done = reaches (does later asked) (keeps_does later asked) old told new done
 
 replied_reaches : (later : List Declared) (old new : Joined) (stands : Option Line) (reply : List ℕ) → RepliedAs (worlds later) old stands reply new → Reaches old new
 unfolding worlds

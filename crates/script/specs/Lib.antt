@@ -3,7 +3,6 @@ pub mod Entries
 pub mod Replies
 pub mod Words
 pub mod Lines
-pub mod Actions
 pub mod Expansions
 pub mod Runs
 pub mod Splitting

@@ -28,7 +28,7 @@ use Rattle.script.specs.declared.lines.Line.{Line}
 use Rattle.script.specs.declared.lines.Line.TheVariants as line
 use Rattle.script.specs.declared.verbs.Verb.{Verb}
 use Rattle.script.specs.declared.verbs.Verb.TheVariants as verb
-use Rattle.script.specs.Actions.{step}
+use Rattle.world.specs.Actions.{step}
 use Rattle.script.specs.Words.{Word, words, no_words, one_word, two_words, three_words, four_words, five_words, decimal_word, signed_word, address_word, bytes_word, eight_bytes, packet_word, rights_word, condition_word}
 
 -- the client of a name; a name that isn't there is number 0

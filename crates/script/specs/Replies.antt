@@ -27,6 +27,8 @@ use Rattle.core_model.specs.declared.answer.Answer.{Answer}
 use Rattle.core_model.specs.declared.answer.Answer.TheVariants as answer
 use Rattle.ring_core.specs.declared.access.Seen.{Seen}
 use Rattle.ring_core.specs.declared.access.Seen.TheVariants as seen
+use Rattle.world.specs.declared.lane.Sent.{Sent}
+use Rattle.world.specs.declared.lane.Sent.TheVariants as sent
 use Rattle.world.specs.declared.reply.Answer.{Answer as Made}
 use Rattle.world.specs.declared.reply.Answer.TheVariants as made
 use Rattle.world.specs.declared.reply.Refusal.{Refusal as Why}
@@ -171,12 +173,16 @@ text_of_why why.Spent = codes "refused 15 Spent"
 
 -- ---- what a line is told
 
+-- what became of a packet that was to be published
+abbrev pub text_of_sent : Sent → List ℕ
+text_of_sent (sent.Published packet) = codes "published " ++ decimal packet.0 ++ codes "\n"
+text_of_sent (sent.Busy ticket read) = codes "busy ticket " ++ decimal ticket.0 ++ codes " read " ++ decimal read ++ codes "\n"
+text_of_sent (sent.NotPublishable ticket) = codes "not publishable " ++ decimal ticket.0 ++ codes "\n"
+
 -- what a line is answered
 abbrev pub text_of_line_answer : Declared → LineAnswer → List ℕ
 text_of_line_answer policy (line.Answered form answer) = text_of_made policy form answer
-text_of_line_answer policy (line.Published packet) = codes "published " ++ decimal packet.0 ++ codes "\n"
-text_of_line_answer policy (line.Busy ticket read) = codes "busy ticket " ++ decimal ticket.0 ++ codes " read " ++ decimal read ++ codes "\n"
-text_of_line_answer policy (line.NotPublishable ticket) = codes "not publishable " ++ decimal ticket.0 ++ codes "\n"
+text_of_line_answer policy (line.Sent sent) = text_of_sent sent
 text_of_line_answer policy (line.Shown shown) = codes "shown " ++ decimal shown.packet.0 ++ codes " " ++ text_of_words shown.words ++ codes "\n"
 text_of_line_answer policy line.Empty = codes "empty\n"
 

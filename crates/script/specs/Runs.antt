@@ -2,8 +2,6 @@
 use Rattle.std.specs.Prelude.{ℕ, ◌≡◌, ◌==◌, ◌⊎◌, Bool, true, false, List, [], ◌∷◌, ◌++◌, Option, Some, None, Result, if◌then◌else◌, length}
 use Rattle.policy.specs.Policy.{Declared}
 use Rattle.world.specs.declared.reply.Refusal.{Refusal}
-use Rattle.world.specs.declared.request.Request.{Request}
-use Rattle.world.specs.Dues.{AreReplies, Reply}
 use Rattle.world.specs.States.{Joined}
 use Rattle.script.specs.declared.command.Command.{Command}
 use Rattle.script.specs.declared.command.LineAnswer.{LineAnswer}
@@ -77,7 +75,3 @@ Served law old new line before after false = (line_of (law.names old) law.later 
 -- a service that wants memory: nothing is written, and the line is served or it isn't
 abbrev pub Wanted : {S : Type 0} → Law S → S → S → List ℕ → List ℕ → List ℕ → Type 0
 Wanted law old new line before after = (after ≡ before) × StopsAt law old new (line ∷ [])
-
--- some requests, served in turn, lead from one world to the other
-abbrev pub Reaches : Joined → Joined → Type 0
-Reaches old new = (requests : List Request) × (replies : List Reply) × AreReplies old requests replies new

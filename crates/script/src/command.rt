@@ -1,7 +1,7 @@
 //! What the lines of a script ask of a world, and what they are answered.
 
 use aql_packet::{PacketId, QueueId};
-use world::{Answer, Refusal, Request};
+use world::{Answer, Refusal, Request, Sent, Shown};
 
 /// What a line of a script asks: one request, or several in turn.
 #[derive(Drop)]
@@ -54,24 +54,13 @@ pub enum Form {
     Old,
 }
 
-/// A packet that a queue's processor has collected, with its id.
-#[derive(Clone, Copy)]
-pub struct Shown {
-    pub packet: PacketId,
-    pub words: [u64; 8],
-}
-
 /// What a line is answered that isn't refused.
 #[derive(Drop)]
 pub enum LineAnswer {
     /// What the world answered to a request.
     Answered { form: Form, answer: Answer },
-    /// The packet was published under this id.
-    Published(PacketId),
-    /// The slot of this ticket is still taken: so the read index says.
-    Busy { ticket: PacketId, read: u64 },
-    /// A packet of type INVALID can't be published under this ticket.
-    NotPublishable(PacketId),
+    /// What became of a packet that was to be published.
+    Sent(Sent),
     /// The packet at the read index.
     Shown(Shown),
     /// No packet is published at the read index.

@@ -5,12 +5,13 @@ ghost use Rattle.std.specs.List.{list_all};
 ghost use Rattle.kernel_check.specs.Programs.{Program};
 ghost use Rattle.policy.specs.Policy.{Declared};
 ghost use Rattle.world.specs.declared.request.Request.{Request};
+ghost use Rattle.world.specs.Actions.{Reaches};
 ghost use Rattle.world.specs.Dues.{AreReplies, Reply, handed_out};
 ghost use Rattle.world.specs.Headline.{Headline, IsBegun};
 ghost use Rattle.world.specs.States.{Joined};
 ghost use Rattle.script.specs.declared.command.Command.{Command};
 ghost use Rattle.script.specs.Expansions.{does};
-ghost use Rattle.script.specs.Runs.{Reaches, Runs, Told, lines_of, worlds};
+ghost use Rattle.script.specs.Runs.{Runs, Told, lines_of, worlds};
 ghost use Rattle.script.specs.Splitting.{digits_of, ended, is_line, joined, sum_of_digits};
 ghost use Rattle.script.specs.Words.{address_word, decimal_word};
 

@@ -1,10 +1,10 @@
 //! Replies as text.
 
 ghost use Rattle.std.specs.Prelude.{◌≡◌, ◌++◌, OnOk, codes, decimal, string_bytes};
-ghost use Rattle.script.specs.Replies.{name_of_refusal, details_of_refusal, text_of_refusal, text_of_name, text_of_cause, text_of_taken, text_of_worked, text_of_polled, text_of_outcome, text_of_listed, text_of_listing, text_of_errors, text_of_answer, tells_old, text_of_number, text_of_seen, text_of_made, text_of_words, text_of_why, text_of_line_answer, text_of_line};
+ghost use Rattle.script.specs.Replies.{name_of_refusal, details_of_refusal, text_of_refusal, text_of_name, text_of_cause, text_of_taken, text_of_worked, text_of_polled, text_of_outcome, text_of_listed, text_of_listing, text_of_errors, text_of_answer, tells_old, text_of_number, text_of_seen, text_of_made, text_of_words, text_of_why, text_of_sent, text_of_line_answer, text_of_line};
 ghost use Rattle.script.specs.Texts.{text_of_bytes, text_of_word};
 
-use crate::command::{Form, LineAnswer, LineReply, Shown};
+use crate::command::{Form, LineAnswer, LineReply};
 use crate::entries::{write_audit, write_rotated};
 use crate::texts::{write_bytes, write_rights, write_word};
 use aql_packet::PacketId;
@@ -13,7 +13,7 @@ use policy::{Object, Policy, Rights};
 use queue_error::QueueError;
 use ring_core::Seen;
 use std::alloc::AllocError;
-use world::{Answer as Made, Refusal as Why};
+use world::{Answer as Made, Refusal as Why, Sent, Shown};
 
 // A refusal's number and name.
 fn refusal_name(refusal: &Refusal) -> &'static str
@@ -299,6 +299,17 @@ fn write_why(out: &mut String, why: &Why) -> Result<(), AllocError>
     }
 }
 
+// Writes what became of a packet that was to be published.
+fn write_sent(out: &mut String, sent: &Sent) -> Result<(), AllocError>
+    ensures { OnOk result (string_bytes out.new ≡ string_bytes out.old ++ text_of_sent sent.now) }
+{
+    match sent {
+        Sent::Published(packet) => writeln!(out, "published {}", packet.0),
+        Sent::Busy { ticket, read } => writeln!(out, "busy ticket {} read {read}", ticket.0),
+        Sent::NotPublishable(ticket) => writeln!(out, "not publishable {}", ticket.0),
+    }
+}
+
 // Writes what a line is answered.
 fn write_line_answer(
     out: &mut String,
@@ -309,9 +320,7 @@ fn write_line_answer(
 {
     match answer {
         LineAnswer::Answered { form, answer } => write_made(out, policy, *form, answer),
-        LineAnswer::Published(packet) => writeln!(out, "published {}", packet.0),
-        LineAnswer::Busy { ticket, read } => writeln!(out, "busy ticket {} read {read}", ticket.0),
-        LineAnswer::NotPublishable(ticket) => writeln!(out, "not publishable {}", ticket.0),
+        LineAnswer::Sent(sent) => write_sent(out, sent),
         LineAnswer::Shown(shown) => write_shown(out, shown),
         LineAnswer::Empty => out.push_str("empty\n"),
     }

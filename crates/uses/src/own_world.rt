@@ -5,9 +5,8 @@ use access_core::Kernel;
 use aql_packet::{Address, AgentHandle, ClientId, PacketId, QueueId, RegionHandle};
 use core_model::{Call, Outcome, Query, Taken};
 use policy::{Object, Policy, Rights, read_policy};
-use ring_core::{Access, Seen, Step};
 use std::alloc::Global;
-use world::{Answer, Reply, Request, World};
+use world::{Answer, Reply, Request, Sent, World};
 
 /// A world over the policy in a text, which declares no kernels, with places for 1,000 entries.
 pub fn open(alloc: Global, text: &[u8]) -> Option<World> {
@@ -71,56 +70,20 @@ fn open_queue(
     }
 }
 
-// A seat makes a step on a queue's ring: the word that it read, or 0 for a store.
-fn make_step(
-    alloc: Global,
-    world: &mut World,
-    queue: QueueId,
-    seat: u64,
-    access: Access,
-) -> Option<u64> {
-    let step = Step { seat, access };
-    match ask(alloc, world, Request::Step { queue, step }) {
-        Ok(Answer::Step(Seen::Read(word))) => Some(word),
-        Ok(Answer::Step(Seen::Stored)) => Some(0),
-        Ok(Answer::Header { word, .. }) => Some(word),
+// Producer 1 reserves an id, and publishes a packet under it.
+fn publish(alloc: Global, world: &mut World, queue: QueueId, words: &[u64; 8]) -> Option<PacketId> {
+    match world.submit(alloc, queue, 1, words) {
+        Ok(Sent::Published(packet)) => Some(packet),
         _ => None,
     }
 }
 
-// Producer 1 publishes a packet: it reserves an id, looks for room, stores the body, and the header last.
-fn publish(alloc: Global, world: &mut World, queue: QueueId, words: &[u64; 8]) -> Option<PacketId> {
-    let ticket = PacketId(make_step(alloc, world, queue, 1, Access::Reserve)?);
-    make_step(alloc, world, queue, 1, Access::LoadReadIndex { ticket })?;
-    for place in 1..8 {
-        let body = Access::StoreBody {
-            ticket,
-            place: place as u64,
-            word: words[place],
-        };
-        make_step(alloc, world, queue, 1, body)?;
-    }
-    let header = Access::StoreHeader {
-        ticket,
-        word: words[0],
-    };
-    make_step(alloc, world, queue, 1, header)?;
-    Some(ticket)
-}
-
-// The processor reads the packet at the read index, hands it over, and frees its slot.
+// The processor collects the next packet, hands it over, and frees its slot unless it waits.
 fn take(alloc: Global, world: &mut World, queue: QueueId) -> Option<Taken> {
-    make_step(alloc, world, queue, 0, Access::LoadHeader)?;
-    for place in 1..8 {
-        make_step(alloc, world, queue, 0, Access::LoadBody { place })?;
+    match world.serve_next(alloc, queue) {
+        Ok(Some(served)) => Some(served.taken),
+        _ => None,
     }
-    let taken = match ask(alloc, world, Request::Take { queue }) {
-        Ok(Answer::Taken { taken, .. }) => taken,
-        _ => return None,
-    };
-    make_step(alloc, world, queue, 0, Access::ClearHeader)?;
-    make_step(alloc, world, queue, 0, Access::RaiseReadIndex)?;
-    Some(taken)
 }
 
 // The packet's work is done, and it is completed.

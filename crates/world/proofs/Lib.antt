@@ -10,3 +10,6 @@ pub mod Obeyed
 pub mod Deciding
 pub mod Handing
 pub mod Replies
+pub mod Acting
+pub mod Requesting
+pub mod TakeReplies

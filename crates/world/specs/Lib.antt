@@ -5,3 +5,5 @@ pub mod Making
 pub mod Headline
 pub mod Obeying
 pub mod Starting
+pub mod Actions
+pub mod Lanes

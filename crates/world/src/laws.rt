@@ -1,16 +1,23 @@
 //! The headline, as a law of all lists of requests.
 
-ghost use Rattle.std.specs.Prelude.{◌≡◌, ◌++◌, ℕ, List, Err};
+ghost use Rattle.std.specs.Prelude.{◌≡◌, ◌++◌, ℕ, List, Option, Result, Err};
+ghost use Rattle.aql_packet.specs.declared.ids.PacketId.{PacketId};
+ghost use Rattle.aql_packet.specs.declared.ids.QueueId.{QueueId};
 ghost use Rattle.policy.specs.Policy.{Declared, region_lengths};
 ghost use Rattle.core_model.specs.declared.entry.Entry.{Entry};
 ghost use Rattle.core_model.specs.History.{beginning};
 ghost use Rattle.core_model.specs.Legal.{IsLegal};
 ghost use Rattle.core_model.specs.Rotation.{GoOn, entries_in};
 ghost use Rattle.kernel_check.specs.Programs.{Program};
+ghost use Rattle.world.specs.declared.lane.Sent.{Sent};
+ghost use Rattle.world.specs.declared.lane.Served.{Served};
+ghost use Rattle.world.specs.declared.lane.Shown.{Shown};
 ghost use Rattle.world.specs.declared.reply.Refusal.{Refusal};
 ghost use Rattle.world.specs.declared.request.Request.{Request};
+ghost use Rattle.world.specs.Actions.{Reaches};
 ghost use Rattle.world.specs.Dues.{AreReplies, IsServed, Reply, handed_out, parts_out};
 ghost use Rattle.world.specs.Headline.{Headline, IsBegun};
+ghost use Rattle.world.specs.Lanes.{peek, publish, retire, serve_next, submit};
 ghost use Rattle.world.specs.InStep.{IsJoinedBehind};
 ghost use Rattle.world.specs.States.{Joined};
 
@@ -72,4 +79,16 @@ pub fn each_run_goes_on()
 /// What is refused, for whatever cause, leaves the world as it was.
 pub fn refusals_change_nothing()
     ensures { (old new : Joined) (asked : Request) (why : Refusal) → IsServed old asked (Err why) new → new ≡ old }
+{}
+
+/// What `publish`, `submit`, `peek`, `retire` and `serve_next` of a world do is some requests, served in turn. So what holds
+/// after any list of requests holds after each of them.
+pub fn lane_calls_are_requests()
+    ensures publish { (queue : QueueId) (producer : ℕ) (ticket : PacketId) (words : List ℕ) (old : Joined) (told : Result Sent Refusal) (new : Joined) →
+        publish queue producer ticket words old told new → Reaches old new }
+    ensures submit { (queue : QueueId) (producer : ℕ) (words : List ℕ) (old : Joined) (told : Result Sent Refusal) (new : Joined) →
+        submit queue producer words old told new → Reaches old new }
+    ensures peek { (queue : QueueId) (old : Joined) (told : Result (Option Shown) Refusal) (new : Joined) → peek queue old told new → Reaches old new }
+    ensures retire { (queue : QueueId) (old : Joined) (told : Result ℕ Refusal) (new : Joined) → retire queue old told new → Reaches old new }
+    ensures serve_next { (queue : QueueId) (old : Joined) (told : Result (Option Served) Refusal) (new : Joined) → serve_next queue old told new → Reaches old new }
 {}

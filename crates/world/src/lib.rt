@@ -4,6 +4,7 @@
 // The check tries its tactics on what is left of each proof.
 #![tactic(auto)]
 
+mod lane;
 mod laws;
 mod queue_ring;
 mod reply;
@@ -12,7 +13,8 @@ mod rings;
 mod serving;
 mod world;
 
-pub use laws::{each_run_goes_on, refusals_change_nothing, the_headline};
+pub use lane::{Sent, Served, Shown};
+pub use laws::{each_run_goes_on, lane_calls_are_requests, refusals_change_nothing, the_headline};
 pub use reply::{Answer, Refusal, Reply};
 pub use request::Request;
 pub use world::World;

@@ -3,8 +3,8 @@ use Rattle.std.proofs.Common.{◌≤◌, drop, Result}
 use Rattle.std.specs.Prelude.{⊤}
 use Rattle.world.specs.declared.reply.Refusal.{Refusal}
 use Rattle.world.specs.States.{Joined}
-use Rattle.script.specs.Expansions.{stores_body}
-use Rattle.script.proofs.expansions.store_body.Given as goal
+use Rattle.world.specs.Lanes.{stores_body}
+use Rattle.world.proofs.lane.store_body.Given as goal
 
 abbrev pub invariant-loop-place : goal.invariant-loop-place
 invariant-loop-place l =

@@ -2,8 +2,8 @@
 use Rattle.std.proofs.Common.{ℕ, ◌≤◌, ◌-◌, ◌∷◌, List, replicate, Result}
 use Rattle.world.specs.declared.reply.Refusal.{Refusal}
 use Rattle.world.specs.States.{Joined}
-use Rattle.script.specs.Expansions.{collects}
-use Rattle.script.proofs.expansions.collect.Given as goal
+use Rattle.world.specs.Lanes.{collects}
+use Rattle.world.proofs.lane.collect.Given as goal
 
 abbrev pub invariant-loop-place : goal.invariant-loop-place
 invariant-loop-place l =

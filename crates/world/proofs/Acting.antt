@@ -1,15 +1,15 @@
 -- Steps in turn, one more at a time.
-use Rattle.std.proofs.Common.{◌≡◌, ℕ, suc, ◌+◌, ◌-◌, ◌<◌, ◌≤◌, List, [], ◌∷◌, length, get_or, drop, slice_set, Result, Ok, Err, refl, sym, subst, arith}
+use Rattle.std.proofs.Common.{◌≡◌, ℕ, suc, ◌+◌, ◌-◌, ◌<◌, ◌≤◌, List, [], ◌∷◌, length, get_or, drop, slice_set, Result, Ok, Err, refl, sym, subst, add-one, arith}
 use Rattle.std.specs.Prelude.{⊤}
 use Rattle.std.proofs.lemmas.List.{drop_all}
+use Rattle.std.proofs.Math.Seq.{drop-cons}
 use Rattle.aql_packet.specs.declared.ids.PacketId.{PacketId}
 use Rattle.aql_packet.specs.declared.ids.QueueId.{QueueId}
 use Rattle.ring_core.specs.declared.access.Access.TheVariants.{StoreBody, LoadBody}
 use Rattle.world.specs.declared.reply.Refusal.{Refusal}
 use Rattle.world.specs.States.{Joined}
-use Rattle.script.specs.Actions.{Action, and_then, makes, reads}
-use Rattle.script.specs.Expansions.{collects, stores_body}
-use Rattle.script.proofs.Splitting.{left_at}
+use Rattle.world.specs.Actions.{Action, and_then, makes, reads}
+use Rattle.world.specs.Lanes.{collects, stores_body}
 
 -- what was done comes to a value, and so does what is done behind it
 pub went : {X Y : Type 0} (first : Action X) (next : X → Action Y) (x : X) (old mid new : Joined) (result : Result Y Refusal) →
@@ -22,6 +22,10 @@ pub stopped : {X Y : Type 0} (first : Action X) (next : X → Action Y) (why : R
 stopped first next why old mid done = (Err why, mid, done, (refl, refl))
 
 -- ---- the body of a packet is stored
+
+-- what is left of words at a place is its word and what is left behind it
+left_at : (words : List ℕ) (i : ℕ) → i < length words → drop i words ≡ get_or words i 0 ∷ drop (i + 1) words
+left_at words i h = rw add-one (drop-cons words i 0 h)
 
 body_none : (queue : QueueId) (producer : ℕ) (ticket : PacketId) (place : ℕ) (world : Joined) → stores_body queue producer ticket place [] world (Ok tt) world
 unfolding stores_body

@@ -1,7 +1,7 @@
 use Rattle.std.proofs.Common.{arith}
 use Rattle.std.proofs.lemmas.Result.{err_from_is_err_and}
-use Rattle.script.proofs.Acting.{body_end, body_more, body_stopped}
-use Rattle.script.proofs.expansions.store_body.Goals as goal
+use Rattle.world.proofs.Acting.{body_end, body_more, body_stopped}
+use Rattle.world.proofs.lane.store_body.Goals as goal
 
 pub returns-in_err-make : goal.returns-in_err-make
 returns-in_err-make c =

@@ -1,8 +1,8 @@
 use Rattle.std.proofs.Common.{◌≡◌, ◌-◌, ℕ, Ok, subst, sym, arith}
 use Rattle.std.proofs.lemmas.Result.{err_from_is_err_and}
-use Rattle.script.specs.Expansions.{collects}
-use Rattle.script.proofs.Acting.{collected_all, collect_more, collect_stopped}
-use Rattle.script.proofs.expansions.collect.Goals as goal
+use Rattle.world.specs.Lanes.{collects}
+use Rattle.world.proofs.Acting.{collected_all, collect_more, collect_stopped}
+use Rattle.world.proofs.lane.collect.Goals as goal
 
 pub returns-in_err-words : goal.returns-in_err-words
 returns-in_err-words c =

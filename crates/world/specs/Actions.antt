@@ -1,5 +1,5 @@
 -- Requests made of a world in turn, up to the first that is refused.
-use Rattle.std.specs.Prelude.{ℕ, ◌≡◌, Bool, true, false, ⊤, Result, Ok, Err}
+use Rattle.std.specs.Prelude.{ℕ, ◌≡◌, Bool, true, false, List, ⊤, Result, Ok, Err}
 use Rattle.aql_packet.specs.declared.ids.PacketId.{PacketId}
 use Rattle.aql_packet.specs.declared.ids.QueueId.{QueueId}
 use Rattle.ring_core.specs.declared.access.Access.{Access}
@@ -9,7 +9,7 @@ use Rattle.world.specs.declared.reply.Answer.TheVariants as answer
 use Rattle.world.specs.declared.reply.Refusal.{Refusal}
 use Rattle.world.specs.declared.request.Request.{Request}
 use Rattle.world.specs.declared.request.Request.TheVariants as request
-use Rattle.world.specs.Dues.{IsServed}
+use Rattle.world.specs.Dues.{AreReplies, IsServed, Reply}
 use Rattle.world.specs.States.{Joined}
 
 -- what is done with a world: it comes to a value, or to the refusal that ended it, and to the world after it (own)
@@ -62,3 +62,9 @@ reads queue seat access = and_then (asks (step queue seat access)) (λ answer. r
 -- a step is made, whatever it read
 abbrev pub makes : QueueId → ℕ → Access → Action ⊤
 makes queue seat access = and_then (asks (step queue seat access)) (λ answer. returns tt)
+
+-- ---- requests behind one another
+
+-- some requests, served in turn, lead from one world to the other
+abbrev pub Reaches : Joined → Joined → Type 0
+Reaches old new = (requests : List Request) × (replies : List Reply) × AreReplies old requests replies new

@@ -1,0 +1,352 @@
+//! A packet's way through a queue's ring, call by call: each makes its steps in turn, up to the first that is refused.
+
+ghost use Rattle.std.specs.Prelude.{◌≡◌, ◌∷◌, drop, replicate};
+ghost use Rattle.ring_core.specs.Tickets.{shows_room};
+ghost use Rattle.world.specs.Actions.{asks, makes, number_read, packet_read, reads, step};
+ghost use Rattle.world.specs.Lanes.{answer_of, collects, hands_over, leaves_ring, peek, publish, publish_where, retire, retire_decided, serve_next, serve_shown, shows, stores, stores_body, submit, TellsServed};
+
+use crate::reply::{Answer, Refusal, Reply};
+use crate::request::Request;
+use crate::world::World;
+use aql_packet::{PacketId, QueueId};
+use core_model::Taken;
+use ring_core::{Access, Seen, Step, is_invalid};
+use std::alloc::Global;
+
+// The seat of a queue's processor.
+const PROCESSOR: u64 = 0;
+
+/// What became of a packet that was to be published, no step of which was refused.
+#[derive(Clone, Copy)]
+pub enum Sent {
+    /// It is published under this id.
+    Published(PacketId),
+    /// The slot of this ticket is still taken: so the read index says. The ticket stays open.
+    Busy { ticket: PacketId, read: u64 },
+    /// A packet of type INVALID can't be published: no step was made, and this ticket stays open.
+    NotPublishable(PacketId),
+}
+
+/// A packet that a queue's processor has collected, with its id.
+#[derive(Clone, Copy)]
+pub struct Shown {
+    pub packet: PacketId,
+    pub words: [u64; 8],
+}
+
+/// What became of a packet that a queue's processor handed over, with its id.
+#[derive(Clone, Copy)]
+pub struct Served {
+    pub packet: PacketId,
+    pub taken: Taken,
+}
+
+impl World {
+    /// A producer of a queue publishes a packet, its words in order, under a ticket of its own (PSA, User Mode
+    /// Queuing): it looks at the read index, and where that shows room stores the body, and the header last. Refused
+    /// as the first of these steps that is; those before it stay made. Whether there is room, and that a packet of
+    /// type INVALID makes no step, is told in place of a refusal (own).
+    pub fn publish(
+        &mut self,
+        alloc: Global,
+        queue: QueueId,
+        producer: u64,
+        ticket: PacketId,
+        words: &[u64; 8],
+    ) -> Result<Sent, Refusal>
+        ensures { publish queue producer ticket words.now self.old result self.new }
+    {
+        if is_invalid(words[0]) {
+            Ok(Sent::NotPublishable(ticket))
+        } else {
+            publish_valid(alloc, self, queue, producer, ticket, words)
+        }
+    }
+
+    /// A producer of a queue reserves a ticket, and publishes a packet under it, as `publish` does (PSA, User Mode
+    /// Queuing). Refused as the reservation is (`Spent`, and where memory is wanted for the ticket), or as `publish`
+    /// is; the ticket stays reserved then.
+    pub fn submit(
+        &mut self,
+        alloc: Global,
+        queue: QueueId,
+        producer: u64,
+        words: &[u64; 8],
+    ) -> Result<Sent, Refusal>
+        ensures { submit queue producer words.now self.old result self.new }
+    {
+        let ticket = read(alloc, self, queue, producer, Access::Reserve)?;
+        self.publish(alloc, queue, producer, PacketId(ticket), words)
+    }
+
+    /// A queue's processor collects the packet at the read index, header first (PSA, User Mode Queuing); none where
+    /// the header's type is INVALID, for then no packet is published there. Refused as the first of these loads that
+    /// is; those before it stay made.
+    pub fn peek(&mut self, alloc: Global, queue: QueueId) -> Result<Option<Shown>, Refusal>
+        ensures { peek queue self.old result self.new }
+    {
+        let answer = ask_step(alloc, self, queue, PROCESSOR, Access::LoadHeader)?;
+        show(
+            alloc,
+            self,
+            queue,
+            packet_read(&answer),
+            number_read(&answer),
+        )
+    }
+
+    /// A queue's processor retires the packet at the read index: it gives the slot the type INVALID, and raises the
+    /// read index (PSA, User Mode Queuing). The value is the read index before that. Refused as the first of these two
+    /// steps that is: `NotAStep` unless the packet was launched or denied (own).
+    pub fn retire(&mut self, alloc: Global, queue: QueueId) -> Result<u64, Refusal>
+        ensures { retire queue self.old result self.new }
+    {
+        make(alloc, self, queue, PROCESSOR, Access::ClearHeader)?;
+        read(alloc, self, queue, PROCESSOR, Access::RaiseReadIndex)
+    }
+
+    /// A queue's processor collects the packet at the read index, hands it over, and retires it if it was launched or
+    /// denied (PSA, User Mode Queuing: packets are processed in order); one that waits stays where it is. None where
+    /// no packet is published there. Refused as the first of `peek`, the take and `retire` that is; what was done before
+    /// stays done (own).
+    pub fn serve_next(&mut self, alloc: Global, queue: QueueId) -> Result<Option<Served>, Refusal>
+        ensures { serve_next queue self.old result self.new }
+    {
+        let shown = self.peek(alloc, queue)?;
+        serve_shown(alloc, self, queue, shown)
+    }
+}
+
+// The number that a step read.
+fn number_read(answer: &Answer) -> u64
+    ensures { result ≡ number_read answer.now }
+{
+    match answer {
+        Answer::Step(Seen::Read(number)) => *number,
+        Answer::Header { word, .. } => *word,
+        _ => 0,
+    }
+}
+
+// The id of the packet whose header was read.
+fn packet_read(answer: &Answer) -> PacketId
+    ensures { result ≡ packet_read answer.now }
+{
+    match answer {
+        Answer::Header { packet, .. } => *packet,
+        _ => PacketId(0),
+    }
+}
+
+// Whether a packet that was handed over leaves its ring: it was launched or denied.
+fn leaves_ring(taken: Taken) -> bool
+    ensures { result ≡ leaves_ring taken }
+{
+    match taken {
+        Taken::Launched => true,
+        Taken::Denied(_) => true,
+        Taken::Waiting(_) => false,
+    }
+}
+
+// A request is made.
+#[tactic(auto, unfolding(crate::specs::Actions::asks))]
+fn request(alloc: Global, world: &mut World, asked: Request) -> Reply
+    ensures { asks asked world.old result world.new }
+{
+    world.serve(alloc, asked)
+}
+
+// A seat of a queue's ring makes a step.
+fn ask_step(alloc: Global, world: &mut World, queue: QueueId, seat: u64, access: Access) -> Reply
+    ensures { asks (step queue seat access) world.old result world.new }
+{
+    let step = Step { seat, access };
+    request(alloc, world, Request::Step { queue, step })
+}
+
+// A seat of a queue's ring makes a step that reads a number.
+fn read(
+    alloc: Global,
+    world: &mut World,
+    queue: QueueId,
+    seat: u64,
+    access: Access,
+) -> Result<u64, Refusal>
+    ensures { reads queue seat access world.old result world.new }
+{
+    let answer = ask_step(alloc, world, queue, seat, access)?;
+    Ok(number_read(&answer))
+}
+
+// A seat of a queue's ring makes a step, whatever it reads.
+fn make(
+    alloc: Global,
+    world: &mut World,
+    queue: QueueId,
+    seat: u64,
+    access: Access,
+) -> Result<(), Refusal>
+    ensures { makes queue seat access world.old result world.new }
+{
+    ask_step(alloc, world, queue, seat, access)?;
+    Ok(())
+}
+
+// A producer stores the body of a packet under its ticket.
+fn store_body(
+    alloc: Global,
+    world: &mut World,
+    queue: QueueId,
+    producer: u64,
+    ticket: PacketId,
+    words: &[u64; 8],
+) -> Result<(), Refusal>
+    ensures { stores_body queue producer ticket 1 (drop 1 words.now) world.old result world.new }
+{
+    for place in 1..8 {
+        let word = words[place as usize];
+        let access = Access::StoreBody {
+            ticket,
+            place,
+            word,
+        };
+        make(alloc, world, queue, producer, access)?;
+    }
+    Ok(())
+}
+
+// A producer stores a packet under its ticket, the header last.
+fn store(
+    alloc: Global,
+    world: &mut World,
+    queue: QueueId,
+    producer: u64,
+    ticket: PacketId,
+    words: &[u64; 8],
+) -> Result<Sent, Refusal>
+    ensures { stores queue producer ticket words.now world.old result world.new }
+{
+    store_body(alloc, world, queue, producer, ticket, words)?;
+    let word = words[0];
+    let header = Access::StoreHeader { ticket, word };
+    make(alloc, world, queue, producer, header)?;
+    Ok(Sent::Published(ticket))
+}
+
+// Whether a ring of so many slots has room for a ticket, at a read index.
+fn has_room(slots: u64, ticket: PacketId, read: u64) -> bool
+    ensures { result ≡ shows_room slots ticket.0 (Some read) }
+{
+    ticket.0 < read || ticket.0 - read < slots
+}
+
+// A producer publishes a packet, its type another than INVALID.
+fn publish_valid(
+    alloc: Global,
+    world: &mut World,
+    queue: QueueId,
+    producer: u64,
+    ticket: PacketId,
+    words: &[u64; 8],
+) -> Result<Sent, Refusal>
+    ensures { publish_where queue producer ticket words.now world.old result world.new }
+{
+    let look = Access::LoadReadIndex { ticket };
+    let read = read(alloc, world, queue, producer, look)?;
+    if has_room(world.slots(queue), ticket, read) {
+        store(alloc, world, queue, producer, ticket, words)
+    } else {
+        Ok(Sent::Busy { ticket, read })
+    }
+}
+
+// A queue's processor collects the body of the packet whose header it has read.
+fn collect(
+    alloc: Global,
+    world: &mut World,
+    queue: QueueId,
+    header: u64,
+) -> Result<[u64; 8], Refusal>
+    ensures { collects queue 1 7 (header ∷ replicate 7 0) world.old result world.new }
+{
+    let mut words = [header, 0, 0, 0, 0, 0, 0, 0];
+    for place in 1..8 {
+        let access = Access::LoadBody { place };
+        words[place as usize] = read(alloc, world, queue, PROCESSOR, access)?;
+    }
+    Ok(words)
+}
+
+// A queue's processor collects the packet with this id, whose header it has read, if it is published.
+fn show(
+    alloc: Global,
+    world: &mut World,
+    queue: QueueId,
+    packet: PacketId,
+    header: u64,
+) -> Result<Option<Shown>, Refusal>
+    ensures { shows queue packet header world.old result world.new }
+{
+    if is_invalid(header) {
+        return Ok(None);
+    }
+    let words = collect(alloc, world, queue, header)?;
+    Ok(Some(Shown { packet, words }))
+}
+
+// What became of a packet, as the answer to its take tells it.
+fn served_by(answer: &Answer) -> Served
+    requires { TellsServed answer.now }
+    ensures { answer.now ≡ answer_of result }
+{
+    match answer {
+        Answer::Taken { packet, taken } => Served {
+            packet: *packet,
+            taken: *taken,
+        },
+        _ => unreachable!(),
+    }
+}
+
+// A queue's processor hands over the packet that it has collected.
+fn hand_over(alloc: Global, world: &mut World, queue: QueueId) -> Result<Served, Refusal>
+    ensures { hands_over queue world.old result world.new }
+{
+    let answer = request(alloc, world, Request::Take { queue })?;
+    Ok(served_by(&answer))
+}
+
+// A queue's processor retires a packet that was handed over, if it was launched or denied.
+fn retire_decided(
+    alloc: Global,
+    world: &mut World,
+    queue: QueueId,
+    served: Served,
+) -> Result<Option<Served>, Refusal>
+    ensures { retire_decided queue served world.old result world.new }
+{
+    if !leaves_ring(served.taken) {
+        return Ok(Some(served));
+    }
+    world.retire(alloc, queue)?;
+    Ok(Some(served))
+}
+
+// A queue's processor hands over the packet that it has collected, if there is one, and retires it.
+fn serve_shown(
+    alloc: Global,
+    world: &mut World,
+    queue: QueueId,
+    shown: Option<Shown>,
+) -> Result<Option<Served>, Refusal>
+    ensures { serve_shown queue shown world.old result world.new }
+{
+    match shown {
+        None => Ok(None),
+        Some(_) => {
+            let served = hand_over(alloc, world, queue)?;
+            retire_decided(alloc, world, queue, served)
+        }
+    }
+}
