@@ -1,6 +1,7 @@
 pub mod Digits
 pub mod Commas
 pub mod Audit
+pub mod Auditing
 pub mod Splitting
 pub mod Reading
 pub mod Running
