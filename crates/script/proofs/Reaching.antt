@@ -1,5 +1,5 @@
 -- What a line does is a list of requests.
-use Rattle.std.proofs.Common.{◌≡◌, ℕ, List, [], ◌∷◌, Option, Some, None, Result}
+use Rattle.std.proofs.Common.{ℕ, List, [], ◌∷◌, Option, Some, None, Result}
 use Rattle.policy.specs.Policy.{Declared, numbered}
 use Rattle.world.specs.declared.reply.Refusal.{Refusal}
 use Rattle.world.specs.declared.request.Request.{Request}

@@ -1,5 +1,5 @@
 -- A take that isn't refused tells what became of the packet.
-use Rattle.std.proofs.Common.{◌≡◌, ℕ, Bool, true, false, List, Option, Some, None, Result, Ok, Err, refl, sym, subst, inl, inr}
+use Rattle.std.proofs.Common.{◌≡◌, ℕ, Bool, true, false, List, Option, Some, None, Ok, Err, refl, sym, subst, inl, inr}
 use Rattle.std.specs.Prelude.{map, ◌==◌, ⊤, if◌then◌else◌}
 use Rattle.aql_packet.specs.declared.ids.PacketId.{PacketId}
 use Rattle.aql_packet.specs.declared.ids.QueueId.{QueueId}
@@ -25,10 +25,12 @@ use Rattle.core_model.specs.Refusals.{for_some, refuse_unless}
 use Rattle.ring_core.specs.Machine.{Machine, read_index}
 use Rattle.ring_core.specs.Parts.{collected_packet}
 use Rattle.ring_core.specs.Rule.{processor_of}
+use Rattle.world.specs.declared.lane.Served.{Served}
+use Rattle.world.specs.declared.reply.Answer.{Answer}
 use Rattle.world.specs.declared.request.Request.TheVariants as request
 use Rattle.world.specs.Actions.{asks}
 use Rattle.world.specs.Dues.{Due, Meets, Reply, due_collected, due_take, taken_reply, taking}
-use Rattle.world.specs.Lanes.{TellsServed}
+use Rattle.world.specs.Lanes.{TellsServed, answer_of, hands_over}
 use Rattle.world.specs.States.{Joined, ring_of}
 
 -- ---- what is owed
@@ -103,3 +105,8 @@ met_taken old new owing reply h (inr (may, is, after)) = subst AnswersTaken (sym
 pub take_answers : (queue : QueueId) (old : Joined) (reply : Reply) (new : Joined) → asks (request.Take queue) old reply new → AnswersTaken reply
 unfolding asks
 take_answers queue old reply new served = met_taken old new (due_take old queue (ring_of old queue)) reply (take_taken old queue (ring_of old queue)) served
+
+-- what became of the packet is what the take told
+pub took : (queue : QueueId) (old new : Joined) (told : Answer) (served : Served) → told ≡ answer_of served → asks (request.Take queue) old (Ok told) new →
+    hands_over queue old (Ok served) new
+took queue old new told served is asked = subst (λ (a : Answer). asks (request.Take queue) old (Ok a) new) is asked
