@@ -21,6 +21,6 @@ audit_reply world = Ok (line.Answered form.Plain (answer.Core (told.Audit (begin
 
 -- it is what the line does, and nothing changes
 pub audit_told : (later : List Declared) (world : Joined) → does later (command.Ask (request.Query query.Audit)) world (audit_reply world) world
-unfolding does, asks
+unfolding does asks
 audit_told later world =
     (Ok (answer.Core (told.Audit (beginning world.core).before world.core.entries)), world, inl (refl, refl), refl, refl)
