@@ -1,6 +1,7 @@
 -- A line that asks for the audit is told it as the answer to the query for it.
-use Rattle.std.proofs.Common.{List, Result, Ok, refl}
+use Rattle.std.proofs.Common.{List, Result, Ok, inl, refl}
 use Rattle.core_model.specs.History.{beginning}
+use Rattle.core_model.specs.Queries.{query_answer}
 use Rattle.core_model.specs.declared.answer.Answer.TheVariants as told
 use Rattle.core_model.specs.declared.event.Query.TheVariants as query
 use Rattle.policy.specs.Policy.{Declared}
@@ -21,6 +22,6 @@ audit_reply world = Ok (line.Answered form.Plain (answer.Core (told.Audit (begin
 
 -- it is what the line does, and nothing changes
 pub audit_told : (later : List Declared) (world : Joined) → does later (command.Ask (request.Query query.Audit)) world (audit_reply world) world
-unfolding does asks
+unfolding does asks query_answer
 audit_told later world =
-    (Ok (answer.Core (told.Audit (beginning world.core).before world.core.entries)), world, inl (refl, refl), refl, refl)
+    (Ok (answer.Core (told.Audit (beginning world.core).before world.core.entries)), world, inl (refl, refl), (refl, refl))
