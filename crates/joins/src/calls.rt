@@ -99,12 +99,19 @@ fn check_module(alloc: Global, module: &Module) -> Result<Checked, CheckError> {
     check(alloc, module)
 }
 
+// Ends a module, in a function of one exit.
+fn let_go(_module: Module) {}
+
 // The kernel of a text, the only one.
 fn kernel_of(alloc: Global, source: &KernelSource) -> Result<Kernel, Fault> {
     let module = read_text(alloc, source)?;
-    let checked = check_module(alloc, &module)?;
+    let checked = check_module(alloc, &module);
+    let_go(module);
     let entry = Some(0);
-    Ok(Kernel { checked, entry })
+    Ok(Kernel {
+        checked: checked?,
+        entry,
+    })
 }
 
 // The kernels of the policy, one for its one row.

@@ -13,8 +13,8 @@ use calls::{first_part, open, second_part};
 use core_model::{JoinFault, NotJoined, Part, join};
 use fault::Fault;
 use policy::Policy;
-use script::{Form, LineAnswer, write_line};
-use std::alloc::{AllocError, Global};
+use script::{Form, LineAnswer, LineReply, write_line};
+use std::alloc::Global;
 use std::process::ExitCode;
 use world::Answer;
 
@@ -24,65 +24,123 @@ fn join_once(alloc: Global, first: Part, second: Part) -> Result<Part, NotJoined
 }
 
 // Joins the parts that came back.
-fn join_back(alloc: Global, refused: NotJoined) -> Result<Part, Fault> {
-    match join_once(alloc, refused.first, refused.second) {
-        Ok(both) => Ok(both),
-        Err(again) => Err(Fault::from(again.why)),
-    }
+fn join_back(alloc: Global, refused: NotJoined) -> Result<Part, NotJoined> {
+    let NotJoined {
+        why: _,
+        first,
+        second,
+    } = refused;
+    join_once(alloc, first, second)
 }
 
-// Says why two parts weren't joined, and joins them once more where only memory was wanted.
-fn join_again(rt: &HostRuntime, refused: NotJoined) -> Result<Part, Fault> {
-    let why = refused.why;
-    println!(rt; "refused {} {why:?}", why.number())?;
-    match why {
-        JoinFault::OutOfMemory => join_back(rt.alloc(), refused),
-        JoinFault::NotNext => Err(Fault::Refused),
-    }
+// Ends a reply. (Each value that owns parts ends in a function of one exit: written out at each exit of a function it is
+// dear to prove.)
+fn let_go(_reply: LineReply) {}
+
+// Ends two parts that aren't joined, and tells why.
+fn give_up(refused: NotJoined) -> Fault {
+    Fault::from(refused.why)
 }
 
-// Joins two parts, in two tries at most.
-fn join_both(rt: &HostRuntime, first: Part, second: Part) -> Result<Part, Fault> {
-    match join_once(rt.alloc(), first, second) {
-        Ok(both) => Ok(both),
-        Err(refused) => join_again(rt, refused),
-    }
+// Ends a part for what became of the next one.
+fn give_up_first(_first: Part, fault: Fault) -> Fault {
+    fault
 }
 
-// Says how many entries two parts have, and the part that they make.
-fn tell_and_join(rt: &HostRuntime, first: Part, second: Part) -> Result<Part, Fault> {
+// Says how many entries two parts have.
+fn tell_counts(rt: &HostRuntime, first: &Part, second: &Part) -> Result<(), Fault> {
     let (former, latter) = (first.entries().len(), second.entries().len());
     println!(rt; "entries {former} and {latter}")?;
-    join_both(rt, first, second)
+    Ok(())
 }
 
-// The text of a part: a line of how many entries it has, and a line for each of them.
-fn text_of(alloc: Global, policy: &Policy, part: Part) -> Result<String, AllocError> {
-    let mut text = String::new(alloc);
-    let reply = Ok(LineAnswer::Answered {
+// Says why two parts weren't joined.
+fn tell_refusal(rt: &HostRuntime, why: JoinFault) -> Result<(), Fault> {
+    println!(rt; "refused {} {why:?}", why.number())?;
+    Ok(())
+}
+
+// Says how many entries the part has that two make.
+fn tell_joined(rt: &HostRuntime, both: &Part) -> Result<(), Fault> {
+    println!(rt; "joined {}", both.entries().len())?;
+    Ok(())
+}
+
+// A part as a script is told it.
+fn reply_of(part: Part) -> LineReply {
+    Ok(LineAnswer::Answered {
         form: Form::Plain,
         answer: Answer::Rotated(part),
-    });
-    write_line(&mut text, policy, &reply)?;
-    Ok(text)
+    })
 }
 
-// Says how many entries a part has, and each of them as an audit has it.
-fn tell(rt: &HostRuntime, policy: &Policy, part: Part) -> Result<(), Fault> {
-    println!(rt; "joined {}", part.entries().len())?;
-    let text = text_of(rt.alloc(), policy, part)?;
+// Says each entry of a part that a script is told, as an audit has it: all lines but the first.
+fn tell_entries(rt: &HostRuntime, policy: &Policy, reply: &LineReply) -> Result<(), Fault> {
+    let mut text = String::new(rt.alloc());
+    write_line(&mut text, policy, reply)?;
     if let Some((_count, entries)) = text.as_str().split_once("\n") {
         print!(rt; "{entries}")?;
     }
     Ok(())
 }
 
+// Says how many entries a part has, and each of them.
+fn tell(rt: &HostRuntime, policy: &Policy, both: Part) -> Result<(), Fault> {
+    let counted = tell_joined(rt, &both);
+    let reply = reply_of(both);
+    let told = tell_entries(rt, policy, &reply);
+    let_go(reply);
+    counted?;
+    told
+}
+
+// Tells what the parts that came back have become.
+fn tell_back(
+    rt: &HostRuntime,
+    policy: &Policy,
+    joined: Result<Part, NotJoined>,
+) -> Result<(), Fault> {
+    match joined {
+        Ok(both) => tell(rt, policy, both),
+        Err(refused) => Err(give_up(refused)),
+    }
+}
+
+// Says why two parts weren't joined, and joins them once more where only memory was wanted.
+fn join_again(rt: &HostRuntime, policy: &Policy, refused: NotJoined) -> Result<(), Fault> {
+    let why = refused.why;
+    let said = tell_refusal(rt, why);
+    let done = match why {
+        JoinFault::OutOfMemory => tell_back(rt, policy, join_back(rt.alloc(), refused)),
+        JoinFault::NotNext => Err(give_up(refused)),
+    };
+    said?;
+    done
+}
+
+// Joins two parts, in two tries at most, and tells what has become of them.
+fn join_both(rt: &HostRuntime, policy: &Policy, first: Part, second: Part) -> Result<(), Fault> {
+    let counted = tell_counts(rt, &first, &second);
+    let done = match join_once(rt.alloc(), first, second) {
+        Ok(both) => tell(rt, policy, both),
+        Err(refused) => join_again(rt, policy, refused),
+    };
+    counted?;
+    done
+}
+
+// Joins a part with the next one that a core hands out.
+fn join_next(rt: &HostRuntime, core: &mut AccessCore, first: Part) -> Result<(), Fault> {
+    match second_part(rt.alloc(), core) {
+        Ok(second) => join_both(rt, core.policy(), first, second),
+        Err(fault) => Err(give_up_first(first, fault)),
+    }
+}
+
 // Joins the two parts that rotations of a core hand out, and tells what has become of them.
 fn join_two(rt: &HostRuntime, core: &mut AccessCore) -> Result<(), Fault> {
     let first = first_part(rt.alloc(), core)?;
-    let second = second_part(rt.alloc(), core)?;
-    let both = tell_and_join(rt, first, second)?;
-    tell(rt, core.policy(), both)
+    join_next(rt, core, first)
 }
 
 fn open_and_join(rt: &HostRuntime) -> Result<(), Fault> {
