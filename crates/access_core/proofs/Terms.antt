@@ -65,7 +65,8 @@ pub use Rattle.core_model.specs.declared.event.Request.{Request}
 pub use Rattle.core_model.specs.declared.flight.InFlight.{InFlight}
 pub use Rattle.core_model.specs.declared.flight.Progress.{Progress}
 pub use Rattle.core_model.specs.declared.flight.TheConstants.{LAUNCH_PROGRESS}
-pub use Rattle.core_model.specs.declared.limits.TheConstants.{MOST_ENTRIES, MOST_SEGMENT_BYTES, QUEUES, MOST_IN_FLIGHT}
+pub use Rattle.core_model.specs.declared.limits.TheConstants.{MOST_ENTRIES, QUEUES, MOST_IN_FLIGHT}
+pub use Rattle.executor.specs.declared.limits.TheConstants.{MOST_SEGMENT_BYTES}
 pub use Rattle.core_model.specs.declared.outcome.Outcome.{Outcome}
 pub use Rattle.core_model.specs.declared.outcome.Polled.TheVariants.{Failed}
 pub use Rattle.core_model.specs.declared.outcome.Taken.TheVariants.{Denied, Launched, Waiting}

@@ -16,7 +16,8 @@ use Rattle.policy.specs.declared.rights.Right.TheVariants.{Read}
 use Rattle.policy.specs.declared.row.Takes.{Takes}
 use Rattle.queue_error.specs.declared.rule.Rule.{Rule}
 use Rattle.queue_error.specs.declared.rule.Rule.TheVariants.{L1, L2, L3, L4, L5, L6, L7, L8, L9, L10}
-use Rattle.core_model.specs.declared.limits.TheConstants.{MOST_GROUP_ITEMS, MOST_SEGMENT_BYTES, MOST_IN_FLIGHT}
+use Rattle.core_model.specs.declared.limits.TheConstants.{MOST_IN_FLIGHT}
+use Rattle.executor.specs.declared.limits.TheConstants.{MOST_GROUP_ITEMS, MOST_SEGMENT_BYTES}
 use Rattle.core_model.specs.declared.kernel.KernelSegments.{KernelSegments}
 use Rattle.core_model.specs.declared.need.Need.{Need}
 use Rattle.core_model.specs.declared.need.Subject.{Subject}

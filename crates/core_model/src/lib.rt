@@ -39,10 +39,7 @@ pub use laws::{
     taken_ids_go_on_from_the_start, what_leaves_flight_finds_room,
     whole_histories_begin_at_an_opening,
 };
-pub use limits::{
-    MOST_BEFORE, MOST_ENTRIES, MOST_GROUP_ITEMS, MOST_HOST_BYTES, MOST_IN_FLIGHT,
-    MOST_SEGMENT_BYTES, QUEUES,
-};
+pub use limits::{MOST_BEFORE, MOST_ENTRIES, MOST_HOST_BYTES, MOST_IN_FLIGHT, QUEUES};
 pub use need::{ADD64, AgentFunction, COPY, FILL, Need, Range, Subject};
 pub use origin::{Opening, Origin, PacketOrigin, QueueOrigin};
 pub use outcome::{NONE_SATISFIED, Outcome, Polled, Satisfied, Taken, WaitCause, Worked};

@@ -16,9 +16,3 @@ pub const MOST_ENTRIES: usize = 1 << 20;
 /// How many entries lie before what a history begins from at the most: so the numbers of entries, and the ids of
 /// packets, stay below 2^63.
 pub const MOST_BEFORE: u64 = 1 << 62;
-
-/// How many work-items a work-group has at the most.
-pub const MOST_GROUP_ITEMS: u64 = 1_024;
-
-/// How many bytes a group segment, and a private segment, has at the most.
-pub const MOST_SEGMENT_BYTES: u32 = 65_536;

@@ -9,6 +9,7 @@ ghost use Rattle.executor.specs.inner.Pages.{byte_at};
 use crate::held::HeldRegion;
 use crate::view::View;
 use crate::written::WrittenBytes;
+use aql_packet::REGION_SPAN;
 use byteorder::{ByteOrder, LittleEndian};
 use policy::Right;
 use queue_error::Rule;
@@ -45,7 +46,7 @@ fn access<'v>(view: &'v View<'v>, right: Right, address: u64, size: usize) -> Re
     if !region.rights.has(right) {
         return Err(Rule::A2);
     }
-    let offset = (address % (1 << 32)) as usize;
+    let offset = (address % REGION_SPAN) as usize;
     if offset + size > region.bytes.len() {
         return Err(Rule::A3);
     }

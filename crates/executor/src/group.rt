@@ -6,6 +6,7 @@ ghost use Rattle.executor.specs.Locations.{count_of, current_along, current_of, 
 ghost use Rattle.executor.specs.Runs.{HasSizes, IsRunnable, input_of, location_of};
 ghost use Rattle.executor.specs.Results.{FinishesAs, FailsAs};
 ghost use Rattle.kernel_check.specs.Programs.{Program as ProgramValue};
+ghost use Rattle.executor.specs.declared.limits.TheConstants.{MOST_GROUP_ITEMS};
 
 use crate::dispatch::Dispatch;
 use crate::fault::RunFault;
@@ -108,9 +109,9 @@ fn count_of(current: &Extent, size: &Extent) -> u32
     requires x { current.now.x ≤ size.now.x }
     requires y { current.now.y ≤ size.now.y }
     requires z { current.now.z ≤ size.now.z }
-    requires few { count_of size.now ≤ 1024 }
+    requires few { count_of size.now ≤ MOST_GROUP_ITEMS }
     ensures value { result ≡ count_of current.now }
-    ensures few { result ≤ 1024 }
+    ensures few { result ≤ MOST_GROUP_ITEMS }
 {
     (current.x as u64 * current.y as u64 * current.z as u64) as u32
 }

@@ -8,18 +8,17 @@ ghost use Rattle.executor.specs.Meaning.{turn};
 ghost use Rattle.executor.specs.inner.ItemRuns.{ItemRuns, ItemFails};
 ghost use Rattle.executor.specs.inner.Stops.{standing};
 ghost use Rattle.executor.specs.inner.Turns.{Acts};
+ghost use Rattle.executor.specs.declared.limits.TheConstants.{BUDGET};
 
 use crate::act::{Outcome, act};
 use crate::fault::{ItemFault, RunFault};
 use crate::item::{Item, ItemContext, Stop, StoppedItem};
+use crate::limits::BUDGET;
 use crate::location::{Extent, Location};
 use crate::memory::Memory;
 use kernel_check::Program;
 use queue_error::{Rule, SegmentAddress};
 use std::alloc::Global;
-
-/// How many instructions a work-item executes at most.
-const BUDGET: u32 = 65_536;
 
 /// The id of a number, where ids of these sizes are numbered with x fastest.
 pub fn id_of(sizes: &Extent, number: u32) -> Extent
@@ -71,7 +70,7 @@ fn turn(
     memory: &mut Memory,
 ) -> Outcome
     requires { length context.now.arguments.now ≡ program.now.argument_bytes }
-    ensures { (executed : ℕ) → executed < 65536
+    ensures { (executed : ℕ) → executed < BUDGET
         → Acts (turn (surroundings context.now) program.now.steps item.old executed (contents memory.old)) result item.new (contents memory.new) }
 {
     match program.steps().get(item.next) {
@@ -92,7 +91,7 @@ pub fn run_item(
     requires arguments { length context.now.arguments.now ≡ program.now.argument_bytes }
     requires x { 1 ≤ context.now.location.current_size.x }
     requires y { 1 ≤ context.now.location.current_size.y }
-    requires within { stopped.old.executed ≤ 65536 }
+    requires within { stopped.old.executed ≤ BUDGET }
     ensures ok { OnOk result (ItemRuns (surroundings context.now) program.now number
         (ready stopped.old.item stopped.old.executed) (contents memory.old) (standing stopped.new) (contents memory.new)) }
     ensures err { IfErr result (ItemFails (surroundings context.now) program.now number

@@ -8,6 +8,7 @@ ghost use Rattle.executor.specs.Locations.{count_of};
 ghost use Rattle.executor.specs.Results.{IsOver, after_turns, group_result, most_turns, wrote};
 ghost use Rattle.executor.specs.Runs.{GroupInput, begun, surroundings_of};
 ghost use Rattle.executor.specs.declared.written_range.WrittenRange.{WrittenRange};
+ghost use Rattle.executor.specs.declared.limits.TheConstants.{MOST_GROUP_ITEMS};
 
 use kernel_check::Checked;
 
@@ -24,7 +25,7 @@ pub fn law_checked_kernels_run_right(checked: &Checked)
 /// A work-group has come to its end after as many turns as `most_turns` says, whatever its kernel does: all of its
 /// items have ended, or one has broken a rule. It does nothing.
 pub fn law_groups_come_to_an_end()
-    ensures { (input : GroupInput) → count_of input.group_size ≤ 1024
+    ensures { (input : GroupInput) → count_of input.group_size ≤ MOST_GROUP_ITEMS
         → IsOver (after_turns (surroundings_of input) input.program most_turns (begun input)) }
 {}
 

@@ -17,6 +17,7 @@ mod held;
 mod item;
 mod item_run;
 mod laws;
+mod limits;
 mod location;
 mod memory;
 mod number;
@@ -39,6 +40,7 @@ pub use laws::{
     law_checked_kernels_run_right, law_groups_come_to_an_end, law_groups_read_where_they_may,
     law_writes_lie_in_held_regions,
 };
+pub use limits::{BUDGET, MOST_GROUP_ITEMS, MOST_SEGMENT_BYTES};
 pub use location::Extent;
 pub use view::View;
 pub use written_range::WrittenRange;

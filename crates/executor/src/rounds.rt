@@ -6,6 +6,7 @@ ghost use Rattle.executor.specs.inner.Held.{contents, surroundings};
 ghost use Rattle.executor.specs.Locations.{count_of};
 ghost use Rattle.executor.specs.Runs.{Fails};
 ghost use Rattle.executor.specs.inner.Stops.{after, standing, stopped_again, keep_stopped, CanGoOnFrom};
+ghost use Rattle.executor.specs.declared.limits.TheConstants.{MOST_GROUP_ITEMS};
 
 use crate::fault::RunFault;
 use crate::item::{ItemContext, StoppedItem};
@@ -35,7 +36,7 @@ pub fn run_items(
 ) -> Result<(), RunFault>
     requires arguments { length context.now.arguments.now ≡ program.now.argument_bytes }
     requires count { count ≡ count_of context.now.location.current_size }
-    requires few { count ≤ 1024 }
+    requires few { count ≤ MOST_GROUP_ITEMS }
     ensures ok { OnOk result (Leads (surroundings context.now) program.now (beginning count (contents memory.old)) (done (contents memory.new))) }
     ensures err { IfErr result (Fails (surroundings context.now) program.now (beginning count (contents memory.old))) }
 {
@@ -108,7 +109,7 @@ fn run_past_barrier(
 ) -> Result<(), RunFault>
     requires arguments { length context.now.arguments.now ≡ program.now.argument_bytes }
     requires count { length stopped.old ≡ count_of context.now.location.current_size }
-    requires few { length stopped.old ≤ 1024 }
+    requires few { length stopped.old ≤ MOST_GROUP_ITEMS }
     requires can { CanGoOnFrom 0 stopped.old }
     ensures ok { OnOk result (Leads (surroundings context.now) program.now (running (stopped_again 0 stopped.old) (contents memory.old))
         (running (map standing stopped.new) (contents memory.new))) }
@@ -126,7 +127,7 @@ fn run_past_barrier(
 
 /// The least item that waits, so many that have ended being before these.
 fn least_waiting(ended: u32, stopped: &[StoppedItem]) -> Option<Waiter>
-    requires { ended + length stopped.now ≤ 1024 }
+    requires { ended + length stopped.now ≤ MOST_GROUP_ITEMS }
     ensures { result ≡ least_waiting 0 (after ended (map standing stopped.now)) }
 {
     'items: for index in 0..stopped.len() {

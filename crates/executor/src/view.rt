@@ -4,7 +4,7 @@ ghost use Rattle.std.specs.Option.{option_copied};
 ghost use Rattle.executor.specs.Views.{has_byte_at};
 
 use crate::held::HeldRegion;
-use aql_packet::MOST_REGIONS;
+use aql_packet::{MOST_REGIONS, REGION_SPAN};
 use std::alloc::{AllocError, Global};
 use std::marker::Model;
 
@@ -59,7 +59,7 @@ impl<'a> View<'a> {
         ensures { option_copied result ≡ find (λ region. has_byte_at region address) self.now }
     {
         let places = &self.places;
-        let number = (address >> 32) as usize;
+        let number = (address / REGION_SPAN) as usize;
         if number >= places.len() {
             return None;
         }
@@ -68,7 +68,7 @@ impl<'a> View<'a> {
             return None;
         }
         let region = &self.regions[place - 1];
-        if address % (1 << 32) < region.bytes.len() as u64 {
+        if address % REGION_SPAN < region.bytes.len() as u64 {
             Some(region)
         } else {
             None

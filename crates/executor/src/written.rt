@@ -6,12 +6,10 @@ ghost use Rattle.executor.specs.Told.{runs_of};
 
 use crate::written_range::WrittenRange;
 use crate::written_region::WrittenRegion;
+use aql_packet::REGION_SPAN;
 use sequences::Sequence;
 use std::alloc::{AllocError, Global};
 use std::marker::Model;
-
-/// How many addresses a region covers at most.
-const REGION: u64 = 1 << 32;
 
 /// How many bytes a page has.
 const PAGE: usize = 64;
@@ -88,7 +86,7 @@ impl WrittenBytes {
     {
         let mut runs = Vec::new(alloc);
         for index in 0..self.regions.len() {
-            self.regions[index].add_runs(alloc, index as u64 * REGION, &mut runs)?;
+            self.regions[index].add_runs(alloc, index as u64 * REGION_SPAN, &mut runs)?;
         }
         Ok(Sequence::from_vec(runs))
     }
@@ -100,9 +98,9 @@ impl WrittenBytes {
         ensures ok { OnOk result ((x : ℕ) → byte_at self.new x ≡ laid (byte_at self.old) address bytes.now x) }
         ensures err { OnErr result ((x : ℕ) → byte_at self.new x ≡ byte_at self.old x) }
     {
-        let index = (address / REGION) as usize;
+        let index = (address / REGION_SPAN) as usize;
         grow(alloc, &mut self.regions, index + 1)?;
-        self.regions[index].store(alloc, (address % REGION) as usize, bytes)?;
+        self.regions[index].store(alloc, (address % REGION_SPAN) as usize, bytes)?;
         Ok(())
     }
 
@@ -112,9 +110,9 @@ impl WrittenBytes {
         requires { address % 64 + length buffer.old ≤ 64 }
         ensures { buffer.new ≡ seen (byte_at self.now) address buffer.old }
     {
-        let index = (address / REGION) as usize;
+        let index = (address / REGION_SPAN) as usize;
         if index < self.regions.len() {
-            self.regions[index].load((address % REGION) as usize, buffer);
+            self.regions[index].load((address % REGION_SPAN) as usize, buffer);
         }
     }
 }

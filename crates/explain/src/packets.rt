@@ -3,7 +3,7 @@
 use crate::scene::{Scene, begin, say};
 use crate::texts::put_byte;
 use aql_packet::KernelDispatch;
-use core_model::MOST_GROUP_ITEMS;
+use executor::MOST_GROUP_ITEMS;
 use std::alloc::AllocError;
 
 // The two bytes of a packet's header, as a number.

@@ -7,6 +7,7 @@ ghost use Rattle.hsail_reader.specs.Grammar.{AnswersByGrammar, field, fields};
 ghost use Rattle.hsail_reader.specs.Grammars.{read};
 ghost use Rattle.hsail_reader.specs.Syntax.{module_at, read_at, reading, Answers};
 ghost use Rattle.hsail_reader.specs.Terminals as terminals;
+ghost use Rattle.hsail_reader.specs.declared.reading.TheConstants.{MAX_TEXT};
 
 use crate::fault::{Flaw, ReadCause, ReadError, ReadFault, Stop, told};
 use crate::kernel_reading::{kernels, word_of_token};
@@ -18,7 +19,7 @@ use crate::words::Word;
 use std::alloc::Global;
 
 /// The most bytes of a text.
-const MAX_TEXT: usize = 65536;
+const MAX_TEXT: usize = 65_536;
 
 /// What the module's line says behind the name.
 #[derive(Clone, Copy)]
@@ -148,7 +149,7 @@ fn whole(alloc: Global, tokens: &[Token<'_>]) -> Result<Module, Stop>
 
 /// The module that the tokens of a text are.
 fn parsed(alloc: Global, text: &[u8]) -> Result<Module, Stop>
-    requires { length text.now ≤ 65536 }
+    requires { length text.now ≤ MAX_TEXT }
     ensures { Gives (λ m. m) result (read_at text.now) }
 {
     let tokens = tokens(alloc, text)?;
@@ -162,7 +163,7 @@ fn parsed(alloc: Global, text: &[u8]) -> Result<Module, Stop>
 pub fn read_module(alloc: Global, text: &[u8]) -> Result<Module, ReadError>
     ensures exact { Answers result (reading text.now) }
     ensures grammar { AnswersByGrammar text.now result }
-    ensures too_long { (result ≡ Err (ReadError.Fault too_long)) ↔ (65536 < length text.now) }
+    ensures too_long { (result ≡ Err (ReadError.Fault too_long)) ↔ (MAX_TEXT < length text.now) }
 {
     if text.len() > MAX_TEXT {
         return Err(ReadError::Fault(ReadFault {

@@ -13,7 +13,7 @@ use calls::{first_part, open, second_part};
 use core_model::{JoinFault, NotJoined, Part, join};
 use fault::Fault;
 use policy::Policy;
-use script::{Form, LineAnswer, LineReply, write_line};
+use script::{NumberMeaning, LineAnswer, LineReply, write_line};
 use std::alloc::Global;
 use std::process::ExitCode;
 use world::Answer;
@@ -69,7 +69,7 @@ fn tell_joined(rt: &HostRuntime, both: &Part) -> Result<(), Fault> {
 // A part as a script is told it.
 fn reply_of(part: Part) -> LineReply {
     Ok(LineAnswer::Answered {
-        form: Form::Plain,
+        meaning: NumberMeaning::Plain,
         answer: Answer::Rotated(part),
     })
 }

@@ -11,6 +11,7 @@ ghost use Rattle.kernel_check.specs.Layout.{group_end_behind, group_placed};
 ghost use Rattle.kernel_check.specs.Names.{find};
 ghost use Rattle.kernel_check.specs.Programs.{HasItsClasses};
 ghost use Rattle.kernel_check.specs.Steps.{step_of};
+ghost use Rattle.kernel_check.specs.declared.limits.TheConstants.{MAX_GROUP_BYTES, MAX_INSTRUCTIONS};
 
 use crate::causes::{instruction_cause, label_cause, variable_end};
 use crate::fault::CheckError;
@@ -50,11 +51,11 @@ fn judge_variable<'a>(
     end: u32,
     variable: &'a GroupVariable,
 ) -> Result<u32, CheckError>
-    requires { end ≤ 65536 }
+    requires { end ≤ MAX_GROUP_BYTES }
     ensures judged { Judges result (checkpoint variable.now.line (variable_fails before.old end variable.now) ∷ []) }
     ensures variables { OnOk result (before.new ≡ before.old ++ (variable.now.name, group_placed end variable.now) ∷ []) }
     ensures end { IfOk result (λ e. e ≡ group_end_behind end variable.now) }
-    ensures bound { IfOk result (λ e. e ≤ 65536) }
+    ensures bound { IfOk result (λ e. e ≤ MAX_GROUP_BYTES) }
 {
     match variable_end(before, end, variable) {
         Err(cause) => Err(refused(variable.line, cause)),
@@ -77,7 +78,7 @@ fn judge_instruction(
     ensures steps { OnOk result (steps.new.items ≡ steps.old.items
         ++ lined instruction.now.line (find variables.now) (find labels.now) instruction.now.operation ∷ []) }
     ensures classes { OnOk result (HasItsClasses (step_of (find variables.now) (find labels.now) instruction.now.operation)) }
-    ensures room { OnOk result (length steps.new.items ≤ 4096) }
+    ensures room { OnOk result (length steps.new.items ≤ MAX_INSTRUCTIONS) }
 {
     operations_are_of_rows(&instruction.operation);
     let line = instruction.line;
@@ -99,8 +100,8 @@ fn judge_item<'a>(
     steps: &mut Vec<LinedStep>,
     item: &'a Item,
 ) -> Result<u32, CheckError>
-    requires room { length steps.old.items ≤ 4096 }
-    requires bound { group_end ≤ 65536 }
+    requires room { length steps.old.items ≤ MAX_INSTRUCTIONS }
+    requires bound { group_end ≤ MAX_GROUP_BYTES }
     ensures judged { Judges result (item_check (find labels.now)
         (before variables.old group_end known.old (length steps.old.items)) item.now ∷ []) }
     ensures behind { IfOk result (λ end. before variables.new end known.new (length steps.new.items)
@@ -109,8 +110,8 @@ fn judge_item<'a>(
         ++ step_at (find labels.now) (before variables.old group_end known.old (length steps.old.items)) item.now) }
     ensures classes { OnOk result (All (λ s. HasItsClasses s.step) (step_at (find labels.now)
         (before variables.old group_end known.old (length steps.old.items)) item.now)) }
-    ensures room { OnOk result (length steps.new.items ≤ 4096) }
-    ensures bound { IfOk result (λ end. end ≤ 65536) }
+    ensures room { OnOk result (length steps.new.items ≤ MAX_INSTRUCTIONS) }
+    ensures bound { IfOk result (λ end. end ≤ MAX_GROUP_BYTES) }
 {
     match item {
         Item::Label(label) => {
@@ -137,8 +138,8 @@ pub fn checked_items<'a>(
         (unless (first_fault (item_checks (find labels.now) (first_before variables.old) items.now))
         (worked (find labels.now) (first_before variables.old) items.now)) }
     ensures classes { IfOk result (λ body. All (λ s. HasItsClasses s.step) body.steps.items) }
-    ensures room { IfOk result (λ body. length body.steps.items ≤ 4096) }
-    ensures bound { IfOk result (λ body. body.group_bytes ≤ 65536) }
+    ensures room { IfOk result (λ body. length body.steps.items ≤ MAX_INSTRUCTIONS) }
+    ensures bound { IfOk result (λ body. body.group_bytes ≤ MAX_GROUP_BYTES) }
 {
     let mut known = Names::new(alloc);
     let mut steps = Vec::new(alloc);

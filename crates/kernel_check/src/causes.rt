@@ -6,9 +6,11 @@ ghost use Rattle.kernel_check.specs.Faults.{least_cause};
 ghost use Rattle.kernel_check.specs.Layout.{end_behind, group_end_behind};
 ghost use Rattle.kernel_check.specs.Causes.{misses_label, differs, is_of_other_width, has_wrong_type, names_unknown, misses_argument, is_same_segment, lies_elsewhere, is_bad_place, is_bad, has_bad_address, instruction_fails, label_fails, argument_fails, variable_fails, kernel_fails};
 ghost use Rattle.kernel_check.specs.Operands.{any_operand, is_over};
+ghost use Rattle.kernel_check.specs.declared.limits.TheConstants.{MAX_ARGUMENT_BYTES, MAX_GROUP_BYTES, MAX_INSTRUCTIONS};
 
 use crate::fault::CheckCause;
 use crate::layout::{Placed, end, group_end};
+use crate::limits::{MAX_ARGUMENT_BYTES, MAX_INSTRUCTIONS, MAX_KERNELS};
 use crate::memory::forms;
 use crate::names::Names;
 use crate::operands::{any_over, any_wrong, same_class};
@@ -16,15 +18,6 @@ use hsail_reader::{
     Address, Argument, DataType, GroupVariable, Operand, Operands, Operation, RegisterClass,
     Segment, SegmentPlace,
 };
-
-/// The most instructions of a kernel.
-const MAX_INSTRUCTIONS: usize = 4096;
-
-/// The most bytes of a kernel's variables.
-const MAX_ARGUMENT_BYTES: u32 = 4096;
-
-/// The most kernels of a module.
-const MAX_KERNELS: usize = 64;
 
 /// Whether an operand is a label that the kernel doesn't have.
 fn unknown_label(labels: &Names<'_, usize>, operand: &Operand) -> bool
@@ -139,8 +132,8 @@ fn any_unknown_argument(variables: &Names<'_, Placed>, operands: &Operands) -> b
 
 /// Whether an instruction is too many behind these, or a number in it is too large.
 fn too_large(number: usize, operands: &Operands) -> bool
-    ensures value { result ≡ (nat_le 4096 number || any_operand is_over operands.now) }
-    ensures room { result ≡ false → number < 4096 }
+    ensures value { result ≡ (nat_le MAX_INSTRUCTIONS number || any_operand is_over operands.now) }
+    ensures room { result ≡ false → number < MAX_INSTRUCTIONS }
 {
     number >= MAX_INSTRUCTIONS || any_over(operands)
 }
@@ -214,7 +207,7 @@ pub fn instruction_cause(
     operation: &Operation,
 ) -> Option<CheckCause>
     ensures value { result ≡ least_cause (instruction_fails (find variables.now) (find labels.now) number operation.now) }
-    ensures room { result ≡ None → number < 4096 }
+    ensures room { result ≡ None → number < MAX_INSTRUCTIONS }
 {
     let operands = operation.operands();
     if any_unknown_label(labels, operands) {
@@ -255,10 +248,10 @@ pub fn argument_cause(
     bytes: u32,
     argument: &Argument,
 ) -> Option<CheckCause>
-    requires { bytes ≤ 4096 }
+    requires { bytes ≤ MAX_ARGUMENT_BYTES }
     ensures value { result ≡ least_cause (argument_fails before.now bytes argument.now) }
     ensures new_name { result ≡ None → find before.now argument.now.name ≡ None }
-    ensures room { result ≡ None → end_behind bytes argument.now ≤ 4096 }
+    ensures room { result ≡ None → end_behind bytes argument.now ≤ MAX_ARGUMENT_BYTES }
 {
     if before.get(argument.name.as_slice()).is_some() {
         return Some(CheckCause::DoubleName);
@@ -276,10 +269,10 @@ pub fn variable_end(
     bytes: u32,
     variable: &GroupVariable,
 ) -> Result<u32, CheckCause>
-    requires { bytes ≤ 65536 }
+    requires { bytes ≤ MAX_GROUP_BYTES }
     ensures fine { OnOk result (least_cause (variable_fails before.now bytes variable.now) ≡ None) }
     ensures value { IfOk result (λ end. end ≡ group_end_behind bytes variable.now) }
-    ensures bound { IfOk result (λ end. end ≤ 65536) }
+    ensures bound { IfOk result (λ end. end ≤ MAX_GROUP_BYTES) }
     ensures new_name { OnOk result (find before.now variable.now.name ≡ None) }
     ensures refused { IfErr result (λ cause. least_cause (variable_fails before.now bytes variable.now) ≡ Some cause) }
 {

@@ -9,6 +9,7 @@ ghost use Rattle.kernel_check.specs.inner.Laid.{laid_out, kernarg_laid};
 ghost use Rattle.kernel_check.specs.Names.{find};
 ghost use Rattle.kernel_check.specs.declared.fault.CheckError.TheVariants as check_error;
 ghost use Rattle.kernel_check.specs.Faults.{fault};
+ghost use Rattle.kernel_check.specs.declared.limits.TheConstants.{MAX_ARGUMENT_BYTES};
 
 use crate::causes::argument_cause;
 use crate::fault::{CheckCause, CheckError, CheckFault};
@@ -35,7 +36,7 @@ pub fn refused(line: u32, cause: CheckCause) -> CheckError
 
 /// Puts the offset of an argument of 64 bits behind the others.
 fn put_wide(offsets: &mut Vec<u32>, end: u32, argument: &Argument) -> Result<(), AllocError>
-    requires { end ≤ 4096 }
+    requires { end ≤ MAX_ARGUMENT_BYTES }
     ensures { OnOk result (offsets.new.items ≡ offsets.old.items ++ wide_at end argument.now) }
 {
     if !wide(argument.kind) {
@@ -52,7 +53,7 @@ fn put_argument<'a>(
     end: u32,
     argument: &'a Argument,
 ) -> Result<u32, AllocError>
-    requires end { end ≤ 4096 }
+    requires end { end ≤ MAX_ARGUMENT_BYTES }
     requires new_name { find names.old argument.now.name ≡ None }
     ensures names { OnOk result (names.new ≡ names.old ++ (argument.now.name, placed_at end argument.now) ∷ []) }
     ensures wide { OnOk result (offsets.new.items ≡ offsets.old.items ++ wide_at end argument.now) }
@@ -71,12 +72,12 @@ fn judge_argument<'a>(
     end: u32,
     argument: &'a Argument,
 ) -> Result<u32, CheckError>
-    requires { end ≤ 4096 }
+    requires { end ≤ MAX_ARGUMENT_BYTES }
     ensures judged { Judges result (argument_check names.old end argument.now ∷ []) }
     ensures names { OnOk result (names.new ≡ names.old ++ (argument.now.name, placed_at end argument.now) ∷ []) }
     ensures wide { OnOk result (offsets.new.items ≡ offsets.old.items ++ wide_at end argument.now) }
     ensures end { IfOk result (λ e. e ≡ end_behind end argument.now) }
-    ensures bound { IfOk result (λ e. e ≤ 4096) }
+    ensures bound { IfOk result (λ e. e ≤ MAX_ARGUMENT_BYTES) }
 {
     match argument_cause(names, end, argument) {
         Some(cause) => Err(refused(argument.line, cause)),
@@ -90,7 +91,7 @@ pub fn place_arguments<'a>(
     arguments: &'a [Argument],
 ) -> Result<KernargSegment<'a>, CheckError>
     ensures value { Gives kernarg_laid result (unless (first_fault (argument_checks [] 0 arguments.now)) (laid_out arguments.now)) }
-    ensures bound { IfOk result (λ block. block.end ≤ 4096) }
+    ensures bound { IfOk result (λ block. block.end ≤ MAX_ARGUMENT_BYTES) }
 {
     let mut names = Names::new(alloc);
     let mut offsets = Vec::new(alloc);

@@ -4,11 +4,10 @@ ghost use Rattle.std.specs.Prelude.{◌≡◌, ◌<◌, ◌≤◌, ◌+◌, max}
 ghost use Rattle.kernel_check.specs.Layout.{kind_bytes, boundary_of, placed_at, end_behind, is_wide, next_multiple, group_placed, group_end_behind};
 ghost use Rattle.kernel_check.specs.inner.Laid.{within};
 ghost use Rattle.hsail_reader.specs.Types.{alignment_bytes};
+ghost use Rattle.kernel_check.specs.declared.limits.TheConstants.{MAX_ARGUMENT_BYTES, MAX_GROUP_BYTES};
 
+use crate::limits::MAX_GROUP_BYTES;
 use hsail_reader::{Alignment, Argument, DataType, GroupVariable, Segment};
-
-/// The most bytes of a kernel's group variables.
-const MAX_GROUP_BYTES: u32 = 65536;
 
 /// A variable at its place: its segment, its type, and how many bytes stand before it there.
 #[derive(Clone, Copy, Debug)]
@@ -73,7 +72,7 @@ fn larger(natural: u32, align: Alignment) -> u32
 
 /// The next multiple of a variable's boundary.
 fn offset_behind(end: u32, kind: DataType, align: Option<Alignment>) -> u32
-    requires { end ≤ 65536 }
+    requires { end ≤ MAX_GROUP_BYTES }
     ensures value { result ≡ next_multiple end (boundary_of kind align) }
     ensures bound { result < end + 16 }
 {
@@ -83,7 +82,7 @@ fn offset_behind(end: u32, kind: DataType, align: Option<Alignment>) -> u32
 
 /// An argument behind these many bytes.
 pub fn place_behind(end: u32, argument: &Argument) -> Placed
-    requires { end ≤ 4096 }
+    requires { end ≤ MAX_ARGUMENT_BYTES }
     ensures value { result ≡ placed_at end argument.now }
     ensures bound { result.offset < 8192 }
 {
@@ -96,7 +95,7 @@ pub fn place_behind(end: u32, argument: &Argument) -> Placed
 
 /// Where an argument ends that lies behind these many bytes.
 pub fn end(before: u32, argument: &Argument) -> u32
-    requires { before ≤ 4096 }
+    requires { before ≤ MAX_ARGUMENT_BYTES }
     ensures { result ≡ end_behind before argument.now }
 {
     place_behind(before, argument).offset + bytes(argument.kind)
@@ -104,7 +103,7 @@ pub fn end(before: u32, argument: &Argument) -> u32
 
 /// A group variable behind these many bytes.
 pub fn place_group(end: u32, variable: &GroupVariable) -> Placed
-    requires { end ≤ 65536 }
+    requires { end ≤ MAX_GROUP_BYTES }
     ensures value { result ≡ group_placed end variable.now }
     ensures bound { result.offset < end + 16 }
 {
@@ -117,8 +116,8 @@ pub fn place_group(end: u32, variable: &GroupVariable) -> Placed
 
 /// Where a group variable ends that lies behind these many bytes, unless it is past 65,536 bytes.
 pub fn group_end(before: u32, variable: &GroupVariable) -> Option<u32>
-    requires { before ≤ 65536 }
-    ensures { result ≡ within 65536 (group_end_behind before variable.now) }
+    requires { before ≤ MAX_GROUP_BYTES }
+    ensures { result ≡ within MAX_GROUP_BYTES (group_end_behind before variable.now) }
 {
     let length = variable.length.unwrap_or(1);
     if length > MAX_GROUP_BYTES as u64 {

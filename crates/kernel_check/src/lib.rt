@@ -13,6 +13,7 @@ mod kernarg;
 mod labels;
 mod laws;
 mod layout;
+mod limits;
 mod memory;
 mod names;
 mod operands;
@@ -28,6 +29,7 @@ pub use laws::{
     law_faults_are_earliest, law_steps_are_faithful, law_steps_do_what_words_say,
     law_steps_have_what_they_need, law_wide_arguments_ascend,
 };
+pub use limits::{MAX_ARGUMENT_BYTES, MAX_GROUP_BYTES, MAX_INSTRUCTIONS, MAX_KERNELS};
 pub use program::Program;
 pub use step::{
     AnyRegister, AnySource, ArgumentStep, AtomicChange, AtomicPointer, AtomicStep, BranchStep,

@@ -4,15 +4,10 @@ ghost use Rattle.std.specs.Prelude.{◌≡◌};
 ghost use Rattle.kernel_check.specs.Operands.{any_operand, is_far, is_far_address, is_far_place, is_of_other_class, is_over, is_over_source, is_same_class, is_wrong, is_wrong_source};
 
 use crate::constants::in_range;
+use crate::limits::{MAX_DIMENSION, MAX_REGISTER};
 use hsail_reader::{
     Address, DataType, Operand, Operands, Register, RegisterClass, SegmentPlace, Source,
 };
-
-/// The greatest number of a register.
-const MAX_REGISTER: u64 = 63;
-
-/// The greatest number of a dimension.
-const MAX_DIMENSION: u64 = 2;
 
 /// Whether two classes are one.
 pub fn same_class(left: RegisterClass, right: RegisterClass) -> bool

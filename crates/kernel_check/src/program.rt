@@ -3,6 +3,7 @@
 ghost use Rattle.std.specs.Prelude.{◌≡◌, ◌<◌, ◌≤◌, ◌+◌, length, map, Bool, IfOk};
 ghost use Rattle.std.specs.List.{All};
 ghost use Rattle.std.specs.Str.{bytes_eq};
+ghost use Rattle.kernel_check.specs.declared.limits.TheConstants.{MAX_ARGUMENT_BYTES, MAX_GROUP_BYTES, MAX_INSTRUCTIONS};
 
 use crate::step::{LinedStep, Step};
 use sequences::Sequence;
@@ -107,7 +108,7 @@ impl Program {
     /// How many bytes the argument block has.
     pub fn kernarg_bytes(&self) -> u32
         ensures value { result ≡ self.now.argument_bytes }
-        ensures bound { result ≤ 4096 }
+        ensures bound { result ≤ MAX_ARGUMENT_BYTES }
     {
         self.argument_bytes
     }
@@ -115,7 +116,7 @@ impl Program {
     /// How many bytes the group variables take.
     pub fn group_bytes(&self) -> u32
         ensures value { result ≡ self.now.group_bytes }
-        ensures bound { result ≤ 65536 }
+        ensures bound { result ≤ MAX_GROUP_BYTES }
     {
         self.group_bytes
     }
@@ -132,7 +133,7 @@ impl Program {
     /// The steps, in the order of the text. An item whose next step is none of them has ended.
     pub fn steps(&self) -> &[Step]
         ensures value { result.now ≡ self.now.steps }
-        ensures count { length result.now ≤ 4096 }
+        ensures count { length result.now ≤ MAX_INSTRUCTIONS }
         ensures within { All (StaysWithin (length self.now.steps) self.now.argument_bytes) result.now }
         ensures classes { All HasItsClasses result.now }
     {

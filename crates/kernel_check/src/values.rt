@@ -4,6 +4,7 @@ ghost use Rattle.std.specs.Prelude.{◌≡◌};
 ghost use Rattle.kernel_check.specs.Steps.{target_in, read_in, number_type, is_signed, register_number, register_of, source1_of, source32_of, source64_of, source_of};
 
 use crate::constants::bits;
+use crate::limits::MAX_REGISTER;
 use crate::step::{
     AnyRegister, AnySource, NumberType, RegisterNumber, Source1, Source32, Source64,
 };
@@ -69,10 +70,10 @@ pub fn is_signed(kind: DataType) -> bool
 pub fn register_number(register: Register) -> RegisterNumber
     ensures { result ≡ register_number register }
 {
-    if register.number < 64 {
-        RegisterNumber::new(register.number as u8)
-    } else {
+    if register.number > MAX_REGISTER {
         RegisterNumber::new(0)
+    } else {
+        RegisterNumber::new(register.number as u8)
     }
 }
 

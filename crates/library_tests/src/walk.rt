@@ -4,7 +4,7 @@
 ghost use Rattle.std.specs.Prelude.{◌<◌};
 
 use aql_packet::PacketId;
-use ring_core::{ALLOWANCE, Access, Part, Reserved, RingState, Seen, Step, StepFault, Ticket};
+use ring_core::{ALLOWANCE, Access, Part, HeldTicket, RingState, Seen, Step, StepFault, Ticket};
 use std::alloc::{AllocError, Global};
 use std::process::Abort;
 use std::test::Fail;
@@ -244,11 +244,11 @@ impl Plain {
     }
 
     /// The open tickets of one producer.
-    fn open_tickets(&self, alloc: Global, seat: u64) -> Result<Vec<Reserved>, AllocError> {
+    fn open_tickets(&self, alloc: Global, seat: u64) -> Result<Vec<HeldTicket>, AllocError> {
         let mut tickets = Vec::new(alloc);
         for (id, owned) in self.ids.iter().enumerate() {
             if owned.owner == seat && owned.ticket.words[0].is_none() {
-                tickets.push(Reserved {
+                tickets.push(HeldTicket {
                     id: PacketId(id as u64),
                     ticket: owned.ticket,
                 })?;

@@ -3,7 +3,7 @@
 ghost use Rattle.std.specs.Prelude.{◌≡◌, ◌≤◌, ◌*◌, ◌^◌, nat_le, nat_lt, true};
 ghost use Rattle.executor.specs.Locations as locations;
 ghost use Rattle.policy.specs.Policy.{numbered};
-ghost use Rattle.core_model.specs.declared.limits.TheConstants.{MOST_GROUP_ITEMS};
+ghost use Rattle.executor.specs.declared.limits.TheConstants.{MOST_GROUP_ITEMS};
 ghost use Rattle.core_model.specs.Kernels.{grid_size, group_size};
 ghost use Rattle.core_model.specs.LaunchRules as rules;
 ghost use Rattle.packet_processor.specs.Judged.{facts_seen};
@@ -12,8 +12,8 @@ use crate::facts::Facts;
 use crate::judging::is_met_or_none;
 use crate::need_table::argument_need;
 use aql_packet::{KernelDispatch, Packet};
-use core_model::{KernelSegments, MOST_GROUP_ITEMS, MOST_SEGMENT_BYTES};
-use executor::groups_along;
+use core_model::KernelSegments;
+use executor::{MOST_GROUP_ITEMS, MOST_SEGMENT_BYTES, groups_along};
 
 /// Whether the dimensions and sizes of a kernel dispatch are as they may be: 1 to 3 dimensions, at most
 /// 1,024 work-items in a work-group, and fewer than 2^32 work-groups (PSA, Kernel Dispatch Packet; own

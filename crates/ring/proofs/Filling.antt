@@ -3,7 +3,7 @@ use Rattle.std.proofs.Common.{◌≡◌, ◌≢◌, ℕ, zero, suc, ◌+◌, ◌
 use Rattle.std.specs.Prelude.{Option, Some, None, is_some, slice_index, ◌&&◌, not}
 use Rattle.std.proofs.lemmas.Bool.Decides.{nat_tests}
 use Rattle.ring_core.specs.declared.ticket.Ticket.{Ticket}
-use Rattle.ring_core.specs.declared.ticket.Reserved.{Reserved}
+use Rattle.ring_core.specs.declared.ticket.HeldTicket.{HeldTicket}
 use Rattle.ring_core.specs.declared.access.Access.TheVariants.{StoreBody, StoreHeader}
 use Rattle.ring_core.specs.declared.access.Made.{Made}
 use Rattle.ring_core.specs.declared.part.Part.{Part}
@@ -45,12 +45,12 @@ some_ticket (Some t) h = (t, refl)
 still_open : (t : Ticket) → is_published t ≡ false → only_open (Some t) ≡ Some t
 still_open t p = rw p refl
 
-pub change_open : (id : ℕ) (change : Ticket → Ticket) (xs : List Reserved) (t : Ticket) → open_ticket id xs ≡ Some t → is_published (change t) ≡ is_published t → open_ticket id (changed id change xs) ≡ Some (change t)
+pub change_open : (id : ℕ) (change : Ticket → Ticket) (xs : List HeldTicket) (t : Ticket) → open_ticket id xs ≡ Some t → is_published (change t) ≡ is_published t → open_ticket id (changed id change xs) ≡ Some (change t)
 change_open id change xs t e same =
     let h = open_held (held id xs) t e in
     ap only_open (held_changed_same id change xs t h.0) ∙ still_open (change t) (same ∙ h.1)
 
-pub change_other : (id j : ℕ) (change : Ticket → Ticket) (xs : List Reserved) → j ≢ id → open_ticket j (changed id change xs) ≡ open_ticket j xs
+pub change_other : (id j : ℕ) (change : Ticket → Ticket) (xs : List HeldTicket) → j ≢ id → open_ticket j (changed id change xs) ≡ open_ticket j xs
 change_other id j change xs ne = ap only_open (held_changed_other id j change xs ne)
 
 body_leaves_header : (t : Ticket) (k w : ℕ) → is_published (writing (suc k) w t) ≡ is_published t

@@ -8,7 +8,7 @@ use Rattle.std.proofs.lemmas.List.Folds.{sum_by-replicate}
 use Rattle.std.proofs.lemmas.List.Recursion.{and_set}
 use Rattle.std.proofs.lemmas.List.{length-replicate, get_or_past, set-get_or}
 use Rattle.ring_core.specs.declared.ticket.Ticket.{Ticket}
-use Rattle.ring_core.specs.declared.ticket.Reserved.{Reserved}
+use Rattle.ring_core.specs.declared.ticket.HeldTicket.{HeldTicket}
 use Rattle.ring_core.specs.declared.access.Access.{Access}
 use Rattle.ring_core.specs.declared.access.Access.TheVariants.{Reserve, LoadReadIndex, StoreBody, StoreHeader, LoadHeader, LoadBody, ClearHeader, RaiseReadIndex}
 use Rattle.ring_core.specs.declared.access.Step.{Step}
@@ -125,7 +125,7 @@ module _ (n size : ℕ) (words : List ℕ) (q : ProcessorPart) (rest : List Part
   reserving some =
       let w : ℕ = get_or words 0 0 in
       let p' : ProducerPart = after_producing p Reserve w in
-      let entry : Reserved = record { id = record { 0 = w }; ticket = blank } in
+      let entry : HeldTicket = record { id = record { 0 = w }; ticket = blank } in
       let in0 : 0 < length words = omega (arith, h.words) in
       let raised : get_or (set words 0 (w + 1)) 0 0 ≡ w + 1 = get_or-set_same words 0 (w + 1) 0 in0 in
       let none : times w (all_tickets rest) ≡ 0 = h.shared.named w ∙ ap (λ b. cond {A = ℕ} b 1 0) (let f : nat_lt w w ≡ false = grind (arith, nat_tests) in f) in

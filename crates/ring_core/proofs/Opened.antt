@@ -7,7 +7,7 @@ use Rattle.std.proofs.lemmas.List.Sums.{fold-append}
 use Rattle.std.proofs.Math.Seq.{get_or-append_seam}
 use Rattle.aql_packet.specs.declared.ids.PacketId.{PacketId}
 use Rattle.ring_core.specs.declared.ticket.Ticket.{Ticket}
-use Rattle.ring_core.specs.declared.ticket.Reserved.{Reserved}
+use Rattle.ring_core.specs.declared.ticket.HeldTicket.{HeldTicket}
 use Rattle.ring_core.specs.declared.ticket.TicketChange.{TicketChange}
 use Rattle.ring_core.specs.declared.ticket.TicketChange.TheVariants.{Opened, Saw, Wrote}
 use Rattle.ring_core.specs.Words.{word, is_body}
@@ -21,21 +21,21 @@ tells false = inr refl
 -- ---- ids that rise
 
 -- an id is below all of these
-abbrev Above : ℕ → List Reserved → Type 0
+abbrev Above : ℕ → List HeldTicket → Type 0
 Above id xs = (k : ℕ) → k < length xs → id < (get_or xs k unnamed).id.0
 
-rise_tail : (x : Reserved) (xs : List Reserved) → IsAscending (x ∷ xs) → IsAscending xs
+rise_tail : (x : HeldTicket) (xs : List HeldTicket) → IsAscending (x ∷ xs) → IsAscending xs
 rise_tail x xs rise i j lt inside = rise (suc i) (suc j) (omega arith) (omega arith)
 
-rise_head : (x : Reserved) (xs : List Reserved) → IsAscending (x ∷ xs) → Above x.id.0 xs
+rise_head : (x : HeldTicket) (xs : List HeldTicket) → IsAscending (x ∷ xs) → Above x.id.0 xs
 rise_head x xs rise k inside = rise zero (suc k) (omega arith) (omega arith)
 
-rise_cons : (x : Reserved) (xs : List Reserved) → Above x.id.0 xs → IsAscending xs → IsAscending (x ∷ xs)
+rise_cons : (x : HeldTicket) (xs : List HeldTicket) → Above x.id.0 xs → IsAscending xs → IsAscending (x ∷ xs)
 rise_cons x xs above rise i zero lt inside = absurd (omega arith)
 rise_cons x xs above rise zero (suc j) lt inside = above j (omega arith)
 rise_cons x xs above rise (suc i) (suc j) lt inside = rise i j (omega arith) (omega arith)
 
-above_open : (id : ℕ) (xs : List Reserved) → Above id xs → Above id (open_ones xs)
+above_open : (id : ℕ) (xs : List HeldTicket) → Above id xs → Above id (open_ones xs)
 above_open id [] above = above
 above_open id (x ∷ xs) above =
     let rest : Above id (open_ones xs) = above_open id xs (λ k lt. above (suc k) (omega arith)) in
@@ -48,7 +48,7 @@ above_open id (x ∷ xs) above =
     more rest zero lt = above zero (omega arith)
     more rest (suc k) lt = rest k (omega arith)
 
-pub rise_open : (xs : List Reserved) → IsAscending xs → IsAscending (open_ones xs)
+pub rise_open : (xs : List HeldTicket) → IsAscending xs → IsAscending (open_ones xs)
 rise_open [] rise = rise
 rise_open (x ∷ xs) rise =
     let rest : IsAscending (open_ones xs) = rise_open xs (rise_tail x xs rise) in
@@ -58,7 +58,7 @@ rise_open (x ∷ xs) rise =
       | inr p ↦ rw p (rise_cons x (open_ones xs) above rest)
     ]
 
-length_changed : (id : ℕ) (change : Ticket → Ticket) (xs : List Reserved) → length (changed id change xs) ≡ length xs
+length_changed : (id : ℕ) (change : Ticket → Ticket) (xs : List HeldTicket) → length (changed id change xs) ≡ length xs
 length_changed id change [] = refl
 length_changed id change (x ∷ xs) =
     elim (eqb_tells x.id.0 id) [
@@ -66,7 +66,7 @@ length_changed id change (x ∷ xs) =
       | inr h ↦ rw h.0 (ap suc (length_changed id change xs))
     ]
 
-id_changed : (id : ℕ) (change : Ticket → Ticket) (xs : List Reserved) (k : ℕ) → (get_or (changed id change xs) k unnamed).id.0 ≡ (get_or xs k unnamed).id.0
+id_changed : (id : ℕ) (change : Ticket → Ticket) (xs : List HeldTicket) (k : ℕ) → (get_or (changed id change xs) k unnamed).id.0 ≡ (get_or xs k unnamed).id.0
 id_changed id change [] k = refl
 id_changed id change (x ∷ xs) zero =
     elim (eqb_tells x.id.0 id) [
@@ -79,7 +79,7 @@ id_changed id change (x ∷ xs) (suc k) =
       | inr h ↦ rw h.0 (id_changed id change xs k)
     ]
 
-rise_changed : (id : ℕ) (change : Ticket → Ticket) (xs : List Reserved) → IsAscending xs → IsAscending (changed id change xs)
+rise_changed : (id : ℕ) (change : Ticket → Ticket) (xs : List HeldTicket) → IsAscending xs → IsAscending (changed id change xs)
 rise_changed id change xs rise i j lt inside =
     let n : length (changed id change xs) ≡ length xs = length_changed id change xs in
     let b : (get_or xs i unnamed).id.0 < (get_or xs j unnamed).id.0 = rise i j lt (omega (arith, n, inside)) in
@@ -87,20 +87,20 @@ rise_changed id change xs rise i j lt inside =
     let at_j : (get_or (changed id change xs) j unnamed).id.0 ≡ (get_or xs j unnamed).id.0 = id_changed id change xs j in
     omega (arith, b, at_i, at_j)
 
-rise_push : (xs : List Reserved) (x : Reserved) → IsAscending xs → IsAbove x.id.0 xs → IsAscending (xs ++ x ∷ [])
+rise_push : (xs : List HeldTicket) (x : HeldTicket) → IsAscending xs → IsAbove x.id.0 xs → IsAscending (xs ++ x ∷ [])
 rise_push xs x rise above i j lt inside =
     let n : length (xs ++ x ∷ []) ≡ length xs + 1 = length-append xs (x ∷ []) in
     let near : i < length xs = omega (arith, n, inside, lt) in
-    let at_i : (get_or (xs ++ x ∷ []) i unnamed).id.0 ≡ (get_or xs i unnamed).id.0 = ap (λ (r : Reserved). r.id.0) (get_or_append_left xs (x ∷ []) unnamed i near) in
+    let at_i : (get_or (xs ++ x ∷ []) i unnamed).id.0 ≡ (get_or xs i unnamed).id.0 = ap (λ (r : HeldTicket). r.id.0) (get_or_append_left xs (x ∷ []) unnamed i near) in
     elim (leb_tells (length xs) j) [
       | inl h ↦
           let last : j ≡ length xs = omega (arith, n, inside, h.1) in
           let at_j : (get_or (xs ++ x ∷ []) j unnamed).id.0 ≡ x.id.0 =
-          ap (λ (k : ℕ). (get_or (xs ++ x ∷ []) k unnamed).id.0) last ∙ ap (λ (r : Reserved). r.id.0) (get_or-append_seam xs x [] unnamed) in
+          ap (λ (k : ℕ). (get_or (xs ++ x ∷ []) k unnamed).id.0) last ∙ ap (λ (r : HeldTicket). r.id.0) (get_or-append_seam xs x [] unnamed) in
           let b : (get_or xs i unnamed).id.0 < x.id.0 = above i near in
           omega (arith, at_i, at_j, b)
       | inr h ↦
-          let at_j : (get_or (xs ++ x ∷ []) j unnamed).id.0 ≡ (get_or xs j unnamed).id.0 = ap (λ (r : Reserved). r.id.0) (get_or_append_left xs (x ∷ []) unnamed j h.1) in
+          let at_j : (get_or (xs ++ x ∷ []) j unnamed).id.0 ≡ (get_or xs j unnamed).id.0 = ap (λ (r : HeldTicket). r.id.0) (get_or_append_left xs (x ∷ []) unnamed j h.1) in
           let b : (get_or xs i unnamed).id.0 < (get_or xs j unnamed).id.0 = rise i j lt h.1 in
           omega (arith, at_i, at_j, b)
     ]
@@ -108,7 +108,7 @@ rise_push xs x rise above i j lt inside =
 -- ---- the open ones
 
 -- what is held among the open ones is the open ticket
-pub held_open : (id : ℕ) (xs : List Reserved) → IsAscending xs → held id (open_ones xs) ≡ open_ticket id xs
+pub held_open : (id : ℕ) (xs : List HeldTicket) → IsAscending xs → held id (open_ones xs) ≡ open_ticket id xs
 held_open id [] rise = refl
 held_open id (x ∷ xs) rise =
     let rest : held id (open_ones xs) ≡ open_ticket id xs = held_open id xs (rise_tail x xs rise) in
@@ -128,7 +128,7 @@ held_open id (x ∷ xs) rise =
     ]
 
 -- a change of an open ticket that doesn't publish it is the same change among the open ones
-open_changed : (id : ℕ) (change : Ticket → Ticket) (xs : List Reserved) → ((t : Ticket) → is_published (change t) ≡ is_published t) → is_some (open_ticket id xs) ≡ true
+open_changed : (id : ℕ) (change : Ticket → Ticket) (xs : List HeldTicket) → ((t : Ticket) → is_published (change t) ≡ is_published t) → is_some (open_ticket id xs) ≡ true
     → changed id change (open_ones xs) ≡ open_ones (changed id change xs)
 open_changed id change [] stays has = refl
 open_changed id change (x ∷ xs) stays has =
@@ -148,7 +148,7 @@ open_changed id change (x ∷ xs) stays has =
     ]
 
 -- a ticket whose header word is written is no more among the open ones
-open_published : (id w : ℕ) (xs : List Reserved) → is_some (open_ticket id xs) ≡ true → HasEightWords id xs → without id (open_ones xs) ≡ open_ones (changed id (writing 0 w) xs)
+open_published : (id w : ℕ) (xs : List HeldTicket) → is_some (open_ticket id xs) ≡ true → HasEightWords id xs → without id (open_ones xs) ≡ open_ones (changed id (writing 0 w) xs)
 open_published id w [] has eight = refl
 open_published id w (x ∷ xs) has eight =
     elim (eqb_tells x.id.0 id) [
@@ -171,7 +171,7 @@ open_published id w (x ∷ xs) has eight =
           ]
     ]
 
-open_push : (xs : List Reserved) (x : Reserved) → is_published x.ticket ≡ false → open_ones (xs ++ x ∷ []) ≡ open_ones xs ++ x ∷ []
+open_push : (xs : List HeldTicket) (x : HeldTicket) → is_published x.ticket ≡ false → open_ones (xs ++ x ∷ []) ≡ open_ones xs ++ x ∷ []
 open_push [] x p = rw p refl
 open_push (y ∷ xs) x p =
     elim (tells (is_published y.ticket)) [
@@ -181,13 +181,13 @@ open_push (y ∷ xs) x p =
 
 -- ---- what is kept of tickets: the ids rise, and those in memory are the open ones
 
-abbrev pub IsKept : List Reserved → List TicketChange → Type 0
+abbrev pub IsKept : List HeldTicket → List TicketChange → Type 0
 IsKept ones log = IsAscending (after_changes log) × (ones ≡ open_ones (after_changes log))
 
-pub open_rises : (ones : List Reserved) (log : List TicketChange) → IsKept ones log → IsAscending ones
+pub open_rises : (ones : List HeldTicket) (log : List TicketChange) → IsKept ones log → IsAscending ones
 open_rises ones log kept = subst IsAscending (sym kept.1) (rise_open (after_changes log) kept.0)
 
-pub found_open : (id : ℕ) (ones value : List Reserved) (log : List TicketChange) → IsKept ones log → after_changes log ≡ value → held id ones ≡ open_ticket id value
+pub found_open : (id : ℕ) (ones value : List HeldTicket) (log : List TicketChange) → IsKept ones log → after_changes log ≡ value → held id ones ≡ open_ticket id value
 found_open id ones value log kept view =
     ap (held id) kept.1 ∙ held_open id (after_changes log) kept.0 ∙ ap (open_ticket id) view
 
@@ -195,7 +195,7 @@ after_more : (log log' : List TicketChange) (change : TicketChange) → log' ≡
 after_more log log' change more = ap after_changes more ∙ fold-append after_change [] log (change ∷ [])
 
 -- a change of an ones ticket that doesn't publish it
-changed_keeps : (id : ℕ) (f : Ticket → Ticket) → ((t : Ticket) → is_published (f t) ≡ is_published t) → (ones ones' value : List Reserved) (log log' : List TicketChange)
+changed_keeps : (id : ℕ) (f : Ticket → Ticket) → ((t : Ticket) → is_published (f t) ≡ is_published t) → (ones ones' value : List HeldTicket) (log log' : List TicketChange)
     → after_changes log' ≡ changed id f (after_changes log) → IsKept ones log → after_changes log ≡ value → is_some (open_ticket id value) ≡ true → ones' ≡ changed id f ones → IsKept ones' log'
 changed_keeps id f stays ones ones' value log log' after kept view has changes =
     let has' : is_some (open_ticket id (after_changes log)) ≡ true = ap (λ xs. is_some (open_ticket id xs)) view ∙ has in (
@@ -203,15 +203,15 @@ changed_keeps id f stays ones ones' value log log' after kept view has changes =
       changes ∙ ap (changed id f) kept.1 ∙ open_changed id f (after_changes log) stays has' ∙ ap open_ones (sym after),
     )
 
-pub saw_keeps : (id : PacketId) (r : ℕ) (ones ones' value : List Reserved) (log log' : List TicketChange) → log' ≡ log ++ Saw id r ∷ []
+pub saw_keeps : (id : PacketId) (r : ℕ) (ones ones' value : List HeldTicket) (log log' : List TicketChange) → log' ≡ log ++ Saw id r ∷ []
     → IsKept ones log → after_changes log ≡ value → is_some (open_ticket id.0 value) ≡ true → ones' ≡ changed id.0 (seeing r) ones → IsKept ones' log'
 saw_keeps id r ones ones' value log log' more kept view has changes =
     changed_keeps id.0 (seeing r) (λ t. refl) ones ones' value log log' (after_more log log' (Saw id r) more) kept view has changes
 
-pub saw_shows : (id : PacketId) (r : ℕ) (value : List Reserved) (log log' : List TicketChange) → log' ≡ log ++ Saw id r ∷ [] → after_changes log ≡ value → after_changes log' ≡ changed id.0 (seeing r) value
+pub saw_shows : (id : PacketId) (r : ℕ) (value : List HeldTicket) (log log' : List TicketChange) → log' ≡ log ++ Saw id r ∷ [] → after_changes log ≡ value → after_changes log' ≡ changed id.0 (seeing r) value
 saw_shows id r value log log' more view = after_more log log' (Saw id r) more ∙ ap (changed id.0 (seeing r)) view
 
-pub wrote_keeps : (id : PacketId) (k w : ℕ) (ones ones' value : List Reserved) (log log' : List TicketChange) → is_body k ≡ true → log' ≡ log ++ Wrote id k w ∷ []
+pub wrote_keeps : (id : PacketId) (k w : ℕ) (ones ones' value : List HeldTicket) (log log' : List TicketChange) → is_body k ≡ true → log' ≡ log ++ Wrote id k w ∷ []
     → IsKept ones log → after_changes log ≡ value → is_some (open_ticket id.0 value) ≡ true → ones' ≡ changed id.0 (writing k w) ones → IsKept ones' log'
 wrote_keeps id k w ones ones' value log log' body more kept view has changes =
     changed_keeps id.0 (writing k w) stays ones ones' value log log' (after_more log log' (Wrote id k w) more) kept view has changes
@@ -222,13 +222,13 @@ wrote_keeps id k w ones ones' value log log' body more kept view has changes =
     stays : (t : Ticket) → is_published (writing k w t) ≡ is_published t
     stays t = ap is_some (get_or-set_other t.words k 0 (Some w) None apart)
 
-pub wrote_shows : (id : PacketId) (k w : ℕ) (value : List Reserved) (log log' : List TicketChange) → log' ≡ log ++ Wrote id k w ∷ [] → after_changes log ≡ value → after_changes log' ≡ changed id.0 (writing k w) value
+pub wrote_shows : (id : PacketId) (k w : ℕ) (value : List HeldTicket) (log log' : List TicketChange) → log' ≡ log ++ Wrote id k w ∷ [] → after_changes log ≡ value → after_changes log' ≡ changed id.0 (writing k w) value
 wrote_shows id k w value log log' more view = after_more log log' (Wrote id k w) more ∙ ap (changed id.0 (writing k w)) view
 
-pub publish_keeps : (id : PacketId) (w : ℕ) (ones ones' value : List Reserved) (log log' : List TicketChange) → log' ≡ log ++ Wrote id 0 w ∷ []
+pub publish_keeps : (id : PacketId) (w : ℕ) (ones ones' value : List HeldTicket) (log log' : List TicketChange) → log' ≡ log ++ Wrote id 0 w ∷ []
     → IsKept ones log → after_changes log ≡ value → is_some (open_ticket id.0 value) ≡ true → ones' ≡ without id.0 ones → HasEightWords id.0 ones → IsKept ones' log'
 publish_keeps id w ones ones' value log log' more kept view has changes eight =
-    let all : List Reserved = after_changes log in
+    let all : List HeldTicket = after_changes log in
     let after : after_changes log' ≡ changed id.0 (writing 0 w) all = after_more log log' (Wrote id 0 w) more in
     let has' : is_some (open_ticket id.0 all) ≡ true = ap (λ xs. is_some (open_ticket id.0 xs)) view ∙ has in
     let shown : held id.0 ones ≡ open_ticket id.0 all = ap (held id.0) kept.1 ∙ held_open id.0 all kept.0 in
@@ -245,16 +245,16 @@ publish_keeps id w ones ones' value log log' more kept view has changes eight =
           | inr p ↦ rw p e
         ]
 
-pub push_keeps : (id : PacketId) (ones ones' value : List Reserved) (log log' : List TicketChange) → log' ≡ log ++ Opened id ∷ []
+pub push_keeps : (id : PacketId) (ones ones' value : List HeldTicket) (log log' : List TicketChange) → log' ≡ log ++ Opened id ∷ []
     → IsKept ones log → after_changes log ≡ value → IsAbove id.0 value → ones' ≡ ones ++ record { id = id; ticket = blank } ∷ [] → IsKept ones' log'
 push_keeps id ones ones' value log log' more kept view above pushes =
-    let all : List Reserved = after_changes log in
-    let entry : Reserved = record { id = id; ticket = blank } in
+    let all : List HeldTicket = after_changes log in
+    let entry : HeldTicket = record { id = id; ticket = blank } in
     let after : after_changes log' ≡ all ++ entry ∷ [] = after_more log log' (Opened id) more in
     let above' : IsAbove id.0 all = subst (IsAbove id.0) (sym view) above in (
       subst IsAscending (sym after) (rise_push all entry kept.0 above'),
       pushes ∙ ap (λ xs. xs ++ entry ∷ []) kept.1 ∙ sym (open_push all entry refl) ∙ ap open_ones (sym after),
     )
 
-pub push_shows : (id : PacketId) (value : List Reserved) (log log' : List TicketChange) → log' ≡ log ++ Opened id ∷ [] → after_changes log ≡ value → after_changes log' ≡ value ++ record { id = id; ticket = blank } ∷ []
+pub push_shows : (id : PacketId) (value : List HeldTicket) (log log' : List TicketChange) → log' ≡ log ++ Opened id ∷ [] → after_changes log ≡ value → after_changes log' ≡ value ++ record { id = id; ticket = blank } ∷ []
 push_shows id value log log' more view = after_more log log' (Opened id) more ∙ ap (λ xs. xs ++ record { id = id; ticket = blank } ∷ []) view

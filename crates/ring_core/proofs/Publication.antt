@@ -5,7 +5,7 @@ use Rattle.std.specs.Prelude.{◌⊎◌, Option, Some, None, is_some, not, if◌
 use Rattle.std.specs.List.{list_all}
 use Rattle.std.proofs.lemmas.Bool.Decides.{nat_tests, eqb_tells}
 use Rattle.ring_core.specs.declared.ticket.Ticket.{Ticket}
-use Rattle.ring_core.specs.declared.ticket.Reserved.{Reserved}
+use Rattle.ring_core.specs.declared.ticket.HeldTicket.{HeldTicket}
 use Rattle.ring_core.specs.declared.access.Access.{Access}
 use Rattle.ring_core.specs.declared.access.Access.TheVariants.{Reserve, LoadReadIndex, StoreBody, StoreHeader, LoadHeader, LoadBody, ClearHeader, RaiseReadIndex}
 use Rattle.ring_core.specs.declared.access.Step.{Step}
@@ -68,7 +68,7 @@ module _ (n size : ℕ) (words : List ℕ) (q : ProcessorPart) (rest : List Part
       → (j : ℕ) → is_published (ticket_of (Processor q ∷ rest) j) ≡ true → ticket_of (Processor q ∷ set rest seat (Producer (after_producing p access old))) j ≡ ticket_of (Processor q ∷ rest) j
   producer_stays Reserve may old is j published =
       let new : times old (all_tickets rest) ≡ 0 = subst (λ (w : ℕ). times w (all_tickets rest) ≡ 0) (sym (is refl)) (h.shared.named (get_or words 0 0) ∙ ap (λ b. cond {A = ℕ} b 1 0) (let f : nat_lt (get_or words 0 0) (get_or words 0 0) ≡ false = grind (arith, nat_tests) in f)) in
-      let entry : Reserved = record { id = record { 0 = old }; ticket = blank } in
+      let entry : HeldTicket = record { id = record { 0 = old }; ticket = blank } in
       ticket_reserved (Processor q ∷ rest) (suc seat) (Producer (after_producing p Reserve old)) entry (omega (arith, within)) (ap (λ xs. xs ++ entry ∷ []) (sym (ap tickets_of here))) refl new j
   producer_stays (LoadReadIndex ticket) may old is j published = changing_stays ticket.0 (seeing old) (after_producing p (LoadReadIndex ticket) old) may refl j published
   producer_stays (StoreBody ticket place w) may old is j published =

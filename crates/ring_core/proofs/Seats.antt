@@ -4,7 +4,7 @@ use Rattle.std.specs.Prelude.{Option, Some, None, if◌then◌else◌, unwrap_or
 use Rattle.std.proofs.lemmas.Bool.Decides.{nat_tests, eqb_tells, leb_tells}
 use Rattle.std.proofs.lemmas.Option.{same_Some}
 use Rattle.ring_core.specs.declared.ticket.Ticket.{Ticket}
-use Rattle.ring_core.specs.declared.ticket.Reserved.{Reserved}
+use Rattle.ring_core.specs.declared.ticket.HeldTicket.{HeldTicket}
 use Rattle.ring_core.specs.declared.part.Part.{Part}
 use Rattle.ring_core.specs.Tickets.{held, changed, blank, unnamed, IsAbove}
 use Rattle.ring_core.specs.Parts.{nobody}
@@ -16,7 +16,7 @@ abbrev pub or_else : Option Ticket → Option Ticket → Option Ticket
 or_else None other = other
 or_else (Some ticket) other = Some ticket
 
-pub held_append : (id : ℕ) (xs ys : List Reserved) → held id (xs ++ ys) ≡ or_else (held id xs) (held id ys)
+pub held_append : (id : ℕ) (xs ys : List HeldTicket) → held id (xs ++ ys) ≡ or_else (held id xs) (held id ys)
 held_append id [] ys = refl
 held_append id (x ∷ xs) ys =
     elim (eqb_tells x.id.0 id) [
@@ -27,12 +27,12 @@ held_append id (x ∷ xs) ys =
 one_of : (b : Bool) → b ≡ true → cond {A = ℕ} b 1 0 ≡ 1
 one_of b e = rw e refl
 
-pub times_append : (id : ℕ) (xs ys : List Reserved) → times id (xs ++ ys) ≡ times id xs + times id ys
+pub times_append : (id : ℕ) (xs ys : List HeldTicket) → times id (xs ++ ys) ≡ times id xs + times id ys
 times_append id [] ys = omega arith
 times_append id (x ∷ xs) ys = omega (arith, times_append id xs ys)
 
 -- what isn't among tickets isn't held
-pub held_absent : (id : ℕ) (xs : List Reserved) → times id xs ≡ 0 → held id xs ≡ None
+pub held_absent : (id : ℕ) (xs : List HeldTicket) → times id xs ≡ 0 → held id xs ≡ None
 held_absent id [] z = refl
 held_absent id (x ∷ xs) z =
     elim (eqb_tells x.id.0 id) [
@@ -41,7 +41,7 @@ held_absent id (x ∷ xs) z =
     ]
 
 -- what is held is there
-pub held_counts : (id : ℕ) (xs : List Reserved) (t : Ticket) → held id xs ≡ Some t → 1 ≤ times id xs
+pub held_counts : (id : ℕ) (xs : List HeldTicket) (t : Ticket) → held id xs ≡ Some t → 1 ≤ times id xs
 held_counts id [] t e = absurd (cc)
 held_counts id (x ∷ xs) t e =
     elim (eqb_tells x.id.0 id) [
@@ -50,7 +50,7 @@ held_counts id (x ∷ xs) t e =
     ]
 
 -- a change of a ticket
-pub held_changed_same : (id : ℕ) (change : Ticket → Ticket) (xs : List Reserved) (t : Ticket) → held id xs ≡ Some t → held id (changed id change xs) ≡ Some (change t)
+pub held_changed_same : (id : ℕ) (change : Ticket → Ticket) (xs : List HeldTicket) (t : Ticket) → held id xs ≡ Some t → held id (changed id change xs) ≡ Some (change t)
 held_changed_same id change [] t e = absurd (cc)
 held_changed_same id change (x ∷ xs) t e =
     elim (eqb_tells x.id.0 id) [
@@ -58,7 +58,7 @@ held_changed_same id change (x ∷ xs) t e =
       | inr h ↦ rw (h.0, h.0) (held_changed_same id change xs t (rw h.0 at e))
     ]
 
-pub held_changed_other : (id j : ℕ) (change : Ticket → Ticket) (xs : List Reserved) → j ≢ id → held j (changed id change xs) ≡ held j xs
+pub held_changed_other : (id j : ℕ) (change : Ticket → Ticket) (xs : List HeldTicket) → j ≢ id → held j (changed id change xs) ≡ held j xs
 held_changed_other id j change [] ne = refl
 held_changed_other id j change (x ∷ xs) ne =
     elim (eqb_tells x.id.0 id) [
@@ -66,7 +66,7 @@ held_changed_other id j change (x ∷ xs) ne =
       | inr h ↦ rw h.0 (ap (λ o. if eqb x.id.0 j then Some x.ticket else o) (held_changed_other id j change xs ne))
     ]
 
-pub times_changed : (id j : ℕ) (change : Ticket → Ticket) (xs : List Reserved) → times j (changed id change xs) ≡ times j xs
+pub times_changed : (id j : ℕ) (change : Ticket → Ticket) (xs : List HeldTicket) → times j (changed id change xs) ≡ times j xs
 times_changed id j change [] = refl
 times_changed id j change (x ∷ xs) =
     elim (eqb_tells x.id.0 id) [
@@ -74,7 +74,7 @@ times_changed id j change (x ∷ xs) =
       | inr h ↦ rw h.0 (ap (λ n. cond (eqb x.id.0 j) 1 0 + n) (times_changed id j change xs))
     ]
 
-changed_absent : (id : ℕ) (change : Ticket → Ticket) (xs : List Reserved) → times id xs ≡ 0 → changed id change xs ≡ xs
+changed_absent : (id : ℕ) (change : Ticket → Ticket) (xs : List HeldTicket) → times id xs ≡ 0 → changed id change xs ≡ xs
 changed_absent id change [] z = refl
 changed_absent id change (x ∷ xs) z =
     elim (eqb_tells x.id.0 id) [
@@ -83,7 +83,7 @@ changed_absent id change (x ∷ xs) z =
     ]
 
 -- in joined lists the change is in the first that has the ticket
-changed_left : (id : ℕ) (change : Ticket → Ticket) (xs ys : List Reserved) (t : Ticket) → held id xs ≡ Some t → changed id change (xs ++ ys) ≡ changed id change xs ++ ys
+changed_left : (id : ℕ) (change : Ticket → Ticket) (xs ys : List HeldTicket) (t : Ticket) → held id xs ≡ Some t → changed id change (xs ++ ys) ≡ changed id change xs ++ ys
 changed_left id change [] ys t e = absurd (cc)
 changed_left id change (x ∷ xs) ys t e =
     elim (eqb_tells x.id.0 id) [
@@ -91,7 +91,7 @@ changed_left id change (x ∷ xs) ys t e =
       | inr h ↦ rw h.0 (ap (λ zs. x ∷ zs) (changed_left id change xs ys t (rw h.0 at e)))
     ]
 
-changed_right : (id : ℕ) (change : Ticket → Ticket) (xs ys : List Reserved) → times id xs ≡ 0 → changed id change (xs ++ ys) ≡ xs ++ changed id change ys
+changed_right : (id : ℕ) (change : Ticket → Ticket) (xs ys : List HeldTicket) → times id xs ≡ 0 → changed id change (xs ++ ys) ≡ xs ++ changed id change ys
 changed_right id change [] ys z = refl
 changed_right id change (x ∷ xs) ys z =
     elim (eqb_tells x.id.0 id) [
@@ -144,10 +144,10 @@ ticket_changed id change parts seat part t one e same j =
     ]
 
 -- a seat that reserves an id gives it a blank ticket, and each other id keeps its own
-held_last : (id : ℕ) (xs : List Reserved) (e : Reserved) → held id (xs ++ e ∷ []) ≡ or_else (held id xs) (if eqb e.id.0 id then Some e.ticket else None)
+held_last : (id : ℕ) (xs : List HeldTicket) (e : HeldTicket) → held id (xs ++ e ∷ []) ≡ or_else (held id xs) (if eqb e.id.0 id then Some e.ticket else None)
 held_last id xs e = held_append id xs (e ∷ [])
 
-pub reserved_other : (id : ℕ) (parts : List Part) (seat : ℕ) (part : Part) (e : Reserved) → seat < length parts → tickets_of part ≡ tickets_of (get_or parts seat nobody) ++ e ∷ [] → e.id.0 ≢ id → held id (all_tickets (set parts seat part)) ≡ held id (all_tickets parts)
+pub reserved_other : (id : ℕ) (parts : List Part) (seat : ℕ) (part : Part) (e : HeldTicket) → seat < length parts → tickets_of part ≡ tickets_of (get_or parts seat nobody) ++ e ∷ [] → e.id.0 ≢ id → held id (all_tickets (set parts seat part)) ≡ held id (all_tickets parts)
 reserved_other id [] seat part e lt same ne = absurd (omega arith)
 reserved_other id (p ∷ parts) zero part e lt same ne =
     let f : eqb e.id.0 id ≡ false = grind (arith, nat_tests) in
@@ -164,7 +164,7 @@ reserved_other id (p ∷ parts) (suc seat) part e lt same ne =
     ∙ ap (λ o. or_else (held id (tickets_of p)) o) (reserved_other id parts seat part e (omega arith) same ne)
     ∙ sym (held_append id (tickets_of p) (all_tickets parts))
 
-pub reserved_new : (parts : List Part) (seat : ℕ) (part : Part) (e : Reserved) → seat < length parts → tickets_of part ≡ tickets_of (get_or parts seat nobody) ++ e ∷ [] → times e.id.0 (all_tickets parts) ≡ 0 → held e.id.0 (all_tickets (set parts seat part)) ≡ Some e.ticket
+pub reserved_new : (parts : List Part) (seat : ℕ) (part : Part) (e : HeldTicket) → seat < length parts → tickets_of part ≡ tickets_of (get_or parts seat nobody) ++ e ∷ [] → times e.id.0 (all_tickets parts) ≡ 0 → held e.id.0 (all_tickets (set parts seat part)) ≡ Some e.ticket
 reserved_new [] seat part e lt same z = absurd (omega arith)
 reserved_new (p ∷ parts) zero part e lt same z =
     let f : eqb e.id.0 e.id.0 ≡ true = grind (arith, nat_tests) in
@@ -180,7 +180,7 @@ reserved_new (p ∷ parts) (suc seat) part e lt same z =
     ∙ reserved_new parts seat part e (omega arith) same zr
 
 -- a blank ticket is what an id without one is taken to have, so the tickets by id stay
-pub ticket_reserved : (parts : List Part) (seat : ℕ) (part : Part) (e : Reserved) → seat < length parts → tickets_of part ≡ tickets_of (get_or parts seat nobody) ++ e ∷ [] → e.ticket ≡ blank → times e.id.0 (all_tickets parts) ≡ 0 → (j : ℕ) → ticket_of (set parts seat part) j ≡ ticket_of parts j
+pub ticket_reserved : (parts : List Part) (seat : ℕ) (part : Part) (e : HeldTicket) → seat < length parts → tickets_of part ≡ tickets_of (get_or parts seat nobody) ++ e ∷ [] → e.ticket ≡ blank → times e.id.0 (all_tickets parts) ≡ 0 → (j : ℕ) → ticket_of (set parts seat part) j ≡ ticket_of parts j
 ticket_reserved parts seat part e lt same new z j =
     elim (eqb_tells e.id.0 j) [
       | inl h ↦
@@ -206,7 +206,7 @@ part_times id (p ∷ parts) zero = omega (arith, times_append id (tickets_of p) 
 part_times id (p ∷ parts) (suc seat) = omega (arith, part_times id parts seat, times_append id (tickets_of p) (all_tickets parts))
 
 -- each entry counts for its own id
-entry_times : (xs : List Reserved) (k : ℕ) → k < length xs → 1 ≤ times (get_or xs k unnamed).id.0 xs
+entry_times : (xs : List HeldTicket) (k : ℕ) → k < length xs → 1 ≤ times (get_or xs k unnamed).id.0 xs
 entry_times [] k lt = absurd (omega arith)
 entry_times (x ∷ xs) zero lt = let f : eqb x.id.0 x.id.0 ≡ true = grind (arith, nat_tests) in omega (arith, one_of (eqb x.id.0 x.id.0) f)
 entry_times (x ∷ xs) (suc k) lt = omega (arith, entry_times xs k (omega arith))

@@ -3,7 +3,7 @@
 use Rattle.std.specs.Prelude.{◌≡◌, ℕ, ◌-◌, Bool, true, false, not, ◌&&◌, nat_lt, List, [], ◌∷◌, ◌++◌, slice_set, Option, Some, None, ⊤, is_some, if◌then◌else◌}
 use Rattle.std.specs.List.{list_all}
 use Rattle.ring_core.specs.declared.ticket.Ticket.{Ticket}
-use Rattle.ring_core.specs.declared.ticket.Reserved.{Reserved}
+use Rattle.ring_core.specs.declared.ticket.HeldTicket.{HeldTicket}
 use Rattle.ring_core.specs.declared.access.Access.{Access}
 use Rattle.ring_core.specs.declared.access.Access.TheVariants.{Reserve, LoadReadIndex, StoreBody, StoreHeader, LoadHeader, LoadBody, ClearHeader, RaiseReadIndex}
 use Rattle.ring_core.specs.declared.access.Seen.{Seen}
@@ -70,7 +70,7 @@ allowance_after allowance Reserve = allowance - 1
 allowance_after allowance _ = allowance
 
 -- the tickets after an access that found the word `old`
-abbrev pub tickets_after : List Reserved → Access → ℕ → List Reserved
+abbrev pub tickets_after : List HeldTicket → Access → ℕ → List HeldTicket
 tickets_after tickets Reserve old = tickets ++ record { id = record { 0 = old }; ticket = blank } ∷ []
 tickets_after tickets (LoadReadIndex ticket) old = changed ticket.0 (seeing old) tickets
 tickets_after tickets (StoreBody ticket place word) old = changed ticket.0 (writing place word) tickets
@@ -120,7 +120,7 @@ part_after (Processor p) access old = Processor (after_processing p access old)
 
 -- what an access asks of the tickets of its seat: an id that is reserved is above theirs, a ticket that is
 -- named is open
-abbrev pub Suits : Access → ℕ → List Reserved → Type 0
+abbrev pub Suits : Access → ℕ → List HeldTicket → Type 0
 Suits Reserve old tickets = IsAbove old tickets
 Suits (LoadReadIndex ticket) old tickets = is_some (open_ticket ticket.0 tickets) ≡ true
 Suits (StoreBody ticket place word) old tickets = (is_some (open_ticket ticket.0 tickets) ≡ true) × (is_body place ≡ true)

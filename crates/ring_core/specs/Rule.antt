@@ -2,7 +2,7 @@
 use Rattle.std.specs.Prelude.{◌≡◌, ◌≢◌, ℕ, ◌+◌, ◌*◌, ◌<◌, ◌≤◌, Bool, true, false, not, ◌==◌, nat_lt, List, [], ◌∷◌, length, get_or, slice_index, flat_map, sum_by, Option, Some, is_some, unwrap_or, if◌then◌else◌}
 use Rattle.std.specs.List.{list_all}
 use Rattle.ring_core.specs.declared.ticket.Ticket.{Ticket}
-use Rattle.ring_core.specs.declared.ticket.Reserved.{Reserved}
+use Rattle.ring_core.specs.declared.ticket.HeldTicket.{HeldTicket}
 use Rattle.ring_core.specs.declared.part.ProcessorPart.{ProcessorPart}
 use Rattle.ring_core.specs.declared.part.Part.{Part}
 use Rattle.ring_core.specs.declared.part.Part.TheVariants.{Producer, Processor}
@@ -15,11 +15,11 @@ use Rattle.ring_core.specs.declared.state.TheConstants.{MOST_PRODUCERS}
 use Rattle.ring_core.specs.Machine.{Machine, word_count, write_index, read_index, slot_word, producers_of}
 
 -- the tickets that a part has, and those of all parts
-abbrev pub tickets_of : Part → List Reserved
+abbrev pub tickets_of : Part → List HeldTicket
 tickets_of (Producer p) = p.tickets
 tickets_of (Processor p) = []
 
-abbrev pub all_tickets : List Part → List Reserved
+abbrev pub all_tickets : List Part → List HeldTicket
 all_tickets parts = flat_map tickets_of parts
 
 -- the ticket of an id, whoever has it; of an id that is not reserved, a blank one
@@ -27,7 +27,7 @@ abbrev pub ticket_of : List Part → ℕ → Ticket
 ticket_of parts id = unwrap_or (held id (all_tickets parts)) blank
 
 -- how often an id is among tickets
-abbrev pub times : ℕ → List Reserved → ℕ
+abbrev pub times : ℕ → List HeldTicket → ℕ
 times id [] = 0
 times id (entry ∷ entries) = (if entry.id.0 == id then 1 else 0) + times id entries
 

@@ -24,5 +24,5 @@ pub use part::{ALLOWANCE, Part, ProcessorPart, ProducerPart};
 pub use state::{
     MOST_PRODUCERS, ReplayFault, RingState, StepFault, is_producer_count, opening_words, replay,
 };
-pub use ticket::{Reserved, Ticket, TicketChange};
+pub use ticket::{HeldTicket, Ticket, TicketChange};
 pub use tickets::Tickets;

@@ -20,7 +20,7 @@ pub struct Ticket {
 
 /// A ticket under its id.
 #[derive(Clone, Copy, Debug, PartialEq, Eq)]
-pub struct Reserved {
+pub struct HeldTicket {
     pub id: PacketId,
     pub ticket: Ticket,
 }

@@ -5,7 +5,7 @@ ghost use Rattle.ring_core.specs.Words.{is_body};
 ghost use Rattle.ring_core.specs.Tickets.{blank, changed, seeing, writing, held, open_ticket, open_ones, without, HasEightWords, IsPlaceOf, IsAscending, IsAbove};
 
 use crate::log::Log;
-use crate::ticket::{Reserved, Ticket, TicketChange, law_eight_words, with_word};
+use crate::ticket::{HeldTicket, Ticket, TicketChange, law_eight_words, with_word};
 use aql_packet::PacketId;
 use std::alloc::{AllocError, Global};
 use std::marker::Model;
@@ -14,15 +14,15 @@ use std::marker::Model;
 /// holds the open ones alone, so that none is looked for among the published.
 #[derive(Drop, Debug)]
 pub struct Tickets {
-    open_tickets: Vec<Reserved>,
+    open_tickets: Vec<HeldTicket>,
     changes: Log<TicketChange>,
 }
 
 impl Model for Tickets {
     ghost use Rattle.std.specs.Prelude.{◌≡◌, List};
-    ghost use Rattle.ring_core.specs.declared.ticket.Reserved.{Reserved};
+    ghost use Rattle.ring_core.specs.declared.ticket.HeldTicket.{HeldTicket};
 
-    ghost Value = { List Reserved };
+    ghost Value = { List HeldTicket };
 
     ghost use Rattle.ring_core.specs.Tickets.{IsAscending, after_changes, open_ones};
 
@@ -43,7 +43,7 @@ impl Tickets {
     }
 
     /// The open tickets, in the order in which they were reserved.
-    pub fn open_tickets(&self) -> &[Reserved]
+    pub fn open_tickets(&self) -> &[HeldTicket]
         ensures { result.now ≡ open_ones self.now }
     {
         self.open_tickets.as_slice()
@@ -101,7 +101,7 @@ impl Tickets {
         ensures ok { OnOk result (self.new ≡ self.old ++ record { id = id; ticket = blank } ∷ []) }
         ensures err { OnErr result (self.new ≡ self.old) }
     {
-        let reserved = Reserved {
+        let reserved = HeldTicket {
             id,
             ticket: Ticket::blank(),
         };
@@ -112,7 +112,7 @@ impl Tickets {
 }
 
 // The ticket under an id, if it is one of these.
-fn ticket_under(reserved: &[Reserved], id: PacketId) -> Option<Ticket>
+fn ticket_under(reserved: &[HeldTicket], id: PacketId) -> Option<Ticket>
     requires { IsAscending reserved.now }
     ensures { result ≡ held id.0 reserved.now }
 {
@@ -121,7 +121,7 @@ fn ticket_under(reserved: &[Reserved], id: PacketId) -> Option<Ticket>
 }
 
 // The ticket under an id saw the read index.
-fn see(reserved: &mut Vec<Reserved>, id: PacketId, read_index: u64)
+fn see(reserved: &mut Vec<HeldTicket>, id: PacketId, read_index: u64)
     requires { IsAscending reserved.old.items }
     ensures { reserved.new.items ≡ changed id.0 (seeing read_index) reserved.old.items }
 {
@@ -131,7 +131,7 @@ fn see(reserved: &mut Vec<Reserved>, id: PacketId, read_index: u64)
 }
 
 // A word of the ticket under an id was written.
-fn write(reserved: &mut Vec<Reserved>, id: PacketId, place: u64, word: u64)
+fn write(reserved: &mut Vec<HeldTicket>, id: PacketId, place: u64, word: u64)
     requires { IsAscending reserved.old.items }
     ensures { reserved.new.items ≡ changed id.0 (writing place word) reserved.old.items }
 {
@@ -142,7 +142,7 @@ fn write(reserved: &mut Vec<Reserved>, id: PacketId, place: u64, word: u64)
 }
 
 // Takes the ticket under an id off.
-fn close(reserved: &mut Vec<Reserved>, id: PacketId)
+fn close(reserved: &mut Vec<HeldTicket>, id: PacketId)
     requires { IsAscending reserved.old.items }
     ensures rest { reserved.new.items ≡ without id.0 reserved.old.items }
     ensures eight { HasEightWords id.0 reserved.old.items }
@@ -154,7 +154,7 @@ fn close(reserved: &mut Vec<Reserved>, id: PacketId)
 }
 
 // The index of the ticket under an id, by binary search.
-fn place_of(reserved: &[Reserved], id: PacketId) -> Option<usize>
+fn place_of(reserved: &[HeldTicket], id: PacketId) -> Option<usize>
     requires { IsAscending reserved.now }
     ensures { IsPlaceOf id.0 reserved.now result }
 {

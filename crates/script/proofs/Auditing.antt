@@ -11,14 +11,14 @@ use Rattle.world.specs.declared.reply.Refusal.{Refusal}
 use Rattle.world.specs.declared.request.Request.TheVariants as request
 use Rattle.world.specs.States.{Joined}
 use Rattle.script.specs.declared.command.Command.TheVariants as command
-use Rattle.script.specs.declared.command.Form.TheVariants as form
+use Rattle.script.specs.declared.command.NumberMeaning.TheVariants as meaning
 use Rattle.script.specs.declared.command.LineAnswer.{LineAnswer}
 use Rattle.script.specs.declared.command.LineAnswer.TheVariants as line
 use Rattle.script.specs.Expansions.{does}
 
 -- the reply to such a line
 abbrev pub audit_reply : Joined → Result LineAnswer Refusal
-audit_reply world = Ok (line.Answered form.Plain (answer.Core (told.Audit (beginning world.core).before world.core.entries)))
+audit_reply world = Ok (line.Answered meaning.Plain (answer.Core (told.Audit (beginning world.core).before world.core.entries)))
 
 -- it is what the line does, and nothing changes
 pub audit_told : (later : List Declared) (world : Joined) → does later (command.Ask (request.Query query.Audit)) world (audit_reply world) world

@@ -14,14 +14,14 @@ use Rattle.script.specs.declared.command.LineAnswer.{LineAnswer}
 use Rattle.script.specs.declared.command.LineAnswer.TheVariants as line
 use Rattle.script.specs.declared.lines.Line.{Line}
 use Rattle.script.specs.declared.lines.Line.TheVariants as lines
-use Rattle.script.specs.Expansions.{ask, copies, does, form_of, raised, reload, served_or_empty, shown_or_empty}
+use Rattle.script.specs.Expansions.{ask, copies, does, meaning_of, raised, reload, served_or_empty, shown_or_empty}
 use Rattle.script.specs.Lines.{line_of}
 use Rattle.script.specs.Runs.{RepliedAs, Runs, worlds}
 
 -- ---- any line
 
 keeps_ask : (asked : Request) → Keeps (ask asked)
-keeps_ask asked = keeps_then (asks asked) _ (keeps_asks asked) (λ answer. keeps_returns (line.Answered (form_of asked) answer))
+keeps_ask asked = keeps_then (asks asked) _ (keeps_asks asked) (λ answer. keeps_returns (line.Answered (meaning_of asked) answer))
 
 keeps_copies : (named : Option Declared) → Keeps (copies named)
 unfolding Keeps

@@ -22,8 +22,8 @@ use Rattle.world.specs.Actions.{Action, and_then, asks, returns}
 use Rattle.world.specs.Lanes.{answer_of, peek, publish, retire, serve_next, submit}
 use Rattle.script.specs.declared.command.Command.{Command}
 use Rattle.script.specs.declared.command.Command.TheVariants as command
-use Rattle.script.specs.declared.command.Form.{Form}
-use Rattle.script.specs.declared.command.Form.TheVariants as form
+use Rattle.script.specs.declared.command.NumberMeaning.{NumberMeaning}
+use Rattle.script.specs.declared.command.NumberMeaning.TheVariants as meaning
 use Rattle.script.specs.declared.command.LineAnswer.{LineAnswer}
 use Rattle.script.specs.declared.command.LineAnswer.TheVariants as line
 
@@ -36,24 +36,24 @@ gives_old (op.Cas expected value) = true
 gives_old _ = false
 
 -- how the answer to a call, what a step read, and the answer to any request are told
-abbrev pub form_of_call : Call → Form
-form_of_call (call.ChangeSignal client signal operation) = if gives_old operation then form.Old else form.Plain
-form_of_call _ = form.Plain
+abbrev pub meaning_of_call : Call → NumberMeaning
+meaning_of_call (call.ChangeSignal client signal operation) = if gives_old operation then meaning.Old else meaning.Plain
+meaning_of_call _ = meaning.Plain
 
-abbrev pub form_of_access : Access → Form
-form_of_access Reserve = form.Ticket
-form_of_access (LoadBody place) = form.Word
-form_of_access RaiseReadIndex = form.Raised
-form_of_access _ = form.Plain
+abbrev pub meaning_of_access : Access → NumberMeaning
+meaning_of_access Reserve = meaning.Ticket
+meaning_of_access (LoadBody place) = meaning.Word
+meaning_of_access RaiseReadIndex = meaning.Raised
+meaning_of_access _ = meaning.Plain
 
-abbrev pub form_of : Request → Form
-form_of (request.Step queue step) = form_of_access step.access
-form_of (request.Call call) = form_of_call call
-form_of _ = form.Plain
+abbrev pub meaning_of : Request → NumberMeaning
+meaning_of (request.Step queue step) = meaning_of_access step.access
+meaning_of (request.Call call) = meaning_of_call call
+meaning_of _ = meaning.Plain
 
 -- the request, and its answer told so
 abbrev pub ask : Request → Action LineAnswer
-ask request = and_then (asks request) (λ answer. returns (line.Answered (form_of request) answer))
+ask request = and_then (asks request) (λ answer. returns (line.Answered (meaning_of request) answer))
 
 -- ---- a packet's way through a queue's ring: each line is a call of the world, and its value told so
 
@@ -72,7 +72,7 @@ peek_line queue = and_then (peek queue) (λ shown. returns (shown_or_empty shown
 
 -- the read index before it was raised, told as that which was raised
 abbrev pub raised : ℕ → LineAnswer
-raised read = line.Answered form.Raised (answer.Step (seen.Read read))
+raised read = line.Answered meaning.Raised (answer.Step (seen.Read read))
 
 abbrev pub retire_line : QueueId → Action LineAnswer
 retire_line queue = and_then (retire queue) (λ read. returns (raised read))
@@ -80,7 +80,7 @@ retire_line queue = and_then (retire queue) (λ read. returns (raised read))
 -- what became of the packet, told as the answer to its take
 abbrev pub served_or_empty : Option Served → LineAnswer
 served_or_empty None = line.Empty
-served_or_empty (Some served) = line.Answered form.Plain (answer_of served)
+served_or_empty (Some served) = line.Answered meaning.Plain (answer_of served)
 
 abbrev pub serve_line : QueueId → Action LineAnswer
 serve_line queue = and_then (serve_next queue) (λ served. returns (served_or_empty served))

@@ -33,8 +33,8 @@ use Rattle.world.specs.declared.reply.Answer.{Answer as Made}
 use Rattle.world.specs.declared.reply.Answer.TheVariants as made
 use Rattle.world.specs.declared.reply.Refusal.{Refusal as Why}
 use Rattle.world.specs.declared.reply.Refusal.TheVariants as why
-use Rattle.script.specs.declared.command.Form.{Form}
-use Rattle.script.specs.declared.command.Form.TheVariants as form
+use Rattle.script.specs.declared.command.NumberMeaning.{NumberMeaning}
+use Rattle.script.specs.declared.command.NumberMeaning.TheVariants as meaning
 use Rattle.script.specs.declared.command.LineAnswer.{LineAnswer}
 use Rattle.script.specs.declared.command.LineAnswer.TheVariants as line
 use Rattle.script.specs.Texts.{text_of_bytes, text_of_rights, text_of_word}
@@ -137,29 +137,29 @@ text_of_answer policy old (answer.Audit before all) = text_of_audit policy befor
 -- ---- what the world answers
 
 -- the old value of a signal is told
-abbrev pub tells_old : Form → Bool
-tells_old form.Old = true
+abbrev pub tells_old : NumberMeaning → Bool
+tells_old meaning.Old = true
 tells_old _ = false
 
 -- a number that a step read; of a read index that was raised, the one after it
-abbrev pub text_of_number : Form → ℕ → List ℕ
-text_of_number form.Ticket number = codes "ticket " ++ decimal number
-text_of_number form.Word number = codes "word " ++ text_of_word number
-text_of_number form.Raised number = codes "read " ++ decimal (number + 1)
+abbrev pub text_of_number : NumberMeaning → ℕ → List ℕ
+text_of_number meaning.Ticket number = codes "ticket " ++ decimal number
+text_of_number meaning.Word number = codes "word " ++ text_of_word number
+text_of_number meaning.Raised number = codes "read " ++ decimal (number + 1)
 text_of_number _ number = codes "read " ++ decimal number
 
 -- what a step read
-abbrev pub text_of_seen : Form → Seen → List ℕ
-text_of_seen form (seen.Read number) = text_of_number form number
-text_of_seen form seen.Stored = codes "ok"
+abbrev pub text_of_seen : NumberMeaning → Seen → List ℕ
+text_of_seen meaning (seen.Read number) = text_of_number meaning number
+text_of_seen meaning seen.Stored = codes "ok"
 
 -- an answer of the world
-abbrev pub text_of_made : Declared → Form → Made → List ℕ
-text_of_made policy form (made.Step seen) = text_of_seen form seen ++ codes "\n"
-text_of_made policy form (made.Header packet word) = codes "word " ++ text_of_word word ++ codes "\n"
-text_of_made policy form (made.Taken packet taken) = text_of_taken packet taken ++ codes "\n"
-text_of_made policy form (made.Core answer) = text_of_answer policy (tells_old form) answer
-text_of_made policy form (made.Rotated part) = text_of_rotated policy part
+abbrev pub text_of_made : Declared → NumberMeaning → Made → List ℕ
+text_of_made policy meaning (made.Step seen) = text_of_seen meaning seen ++ codes "\n"
+text_of_made policy meaning (made.Header packet word) = codes "word " ++ text_of_word word ++ codes "\n"
+text_of_made policy meaning (made.Taken packet taken) = text_of_taken packet taken ++ codes "\n"
+text_of_made policy meaning (made.Core answer) = text_of_answer policy (tells_old meaning) answer
+text_of_made policy meaning (made.Rotated part) = text_of_rotated policy part
 
 -- the words of a packet, as its bytes
 abbrev pub text_of_words : List ℕ → List ℕ
@@ -181,7 +181,7 @@ text_of_sent (sent.NotPublishable ticket) = codes "not publishable " ++ decimal 
 
 -- what a line is answered
 abbrev pub text_of_line_answer : Declared → LineAnswer → List ℕ
-text_of_line_answer policy (line.Answered form answer) = text_of_made policy form answer
+text_of_line_answer policy (line.Answered meaning answer) = text_of_made policy meaning answer
 text_of_line_answer policy (line.Sent sent) = text_of_sent sent
 text_of_line_answer policy (line.Shown shown) = codes "shown " ++ decimal shown.packet.0 ++ codes " " ++ text_of_words shown.words ++ codes "\n"
 text_of_line_answer policy line.Empty = codes "empty\n"

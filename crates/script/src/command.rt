@@ -41,7 +41,7 @@ pub enum Command {
 
 /// How the answer to a request is told.
 #[derive(Clone, Copy)]
-pub enum Form {
+pub enum NumberMeaning {
     /// As it is: a number that was read is the read index.
     Plain,
     /// The number that was read is a ticket.
@@ -58,7 +58,7 @@ pub enum Form {
 #[derive(Drop)]
 pub enum LineAnswer {
     /// What the world answered to a request.
-    Answered { form: Form, answer: Answer },
+    Answered { meaning: NumberMeaning, answer: Answer },
     /// What became of a packet that was to be published.
     Sent(Sent),
     /// The packet at the read index.

@@ -4,9 +4,9 @@ ghost use Rattle.std.specs.Prelude.{◌≡◌};
 ghost use Rattle.std.specs.Option.{option_copied};
 ghost use Rattle.policy.specs.Policy.{numbered};
 ghost use Rattle.world.specs.Actions.{asks};
-ghost use Rattle.script.specs.Expansions.{ask, IsCopied, does, form_of, form_of_access, form_of_call, gives_old, peek_line, publish_line, raised, reload, retire_line, serve_line, served_or_empty, shown_or_empty, submit_line};
+ghost use Rattle.script.specs.Expansions.{ask, IsCopied, does, meaning_of, meaning_of_access, meaning_of_call, gives_old, peek_line, publish_line, raised, reload, retire_line, serve_line, served_or_empty, shown_or_empty, submit_line};
 
-use crate::command::{Command, Form, LineAnswer, LineReply};
+use crate::command::{Command, LineAnswer, LineReply, NumberMeaning};
 use aql_packet::{PacketId, QueueId};
 use core_model::Call;
 use policy::Policy;
@@ -27,39 +27,39 @@ fn gives_old(operation: &SignalOp) -> bool
 }
 
 // How the answer to a call is told.
-fn form_of_call(call: &Call) -> Form
-    ensures { result ≡ form_of_call call.now }
+fn meaning_of_call(call: &Call) -> NumberMeaning
+    ensures { result ≡ meaning_of_call call.now }
 {
     match call {
         Call::ChangeSignal { operation, .. } => if gives_old(operation) {
-            Form::Old
+            NumberMeaning::Old
         } else {
-            Form::Plain
+            NumberMeaning::Plain
         },
-        _ => Form::Plain,
+        _ => NumberMeaning::Plain,
     }
 }
 
 // How what a step read is told.
-fn form_of_access(access: Access) -> Form
-    ensures { result ≡ form_of_access access }
+fn meaning_of_access(access: Access) -> NumberMeaning
+    ensures { result ≡ meaning_of_access access }
 {
     match access {
-        Access::Reserve => Form::Ticket,
-        Access::LoadBody { .. } => Form::Word,
-        Access::RaiseReadIndex => Form::Raised,
-        _ => Form::Plain,
+        Access::Reserve => NumberMeaning::Ticket,
+        Access::LoadBody { .. } => NumberMeaning::Word,
+        Access::RaiseReadIndex => NumberMeaning::Raised,
+        _ => NumberMeaning::Plain,
     }
 }
 
 // How the answer to a request is told.
-fn form_of(request: &Request) -> Form
-    ensures { result ≡ form_of request.now }
+fn meaning_of(request: &Request) -> NumberMeaning
+    ensures { result ≡ meaning_of request.now }
 {
     match request {
-        Request::Step { step, .. } => form_of_access(step.access),
-        Request::Call(call) => form_of_call(call),
-        _ => Form::Plain,
+        Request::Step { step, .. } => meaning_of_access(step.access),
+        Request::Call(call) => meaning_of_call(call),
+        _ => NumberMeaning::Plain,
     }
 }
 
@@ -75,9 +75,9 @@ fn request(alloc: Global, world: &mut World, asked: Request) -> Reply
 fn ask(alloc: Global, world: &mut World, asked: Request) -> LineReply
     ensures { ask asked world.old result world.new }
 {
-    let form = form_of(&asked);
+    let meaning = meaning_of(&asked);
     let answer = request(alloc, world, asked)?;
-    Ok(LineAnswer::Answered { form, answer })
+    Ok(LineAnswer::Answered { meaning, answer })
 }
 
 // A producer publishes a packet under its ticket.
@@ -132,7 +132,7 @@ fn raised(read: u64) -> LineAnswer
     ensures { result ≡ raised read }
 {
     LineAnswer::Answered {
-        form: Form::Raised,
+        meaning: NumberMeaning::Raised,
         answer: Answer::Step(Seen::Read(read)),
     }
 }
@@ -151,7 +151,7 @@ fn served_or_empty(served: Option<Served>) -> LineAnswer
 {
     match served {
         Some(Served { packet, taken }) => LineAnswer::Answered {
-            form: Form::Plain,
+            meaning: NumberMeaning::Plain,
             answer: Answer::Taken { packet, taken },
         },
         None => LineAnswer::Empty,

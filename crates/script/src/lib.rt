@@ -20,7 +20,7 @@ mod texts;
 mod verbs;
 mod words;
 
-pub use command::{Command, Form, LineAnswer, LineReply};
+pub use command::{Command, LineAnswer, LineReply, NumberMeaning};
 pub use expansions::perform;
 pub use fault::ScriptFault;
 pub use io_log::{IoLog, flush_once};

@@ -4,7 +4,7 @@ ghost use Rattle.std.specs.Prelude.{◌≡◌, ◌++◌, OnOk, codes, decimal, s
 ghost use Rattle.script.specs.Replies.{name_of_refusal, details_of_refusal, text_of_refusal, text_of_name, text_of_cause, text_of_taken, text_of_worked, text_of_polled, text_of_outcome, text_of_listed, text_of_listing, text_of_errors, text_of_answer, tells_old, text_of_number, text_of_seen, text_of_made, text_of_words, text_of_why, text_of_sent, text_of_line_answer, text_of_line};
 ghost use Rattle.script.specs.Texts.{text_of_bytes, text_of_word};
 
-use crate::command::{Form, LineAnswer, LineReply};
+use crate::command::{LineAnswer, LineReply, NumberMeaning};
 use crate::entries::{write_audit, write_rotated};
 use crate::texts::{write_bytes, write_rights, write_word};
 use aql_packet::PacketId;
@@ -204,26 +204,26 @@ fn write_answer(
 }
 
 // Whether the old value of a signal is told.
-fn tells_old(form: Form) -> bool
-    ensures { result ≡ tells_old form }
+fn tells_old(meaning: NumberMeaning) -> bool
+    ensures { result ≡ tells_old meaning }
 {
-    match form {
-        Form::Old => true,
+    match meaning {
+        NumberMeaning::Old => true,
         _ => false,
     }
 }
 
 // Writes a number that a step read.
-fn write_number(out: &mut String, form: Form, number: u64) -> Result<(), AllocError>
-    ensures { OnOk result (string_bytes out.new ≡ string_bytes out.old ++ text_of_number form number) }
+fn write_number(out: &mut String, meaning: NumberMeaning, number: u64) -> Result<(), AllocError>
+    ensures { OnOk result (string_bytes out.new ≡ string_bytes out.old ++ text_of_number meaning number) }
 {
-    match form {
-        Form::Ticket => write!(out, "ticket {number}"),
-        Form::Word => {
+    match meaning {
+        NumberMeaning::Ticket => write!(out, "ticket {number}"),
+        NumberMeaning::Word => {
             out.push_str("word ")?;
             write_word(out, number)
         }
-        Form::Raised => {
+        NumberMeaning::Raised => {
             let raised = u128::from(number) + 1;
             write!(out, "read {raised}")
         }
@@ -232,11 +232,11 @@ fn write_number(out: &mut String, form: Form, number: u64) -> Result<(), AllocEr
 }
 
 // Writes what a step read.
-fn write_seen(out: &mut String, form: Form, seen: Seen) -> Result<(), AllocError>
-    ensures { OnOk result (string_bytes out.new ≡ string_bytes out.old ++ text_of_seen form seen) }
+fn write_seen(out: &mut String, meaning: NumberMeaning, seen: Seen) -> Result<(), AllocError>
+    ensures { OnOk result (string_bytes out.new ≡ string_bytes out.old ++ text_of_seen meaning seen) }
 {
     match seen {
-        Seen::Read(number) => write_number(out, form, number),
+        Seen::Read(number) => write_number(out, meaning, number),
         Seen::Stored => out.push_str("ok"),
     }
 }
@@ -251,12 +251,17 @@ fn write_word_line(out: &mut String, word: u64) -> Result<(), AllocError>
 }
 
 // Writes an answer of the world.
-fn write_made(out: &mut String, policy: &Policy, form: Form, made: &Made) -> Result<(), AllocError>
-    ensures { OnOk result (string_bytes out.new ≡ string_bytes out.old ++ text_of_made policy.now form made.now) }
+fn write_made(
+    out: &mut String,
+    policy: &Policy,
+    meaning: NumberMeaning,
+    made: &Made,
+) -> Result<(), AllocError>
+    ensures { OnOk result (string_bytes out.new ≡ string_bytes out.old ++ text_of_made policy.now meaning made.now) }
 {
     match made {
         Made::Step(seen) => {
-            write_seen(out, form, *seen)?;
+            write_seen(out, meaning, *seen)?;
             out.push_str("\n")
         }
         Made::Header { word, .. } => write_word_line(out, *word),
@@ -264,7 +269,7 @@ fn write_made(out: &mut String, policy: &Policy, form: Form, made: &Made) -> Res
             write_taken(out, *packet, taken)?;
             out.push_str("\n")
         }
-        Made::Core(answer) => write_answer(out, policy, tells_old(form), answer),
+        Made::Core(answer) => write_answer(out, policy, tells_old(meaning), answer),
         Made::Rotated(part) => write_rotated(out, policy, part),
     }
 }
@@ -319,7 +324,7 @@ fn write_line_answer(
     ensures { OnOk result (string_bytes out.new ≡ string_bytes out.old ++ text_of_line_answer policy.now answer.now) }
 {
     match answer {
-        LineAnswer::Answered { form, answer } => write_made(out, policy, *form, answer),
+        LineAnswer::Answered { meaning, answer } => write_made(out, policy, *meaning, answer),
         LineAnswer::Sent(sent) => write_sent(out, sent),
         LineAnswer::Shown(shown) => write_shown(out, shown),
         LineAnswer::Empty => out.push_str("empty\n"),

@@ -5,6 +5,7 @@ use Rattle.executor.specs.declared.item.Item.{Item}
 use Rattle.executor.specs.declared.item.Stop.{Stop}
 use Rattle.executor.specs.declared.item.Stop.TheVariants as stop
 use Rattle.executor.specs.declared.item.StoppedItem.{StoppedItem}
+use Rattle.executor.specs.declared.limits.TheConstants.{BUDGET}
 
 -- where an item stands that stopped
 abbrev pub standing_at : Stop → Item → ℕ → Standing
@@ -47,7 +48,7 @@ stopped_again (suc n) (s ∷ rest) = standing s ∷ stopped_again n rest
 -- an item that waits and may execute another instruction or none
 pub record CanGoOn (s : StoppedItem) : Type 0 where
   pub at_barrier : waits s ≡ true
-  pub within : s.executed ≤ 65536
+  pub within : s.executed ≤ BUDGET
 
 -- that all items but so many first ones can go on
 abbrev pub CanGoOnFrom : ℕ → List StoppedItem → Type 0
