@@ -1,7 +1,7 @@
 -- What is cached stays what the history says when an entry is put behind it and the fields follow.
 use Rattle.std.proofs.Common.{◌≡◌, ℕ, ◌+◌, ◌≤◌, List, [], ◌∷◌, length, sym, ◌∙◌, ap, subst, refl, true, false, Some, None, arith, length-append, map, fold}
-use Rattle.std.proofs.Common.{All, get_or, if◌then◌else◌}
-use Rattle.access_core.proofs.Terms.{All-weaker, AreBlocksOf, ArgumentBlock, ClientId, Effect, Event, History, InFlight, Inside, IsCached, IsEntered, IsSound, Ledger, Object, Outcome}
+use Rattle.std.proofs.Common.{All}
+use Rattle.access_core.proofs.Terms.{AreBlocksOf, ArgumentBlock, ClientId, Effect, Event, History, InFlight, Inside, IsCached, IsEntered, IsSound, Ledger, Object, Outcome}
 use Rattle.access_core.proofs.Terms.{Owed}
 use Rattle.access_core.proofs.Terms.{PacketId, QUEUES, Queue, QueueId, Right, Start, block_of, byte_after, byte_at, cached_opening, cached_view, due, entered-owed}
 use Rattle.access_core.proofs.Terms.{enters, entry_of, flight, flight-more, history_of, in_force, in_force-more, in_force_after, lacks_room, launched_by, lengths_of}

@@ -1,5 +1,5 @@
 -- What a grant and a revocation are owed, by the grants that are cached.
-use Rattle.std.proofs.Common.{◌≡◌, sym, ◌∙◌, ap, Bool, Option, Some, None, Ok, Err, ◌&&◌, [], Result, if◌then◌else◌, not, arith}
+use Rattle.std.proofs.Common.{◌≡◌, sym, ◌∙◌, ap, Bool, Option, Some, None, Ok, Err, [], Result, if◌then◌else◌, not, arith}
 use Rattle.grants.specs.declared.refusal.GrantRefusal.{GrantRefusal as Why}
 use Rattle.core_model.specs.Owed.{owed}
 use Rattle.core_model.specs.Policies.{policy_at}

@@ -2,8 +2,8 @@
 use Rattle.std.proofs.Common.{List, ◌≡◌, ◌<◌, ◌≤◌, ◌^◌, ◌&&◌, true, arith, nat_le}
 use Rattle.access_core.proofs.Terms.{Entry, Facts, HoldsInForce, InFlight, IsLegal, IsSized, KernelDispatch, MOST_SEGMENT_BYTES, PacketId, Program, QueueId, Start, and_parts}
 use Rattle.access_core.proofs.Terms.{arguments_of}
-use Rattle.access_core.proofs.Terms.{asks_for_known_work, facts_of, flight, found-all, found-passes, grid_size, group_bytes_of, group_size, has_dimensions, has_segments, has_sizes}
-use Rattle.access_core.proofs.Terms.{all, first, found-whole, in_flight, launch-whole, same-state, is_packet, kernel_passes, leb-true, list_all, ltb-true, nat_tests, need_is_met, needs, numbered, numbered-map, segments_of}
+use Rattle.access_core.proofs.Terms.{asks_for_known_work, facts_of, found-passes, grid_size, group_bytes_of, group_size, has_dimensions, has_segments, has_sizes}
+use Rattle.access_core.proofs.Terms.{all, first, found-whole, in_flight, launch-whole, same-state, kernel_passes, leb-true, list_all, ltb-true, nat_tests, need_is_met, needs, numbered, numbered-map, segments_of}
 use Rattle.executor.specs.Locations.{count_of, groups_of}
 use Rattle.core_model.specs.declared.kernel.KernelSegments.{KernelSegments}
 use Rattle.std.proofs.Common.{Option, Some, None, sym, ap, ◌∙◌, subst, refl, false, option_map}

@@ -1,18 +1,17 @@
 -- Groups of kernel dispatches in flight: that they can be run, and that what they come to is what the history says.
 use Rattle.core_model.specs.History.{beginning}
 use Rattle.std.proofs.Common.{◌≡◌, ℕ, ◌<◌, ◌≤◌, List, length, get_or, refl, sym, ◌∙◌, ap, subst, true, Option, Some, None, arith, All, map, option_map, slice_get}
-use Rattle.access_core.proofs.Terms.{All-weaker, AreLentAlike, Dispatch, FailsAs, FaultsAs, GroupInput, GroupResult, HeldRegion, History, HoldsInForce, InFlight, Inside, IsCached}
+use Rattle.access_core.proofs.Terms.{All-weaker, AreLentAlike, Dispatch, FailsAs, FaultsAs, GroupInput, GroupResult, HeldRegion, History, Inside, IsCached}
 use Rattle.access_core.proofs.Terms.{IsInPlace}
 use Rattle.access_core.proofs.Terms.{IsLegal, IsNumber, IsRunnable, Kernel, KernelDispatch, LentRegion, PacketId, Place, Program, QueueId, WrittenRange, are_region_lengths, block_of}
 use Rattle.access_core.proofs.Terms.{granted-now, get_or_from_slice_get, given_at_launch, grid_size, group_bytes_of, group_count, group_input, group_result}
 use Rattle.access_core.proofs.Terms.{group_size}
-use Rattle.access_core.proofs.Terms.{has_entry, history_of, input_of, is_index, is_packet, is_within, kernel_of, lent_region, ltb-true, no_kernel, numbered, numbered-map, own_rights}
+use Rattle.access_core.proofs.Terms.{has_entry, history_of, input_of, is_index, is_within, kernel_of, lent_region, ltb-true, no_kernel, numbered, numbered-map, own_rights}
 use Rattle.access_core.proofs.Terms.{program_in, program_of}
 use Rattle.access_core.proofs.Terms.{region_lengths, slice_get-get_or, slice_get_within, unwrap_or, view_whole, wrote}
 use Rattle.aql_packet.specs.declared.packet.Packet.TheVariants as packet
 use Rattle.executor.specs.declared.fault.RunFault.{RunFault}
 use Rattle.core_model.proofs.Viewing.{IsWithinGrant, runs-granted}
-use Rattle.core_model.specs.Grants.{in_force}
 use Rattle.core_model.specs.Holds.{arguments}
 use Rattle.access_core.proofs.GroupLemmas.{CanRun, can-run}
 use Rattle.access_core.proofs.KernelLemmas.{views-alike}

@@ -1,14 +1,13 @@
 -- What packets hold moves along with what is in flight.
-use Rattle.std.proofs.Common.{◌≡◌, List, [], ◌∷◌, ◌++◌, refl, sym, subst, ◌∙◌, ap, Bool, true, false, Option, Some, None, arith, All, ℕ, ◌&&◌, ◌||◌, ◌==◌, not, map}
-use Rattle.std.proofs.Common.{filter, fold, get_or, if◌then◌else◌}
-use Rattle.access_core.proofs.Terms.{AreBlocksOf, ArgumentBlock, ClientId, Effect, Entry, Event, Holds, InFlight, Inside, IsCached, Ledger, Object, ObjectRight, Opening, Outcome}
+use Rattle.std.proofs.Common.{◌≡◌, List, [], ◌∷◌, ◌++◌, refl, sym, subst, ◌∙◌, ap, Bool, true, false, Some, None, arith, ℕ, ◌&&◌, ◌||◌, ◌==◌, not, map}
+use Rattle.std.proofs.Common.{filter, fold, if◌then◌else◌}
+use Rattle.access_core.proofs.Terms.{AreBlocksOf, ArgumentBlock, ClientId, Effect, Event, Holds, InFlight, Inside, IsCached, Ledger, Object, ObjectRight, Opening, Outcome}
 use Rattle.access_core.proofs.Terms.{Packet, PacketId, QueueId, Releases, Right, Rights, are_in_force, arguments-more, arguments_of, as_rights, block_behind, block_of, entry_of, flight}
 use Rattle.access_core.proofs.Terms.{fold-append, has, held, held-more, held_after, in_force, in_force_after, is_among, is_block, is_packet, launched_by, list_all, list_any, map-append}
 use Rattle.access_core.proofs.Terms.{bit_of, set_of}
 use Rattle.access_core.proofs.Terms.{name_of, owner, packet_of, releases, rights_at_launch, same_object, same_packet, start_of, with_entry}
 use Rattle.core_model.specs.Holds.{arguments}
 use Rattle.grants.specs.Pairs.{is_named}
-use Rattle.core_model.specs.Queues.{opening_of}
 use Rattle.core_model.specs.Policies.{rows_after}
 use Rattle.policy.specs.declared.rows.PolicyRows.{PolicyRows}
 use Rattle.access_core.proofs.CachedMore.{GrantsAfter}

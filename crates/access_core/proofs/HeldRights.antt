@@ -1,5 +1,5 @@
 -- Tests of rights that packets hold, taken right by right or packet by packet.
-use Rattle.std.proofs.Common.{arith, ◌≡◌, List, [], ◌∷◌, refl, sym, ◌∙◌, ap, Bool, true, false, Option, Some, None, ◌&&◌, ◌||◌, ◌==◌}
+use Rattle.std.proofs.Common.{arith, ◌≡◌, List, [], ◌∷◌, refl, sym, ◌∙◌, ap, Bool, true, false, ◌&&◌, ◌||◌}
 use Rattle.access_core.proofs.Terms.{ClientId, Entry, InFlight, IsLegal, Ledger, Object, PacketId, QueueId, Right, Rights, Start, all_rights, flight, has, held, held-flies, holds, holds_one_of}
 use Rattle.access_core.proofs.Terms.{is_holder, is_packet, list_any, set_of}
 

@@ -1,5 +1,5 @@
 -- What a reload is owed, by the grants that are cached.
-use Rattle.std.proofs.Common.{◌≡◌, ◌+◌, ◌-◌, ◌*◌, List, [], refl, sym, ◌∙◌, ap, subst, Bool, true, false, Option, Some, None, arith, ◌&&◌, ◌==◌, not, filter, if◌then◌else◌}
+use Rattle.std.proofs.Common.{◌≡◌, ◌+◌, ◌-◌, ◌*◌, List, [], refl, sym, ◌∙◌, ap, subst, Bool, true, false, Option, Some, None, arith, ◌&&◌, ◌==◌, not, if◌then◌else◌}
 use Rattle.std.proofs.lemmas.Bool.{and_from, eqb-true}
 use Rattle.policy.specs.Declaring.{DeclaresAs}
 use Rattle.policy.specs.Listing.{all_objects}
@@ -19,8 +19,7 @@ use Rattle.core_model.proofs.Entered.{named-found, reload-effects}
 use Rattle.core_model.proofs.Holding.{filtered-none}
 use Rattle.core_model.proofs.Holding as holding
 use Rattle.access_core.proofs.Calls.{due-by}
-use Rattle.access_core.proofs.CachedMore.{owed-inside}
-use Rattle.access_core.proofs.Least.{IsFound, any-found, found-any, least-first, least-none, passes}
+use Rattle.access_core.proofs.Least.{any-found, found-any, least-first, least-none, passes}
 use Rattle.access_core.proofs.Terms.{ClientId, History, InFlight, Inside, IsCached, IsFirstTo, Object, Opening, PacketId, QueueId, Right, Rules, Start, all, all_rights, and_parts, due, enters, first, flight, found-all}
 use Rattle.access_core.proofs.Terms.{found-passes, held, held-flies, history_of, in_flight, in_force, is_full, is_packet, knows_client, knows_object, launch-whole, list_any, numbered, owner, refuses, rules_of, same-state, start_of}
 use Rattle.core_model.specs.declared.outcome.Outcome.TheVariants as outcome

@@ -1,13 +1,11 @@
 -- The audit's room for packets in flight: what leaves flight is never refused for want of it.
-use Rattle.std.proofs.Common.{◌≡◌, ◌⊎◌, refl, sym, ◌∙◌, ap, subst, Some, Result, Err, Ok, inl, inr, arith}
+use Rattle.std.proofs.Common.{◌≡◌, refl, sym, ◌∙◌, ap, subst, Result, Err, inl, inr, arith}
 use Rattle.core_model.specs.History.{beginning}
-use Rattle.core_model.specs.Flight.{flight_of}
 use Rattle.core_model.specs.Legal.{MeetsOrLacks, reply_of}
-use Rattle.core_model.specs.Owed.{barrier_in}
 use Rattle.core_model.specs.Room.{FindsRoom, HasRoom}
-use Rattle.core_model.proofs.Room.{never-owed, stop-finds}
+use Rattle.core_model.proofs.Room.{never-owed}
 use Rattle.core_model.specs.declared.refusal.Refusal.TheVariants as refusal
-use Rattle.access_core.proofs.Terms.{Call, Event, History, Inside, IsCached, Outcome, Owed, PacketId, QueueId, Refusal, Stop, answers, due, enters, history_of, owed, refuses}
+use Rattle.access_core.proofs.Terms.{Event, History, Inside, IsCached, Outcome, Owed, Refusal, answers, due, enters, history_of, refuses}
 
 pub roomy : (a : Inside) → IsCached a → HasRoom (history_of a)
 roomy a kept = let flying = kept.in_flight_count in omega (arith, flying, kept.room)

@@ -1,13 +1,12 @@
 -- What a core's fields tell is what its history goes on from: the state behind its audit.
-use Rattle.std.proofs.Common.{◌≡◌, ℕ, ◌+◌, List, [], ◌∷◌, ◌++◌, length, map, refl, sym, ◌∙◌, ap, subst, Bool, true, false, Option, Some, None, arith}
+use Rattle.std.proofs.Common.{◌≡◌, ℕ, ◌+◌, List, [], ◌∷◌, length, map, refl, sym, ◌∙◌, ap, Bool, true, false, Option, Some, None}
 use Rattle.std.specs.Prelude.{◌&&◌, ◌||◌, ◌==◌, All, find, fold, option_map, if◌then◌else◌}
 use Rattle.std.specs.List.{cons_option, filter_map, list_any}
 use Rattle.std.specs.Option.{unwrap_or}
-use Rattle.std.proofs.lemmas.Bool.{and_from, and_parts, eq-eqb, eqb-true}
-use Rattle.std.proofs.lemmas.List.Elements.{All-cons, All-head, All-nil, All-tail, All-weaker}
+use Rattle.std.proofs.lemmas.Bool.{and_parts, eqb-true}
+use Rattle.std.proofs.lemmas.List.Elements.{All-head, All-tail, All-weaker}
 use Rattle.aql_packet.specs.Ids.{same_packet}
 use Rattle.core_model.specs.History.{begin, no_queue, packet_in, queue_in}
-use Rattle.core_model.specs.declared.origin.Origin.{Origin}
 use Rattle.core_model.specs.declared.origin.PacketOrigin.{PacketOrigin}
 use Rattle.core_model.specs.declared.origin.QueueOrigin.{QueueOrigin}
 use Rattle.core_model.specs.States.{state_after}
@@ -17,7 +16,7 @@ use Rattle.core_model.specs.Holds.{arguments}
 use Rattle.core_model.specs.Queues.{errors, is_stopped}
 use Rattle.regions.proofs.Laws.{byte_at-outside}
 use Rattle.access_core.specs.inner.Origins.{origin_behind, packet_origin, queue_origin, sought_in}
-use Rattle.access_core.proofs.Terms.{ArgumentBlock, IsCached, Inside, InFlight, PacketId, Place, Progress, Queue, QueueId, QueueView, Start, are_region_lengths, block_behind, block_of, byte_at, cached_opening}
+use Rattle.access_core.proofs.Terms.{ArgumentBlock, IsCached, Inside, InFlight, PacketId, Place, Progress, Queue, QueueId, QueueView, Start, are_region_lengths, block_behind, byte_at, cached_opening}
 use Rattle.access_core.proofs.Terms.{cached_view, flight, in_flight, is_block, is_packet, is_place_of, lies_in_region, memory_at, name_of, next_id, numbered, numbered-map, packet_of, place_of}
 use Rattle.access_core.proofs.Terms.{program_of, progress, region_lengths, start_of}
 use Rattle.access_core.proofs.WorkLemmas.{find-placed}

@@ -1,5 +1,5 @@
 -- What is kept beside an audit that is rotated: the fields stay, and tell the same of the state behind it.
-use Rattle.std.proofs.Common.{◌≡◌, ℕ, ◌+◌, ◌≤◌, List, [], length, map, sym, ◌∙◌, ap, subst, true, false, Some, arith}
+use Rattle.std.proofs.Common.{◌≡◌, ◌+◌, ◌≤◌, List, [], length, map, sym, ◌∙◌, ap, subst, true, false, Some, arith}
 use Rattle.std.specs.Prelude.{All}
 use Rattle.std.specs.List.{filter_map}
 use Rattle.sequences.specs.Room.{Roomy}

@@ -1,13 +1,13 @@
 -- What is owed to a packet that is handed over, by what is kept.
-use Rattle.std.proofs.Common.{fold}
+use Rattle.std.proofs.Common.{IfSome}
 use Rattle.core_model.specs.History.{beginning}
-use Rattle.std.proofs.Common.{◌≡◌, ℕ, ◌<◌, ◌≤◌, ◌^◌, List, [], ◌∷◌, ◌++◌, length, refl, sym, ◌∙◌, ap, Bool, true, false, Option, Some, None, arith, ◌+◌}
+use Rattle.std.proofs.Common.{◌≡◌, ℕ, ◌<◌, ◌^◌, List, [], ◌∷◌, ◌++◌, length, refl, sym, ◌∙◌, ap, Bool, true, false, Option, Some, None, arith, ◌+◌}
 use Rattle.std.proofs.Common.{length-append, subst, nat_lt, All, ◌||◌, ◌==◌, map, option_map, if◌then◌else◌}
 use Rattle.access_core.proofs.Terms.{All-head, All-push, All-tail, All-weaker, CanFail, ClientId, Denied, Effect, Entry, Event, Facts, History, InFlight, Inside, IsBlockPlaced, IsCached}
-use Rattle.access_core.proofs.Terms.{IsInPlace, IsSound, Launched, MayReach, MayReachRange, ObjectRight, Opening, Outcome, Packet, PacketId, Place, Queue, QueueError, QueueId, QueueView}
+use Rattle.access_core.proofs.Terms.{FoundPacket, IsAbove, IsFoundAt, IsFoundIn, IsFoundOf, IsInPlace, IsSound, Launched, MayReach, MayReachRange, ObjectRight, Opening, Outcome, Packet, PacketId, Place, Queue, QueueError, QueueId, QueueView}
 use Rattle.access_core.proofs.Terms.{Read, Rule, MOST_IN_FLIGHT, Start, Take, TakesNext, and_parts, argument_ranges, arguments-held, as_launched, barrier_bit, cached_opening, cached_view}
-use Rattle.access_core.proofs.Terms.{count_by-le-length, decoded, due, entered-owed, enters, entry_of, error_without_place, facts_of, first_failing_rule, flight, flight_of}
-use Rattle.access_core.proofs.Terms.{hands_over_packet_of, held_by_arguments, held_by_needs, history_of, in_force, is_placed, kernel_of, lacks_room, launched_by, length-map}
+use Rattle.access_core.proofs.Terms.{decoded, due, entered-owed, enters, entry_of, error_without_place, facts_of, first_failing_rule, flight, flight_of}
+use Rattle.access_core.proofs.Terms.{held_by_arguments, held_by_needs, history_of, in_force, is_placed, kernel_of, lacks_room, launched_by, length-map}
 use Rattle.access_core.proofs.Terms.{lies_in_regions}
 use Rattle.access_core.proofs.Terms.{lies_whole, list_all, lt-ltb, memory_needs, need_is_met, needs, numbered, numbered-map, owed_verdict, owner, place_of}
 use Rattle.access_core.proofs.Terms.{queue_at, refuse_unless, refuses, region_lengths, right_needed, rights_at_launch, start_of, with_denied, with_entry, with_queue, with_some}
@@ -187,6 +187,18 @@ pub open-of : (a : Inside) (kept : IsCached a) (old : History) → history_of a 
     → IsInPlace old queue id place → IsOpen a queue
 open-of a kept old seen_as queue id place found = is-open a kept queue found.opening (ap (λ h. owner (beginning h) h.entries queue) seen_as ∙ found.owner_is)
 
+-- a packet that was found has its place among those that are cached
+pub found-of : (a : Inside) (kept : IsCached a) (old : History) → history_of a ≡ old → (queue : QueueId) (found : FoundPacket)
+    → IsFoundAt old queue found → IsFoundOf a.queues.items queue (Some found)
+found-of a kept old seen_as queue found is q some =
+    let view : cached_view (Some q) ≡ queue_at (start_of a) a.audit.items queue = ap cached_view (sym some) ∙ kept.queues queue in
+    subst (IsFoundIn found) (sym (ap (λ (v : QueueView). v.places) view)) (subst (λ h. IsFoundAt h queue found) (sym seen_as) is)
+
+pub all-found-of : (a : Inside) (kept : IsCached a) (old : History) → history_of a ≡ old → (queue : QueueId) (found : Option FoundPacket)
+    → IfSome found (IsFoundAt old queue) → IsFoundOf a.queues.items queue found
+all-found-of a kept old seen_as queue None is q some = tt
+all-found-of a kept old seen_as queue (Some found) is q some = found-of a kept old seen_as queue found is q some
+
 -- A queue that takes its next packet has no error, and a slot free.
 pub record CanTake (a : Inside) (queue : QueueId) : Type 0 where
   pub opened : IsOpen a queue
@@ -200,6 +212,14 @@ can-take a kept queue takes =
     let places : length at.q.places ≡ length (map (place_of (start_of a) a.audit.items queue) (flight_of (start_of a) a.audit.items queue)) =
     ap (λ (v : QueueView). length v.places) at.view in
     record { opened = at; none = ap (λ (v : QueueView). v.errors) at.view ∙ no_errors _ _ takes.2; few = omega (arith, count, places, takes.3) }
+
+-- the ids of its packets in flight are below that of the next
+pub below-next : (a : Inside) (kept : IsCached a) (queue : QueueId) → CanTake a queue → (id : PacketId) → id.0 ≡ next_id (start_of a) a.audit.items queue → IsAbove a.queues.items queue id
+below-next a kept queue can id next q some =
+    let same : can.opened.q ≡ q = cc (sym can.opened.found ∙ some) in
+    let is : can.opened.q.next ≡ id.0 = ap (λ (v : QueueView). v.next) can.opened.view ∙ sym next in
+    subst (λ (one : Queue). All (λ (place : Place). place.id.0 < id.0) one.places) same
+    (subst (λ n. All (λ (place : Place). place.id.0 < n) can.opened.q.places) is can.opened.sound.below)
 
 -- how the queues follow an entry that changes one of them
 pub queues-after : (a : Inside) (kept : IsCached a) (queue : QueueId) (at : IsOpen a queue) (change : Queue → Queue) (view : QueueView → QueueView) (count : ℕ) (event : Event)

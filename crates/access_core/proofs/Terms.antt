@@ -9,11 +9,11 @@ pub use Rattle.access_core.specs.inner.ArgumentBlocks.{AreBlocksOf, block_behind
 pub use Rattle.access_core.specs.inner.Cached.{IsCached, IsEntered, core_of, error_places, history_of, is_full, origin_of, start_of, table_places}
 pub use Rattle.access_core.specs.inner.CachedQueue.{IsSound, QueueView, cached_opening, cached_view, place_of, queue_at}
 pub use Rattle.access_core.specs.inner.Deciding.{IsBlockPlaced, MayHold, TakesNext, refusal_of}
-pub use Rattle.access_core.specs.inner.InPlace.{IsChanged, IsInPlace, IsSized, RefusedAt, finish_owed, is_placed}
+pub use Rattle.access_core.specs.inner.InPlace.{IsChanged, IsFoundAt, IsInPlace, IsSized, RefusedAt, finish_owed, is_placed}
 pub use Rattle.access_core.specs.inner.Laying.{LiesWithin}
 pub use Rattle.access_core.specs.inner.LiesInRegions.{lies_in_regions}
 pub use Rattle.access_core.specs.inner.Polling.{look_owed, polled_as}
-pub use Rattle.access_core.specs.inner.QueueChanges.{CanFail, freed_by, places_freed, with_advance, with_denied, with_leaving, with_queue, without_one}
+pub use Rattle.access_core.specs.inner.QueueChanges.{CanFail, IsAbove, IsFoundOf, freed_by, packet_in, places_freed, with_advance, with_denied, with_leaving, with_queue, without_one}
 pub use Rattle.access_core.specs.inner.Running.{FaultsAs, IsHolder, fault_owed, lent_if_held, lent_whole, next_result, region_numbered, view_whole}
 pub use Rattle.aql_packet.specs.Ids.{same_packet}
 pub use Rattle.aql_packet.specs.Memory.{are_region_lengths, covers}
@@ -84,7 +84,7 @@ pub use Rattle.grants.specs.Holders.{IsFirstTo, IsUpTo}
 pub use Rattle.grants.specs.Ledger.{Holds, IsNew, Ledger, Releases, RevokeAnswers, are_in_force, grant_due, holds, is_holder, rules_in}
 pub use Rattle.kernel_check.specs.Programs.{Program, group_bytes_of}
 pub use Rattle.packet_processor.specs.Holding.{as_rights}
-pub use Rattle.packet_processor.specs.Queueing.{as_launched, is_place_of, with_progress, without_packet}
+pub use Rattle.packet_processor.specs.Queueing.{IsFoundIn, as_launched, is_place_of, with_progress, without_packet}
 pub use Rattle.packet_processor.specs.declared.places.Place.{Place}
 pub use Rattle.policy.proofs.NameLemmas.{numbered-map, numbered-next}
 pub use Rattle.policy.specs.Object.{same_object}
@@ -112,3 +112,4 @@ pub use Rattle.std.proofs.lemmas.List.Sums.{count_by-le-length, fold-append}
 pub use Rattle.std.proofs.lemmas.Option.{get_or_from_slice_get, slice_get-get_or, slice_get_within}
 pub use Rattle.std.specs.List.{flat_map, list_all, list_any, range_with_len, zip}
 pub use Rattle.std.specs.Option.{unwrap_or}
+pub use Rattle.packet_processor.specs.declared.places.FoundPacket.{FoundPacket}

@@ -2,4 +2,5 @@ pub mod FirstFailing
 pub mod HeldByRule
 pub mod QueueingLemmas
 pub mod PlaceLemmas
+pub mod PlaceOrder
 mod HeldByPointer

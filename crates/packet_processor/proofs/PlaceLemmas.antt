@@ -1,6 +1,6 @@
--- Lists that are changed item by item.
-use Rattle.std.proofs.Common.{◌≡◌, ℕ, zero, suc, ◌+◌, ◌<◌, List, [], ◌∷◌, ◌++◌, length, get_or, take, drop, map, add-one, refl, ap, Bool, arith}
-use Rattle.std.specs.Prelude.{◌||◌, slice_set}
+-- Lists that are gone through item by item.
+use Rattle.std.proofs.Common.{◌≡◌, ℕ, zero, suc, ◌+◌, ◌<◌, List, [], ◌∷◌, length, get_or, drop, map, find, refl, ap, ◌∙◌, Bool, true, false, Some, if◌then◌else◌, arith}
+use Rattle.std.specs.Prelude.{◌||◌}
 use Rattle.std.specs.List.{list_any}
 
 -- a test of what the items give
@@ -8,13 +8,20 @@ pub any-map : {X Y : Type 0} (test : Y → Bool) (g : X → Y) (xs : List X) →
 any-map test g [] = refl
 any-map test g (x ∷ xs) = ap (λ b. test (g x) || b) (any-map test g xs)
 
-map-step-on : {X : Type 0} (g : X → X) (xs : List X) (i : ℕ) (d : X) → i < length xs →
-    slice_set (map g (take i xs) ++ drop i xs) i (g (get_or (map g (take i xs) ++ drop i xs) i d)) ≡ map g (take (suc i) xs) ++ drop (suc i) xs
-map-step-on g [] i d within = absurd (omega arith)
-map-step-on g (x ∷ xs) zero d within = refl
-map-step-on g (x ∷ xs) (suc i) d within = ap (λ ys. g x ∷ ys) (map-step-on g xs i d (omega arith))
+-- ---- the first item that passes a test, from an index on
 
--- one item more is changed
-pub map-step : {X : Type 0} (g : X → X) (xs : List X) (i : ℕ) (d : X) (ys : List X) (v : X) → ys ≡ map g (take i xs) ++ drop i xs → i < length xs → v ≡ g (get_or ys i d) →
-    slice_set ys i v ≡ map g (take (i + 1) xs) ++ drop (i + 1) xs
-map-step g xs i d ys v is within here = rw (here, is, add-one) (map-step-on g xs i d within)
+at-index : {X : Type 0} (xs : List X) (i : ℕ) (d : X) → i < length xs → drop i xs ≡ get_or xs i d ∷ drop (suc i) xs
+at-index [] i d within = absurd (omega arith)
+at-index (x ∷ xs) zero d within = refl
+at-index (x ∷ xs) (suc i) d within = at-index xs i d (omega arith)
+
+first-of : {X : Type 0} (test : X → Bool) (x : X) (xs : List X) (b : Bool) → test x ≡ b → find test (x ∷ xs) ≡ (if b then Some x else find test xs)
+first-of test x xs b is = ap (λ c. if c then Some x else find test xs) is
+
+pub found-at : {X : Type 0} (test : X → Bool) (xs : List X) (i : ℕ) (d : X) → i < length xs → test (get_or xs i d) ≡ true → find test (drop i xs) ≡ Some (get_or xs i d)
+found-at test xs i d within is = ap (find test) (at-index xs i d within) ∙ first-of test (get_or xs i d) (drop (suc i) xs) true is
+
+pub passed-at : {X : Type 0} (test : X → Bool) (xs : List X) (i : ℕ) (d : X) → i < length xs → test (get_or xs i d) ≡ false → find test (drop i xs) ≡ find test (drop (i + 1) xs)
+passed-at test xs i d within is =
+    let next : suc i ≡ i + 1 = omega arith in
+    ap (find test) (at-index xs i d within) ∙ first-of test (get_or xs i d) (drop (suc i) xs) false is ∙ ap (λ n. find test (drop n xs)) next

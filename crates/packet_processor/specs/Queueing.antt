@@ -1,10 +1,11 @@
 -- What is known of one queue.
-use Rattle.std.specs.Prelude.{◌==◌, Bool, nat_lt, List, filter, length, map, not, Option, Some, None, if◌then◌else◌}
+use Rattle.std.specs.Prelude.{◌≡◌, ◌==◌, ◌<◌, ℕ, Bool, nat_lt, List, filter, find, length, map, not, option_map, slice_get, Option, Some, None, if◌then◌else◌}
 use Rattle.aql_packet.specs.declared.ids.PacketId.{PacketId}
 use Rattle.aql_packet.specs.declared.packet.Packet.{Packet}
 use Rattle.core_model.specs.declared.flight.Progress.{Progress}
 use Rattle.core_model.specs.declared.outcome.WaitCause.{WaitCause}
 use Rattle.core_model.specs.declared.flight.TheConstants.{LAUNCH_PROGRESS}
+use Rattle.packet_processor.specs.declared.places.FoundPacket.{FoundPacket}
 use Rattle.packet_processor.specs.declared.places.Place.{Place}
 use Rattle.packet_processor.specs.declared.queue_state.QueueState.{QueueState}
 use Rattle.packet_processor.specs.declared.queue_state.State.{State}
@@ -20,9 +21,22 @@ as_launched id p = record { id = id; packet = p; progress = LAUNCH_PROGRESS }
 abbrev pub is_place_of : PacketId → Place → Bool
 is_place_of id place = place.id.0 == id.0
 
+-- a place after its packet has come this far
+abbrev pub further : Progress → Place → Place
+further so_far place = record place { progress = so_far }
+
 -- a place after the packet with an id has come this far
 abbrev pub with_progress : PacketId → Progress → Place → Place
-with_progress id so_far place = if is_place_of id place then record place { progress = so_far } else place
+with_progress id so_far place = if is_place_of id place then further so_far place else place
+
+-- the index of the first place that passes a test; none where none does
+abbrev pub IsIndexOf : (Place → Bool) → List Place → Option ℕ → Type 0
+IsIndexOf test places None = find test places ≡ None
+IsIndexOf test places (Some index) = (index < length places) × (find test places ≡ slice_get places index)
+
+-- the packet was found: the place of this index is its
+abbrev pub IsFoundIn : FoundPacket → List Place → Type 0
+IsFoundIn found places = option_map (λ place. place.id) (slice_get places found.index) ≡ Some found.packet
 
 -- the places without that of the packet with an id
 abbrev pub without_packet : PacketId → List Place → List Place

@@ -2,3 +2,4 @@
 pub mod FieldRules
 pub mod NeedsFound
 pub mod RightsPassing
+pub mod Ascending

@@ -20,5 +20,5 @@ pub use judging::verdict;
 pub use need_table::{Needs, function_of, needs, result_range};
 pub use packet_needs::PacketNeeds;
 pub use packets::{completion_signal, is_barrier, is_ready};
-pub use places::{Place, Places};
+pub use places::{FoundPacket, Place, Places};
 pub use queue_state::{MayLaunch, QueueState, State};

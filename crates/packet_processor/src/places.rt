@@ -1,10 +1,10 @@
 //! The places in which a packet processor keeps the packets of a queue in flight.
 
-ghost use Rattle.std.specs.Prelude.{◌≡◌, ◌==◌, ◌<◌, ◌++◌, ◌∷◌, [], find, length, map, option_map};
+ghost use Rattle.std.specs.Prelude.{◌≡◌, ◌==◌, ◌<◌, ◌++◌, ◌∷◌, [], All, IfSome, find, length, map, option_map};
 ghost use Rattle.std.specs.Option.{option_copied};
 ghost use Rattle.core_model.specs.declared.limits.TheConstants.{MOST_IN_FLIGHT};
 ghost use Rattle.core_model.specs.LaunchRules.{is_barrier};
-ghost use Rattle.packet_processor.specs.Queueing.{as_launched, is_place_of, with_progress, without_packet};
+ghost use Rattle.packet_processor.specs.Queueing.{IsFoundIn, IsIndexOf, as_launched, is_place_of, with_progress, without_packet};
 
 use crate::packets::is_barrier;
 use aql_packet::{Barrier, Header, Packet, PacketId, Scope, SignalHandle};
@@ -34,8 +34,17 @@ pub struct Place {
     pub progress: Progress,
 }
 
-/// The packets of one queue in flight, in the order in which they were launched. They lie in eight
-/// places of the value itself, and take no memory. A contract sees the list.
+/// A packet in flight that was found: its id, and which of its queue's places it has.
+#[derive(Clone, Copy, Debug, PartialEq, Eq)]
+pub struct FoundPacket {
+    /// Its id in its queue.
+    pub packet: PacketId,
+    /// The index of its place.
+    pub index: usize,
+}
+
+/// The packets of one queue in flight, in the order in which they were launched, which is that of their ids. They
+/// lie in eight places of the value itself, and take no memory. A contract sees the list.
 #[derive(Drop)]
 pub struct Places {
     taken: ArrayVec<Place, MOST_IN_FLIGHT>,
@@ -48,6 +57,10 @@ impl Model for Places {
     ghost Value = { List Place };
 
     ghost view = { λ p. p.taken.items };
+
+    ghost use Rattle.packet_processor.specs.inner.Ascending.{Ascends};
+
+    ghost invariant = { λ p. Ascends p.taken.items };
 }
 
 impl Default for Place {
@@ -95,20 +108,36 @@ impl Places {
         self.as_slice().iter().find(|place| place.id.0 == id.0)
     }
 
-    /// The id of the barrier packet in flight, if there is one.
-    pub fn barrier(&self) -> Option<PacketId>
-        ensures { result ≡ option_map (λ place. place.id) (find (λ place. is_barrier place.packet) self.now) }
+    /// The index of the place of the packet with an id, if it is in flight.
+    pub fn index_of(&self, id: PacketId) -> Option<usize>
+        ensures { IsIndexOf (is_place_of id) self.now result }
     {
-        let place = self
-            .as_slice()
-            .iter()
-            .find(|place| is_barrier(&place.packet))?;
-        Some(place.id)
+        for (index, place) in self.as_slice().iter().enumerate() {
+            if is_place_of(place, id) {
+                return Some(index);
+            }
+        }
+        None
     }
 
-    /// Puts a packet that is launched into a place that is free.
+    /// The barrier packet in flight, if there is one, the first of them.
+    pub fn barrier(&self) -> Option<FoundPacket>
+        ensures first { option_map (λ found. found.packet) result ≡ option_map (λ place. place.id) (find (λ place. is_barrier place.packet) self.now) }
+        ensures found { IfSome result (λ found. IsFoundIn found self.now) }
+    {
+        for (index, place) in self.as_slice().iter().enumerate() {
+            if is_barrier(&place.packet) {
+                let packet = place.id;
+                return Some(FoundPacket { packet, index });
+            }
+        }
+        None
+    }
+
+    /// Puts a packet that is launched into a place that is free. Its id is above those of the others.
     pub fn launch(&mut self, id: PacketId, packet: Packet)
-        requires { length self.old < MOST_IN_FLIGHT }
+        requires free { length self.old < MOST_IN_FLIGHT }
+        requires above { All (λ place. place.id.0 < id.0) self.old }
         ensures { self.new ≡ self.old ++ as_launched id packet ∷ [] }
     {
         self.taken.push(Place {
@@ -125,37 +154,28 @@ impl Places {
         self.taken.len()
     }
 
-    /// Takes a packet out of flight.
-    pub fn release(&mut self, id: PacketId)
-        ensures { self.new ≡ without_packet id self.old }
+    /// Takes a packet that was found out of flight.
+    pub fn release(&mut self, found: FoundPacket)
+        requires { IsFoundIn found self.old }
+        ensures { self.new ≡ without_packet found.packet self.old }
     {
-        self.taken.retain(|place| place.id.0 != id.0);
+        self.taken.remove(found.index);
     }
 
-    /// Notes how far a packet has come.
-    pub fn advance(&mut self, id: PacketId, progress: Progress)
-        ensures { self.new ≡ map (with_progress id progress) self.old }
+    /// Notes how far a packet that was found has come.
+    pub fn advance(&mut self, found: FoundPacket, progress: Progress)
+        requires { IsFoundIn found self.old }
+        ensures { self.new ≡ map (with_progress found.packet progress) self.old }
     {
-        advance(self.taken.as_mut_slice(), id, progress);
+        if let Some(place) = self.taken.get_mut(found.index) {
+            place.progress = progress;
+        }
     }
 }
 
-// Notes how far the packet with an id has come.
-fn advance(places: &mut [Place], id: PacketId, progress: Progress)
-    ensures { places.new ≡ map (with_progress id progress) places.old }
+// Whether a place is that of the packet with an id.
+fn is_place_of(place: &Place, id: PacketId) -> bool
+    ensures { result ≡ is_place_of id place.now }
 {
-    for place in places.iter_mut() {
-        *place = with_progress(*place, id, progress);
-    }
-}
-
-// A place after the packet with an id has come this far.
-fn with_progress(place: Place, id: PacketId, progress: Progress) -> Place
-    ensures { result ≡ with_progress id progress place }
-{
-    if place.id.0 == id.0 {
-        Place { progress, ..place }
-    } else {
-        place
-    }
+    place.id.0 == id.0
 }

@@ -58,7 +58,10 @@ pub enum NumberMeaning {
 #[derive(Drop)]
 pub enum LineAnswer {
     /// What the world answered to a request.
-    Answered { meaning: NumberMeaning, answer: Answer },
+    Answered {
+        meaning: NumberMeaning,
+        answer: Answer,
+    },
     /// What became of a packet that was to be published.
     Sent(Sent),
     /// The packet at the read index.

@@ -16,7 +16,7 @@ use Rattle.core_model.specs.declared.origin.Origin.{Origin}
 use Rattle.core_model.specs.Grants.{in_force}
 use Rattle.core_model.specs.Policies.{policy_at}
 use Rattle.core_model.specs.Memory.{memory_at, signals}
-use Rattle.core_model.specs.Queues.{openings, owner}
+use Rattle.core_model.specs.Queues.{openings}
 use Rattle.core_model.specs.Flight.{flight}
 use Rattle.core_model.specs.Holds.{arguments, held}
 use Rattle.core_model.specs.Kernels.{segments_of}

@@ -18,7 +18,10 @@ use Rattle.core_model.specs.Flight.{in_flight, progress}
 use Rattle.policy.specs.Policy.{region_lengths}
 use Rattle.core_model.specs.Memory.{byte_after, signals}
 use Rattle.core_model.specs.Owed.{Owed, refuses, enters, completion_of, for_packet}
+use Rattle.packet_processor.specs.Queueing.{IsFoundIn}
+use Rattle.packet_processor.specs.declared.places.FoundPacket.{FoundPacket}
 use Rattle.packet_processor.specs.declared.places.Place.{Place}
+use Rattle.access_core.specs.inner.CachedQueue.{queue_at}
 
 -- a packet of an open queue is in flight, and this is its place
 pub record IsInPlace (history : History) (queue : QueueId) (id : PacketId) (place : Place) : Type 0 where
@@ -28,6 +31,10 @@ pub record IsInPlace (history : History) (queue : QueueId) (id : PacketId) (plac
   pub found : in_flight (beginning history) history.entries queue id ≡ Some flying
   pub packet_is : flying.packet ≡ place.packet
   pub progress_is : progress (beginning history) history.entries queue id ≡ place.progress
+
+-- the packet was found: its place among those of its queue has this index
+abbrev pub IsFoundAt : History → QueueId → FoundPacket → Type 0
+IsFoundAt history queue found = IsFoundIn found (queue_at (beginning history) history.entries queue).places
 
 -- a kernel dispatch has sizes that may be
 abbrev pub IsSized : Packet → Type 0

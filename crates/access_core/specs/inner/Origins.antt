@@ -2,7 +2,6 @@
 use Rattle.std.specs.Prelude.{◌+◌, List, find, length, map, Option, None, Some, option_map}
 use Rattle.std.specs.List.{filter_map}
 use Rattle.aql_packet.specs.declared.ids.PacketId.{PacketId}
-use Rattle.aql_packet.specs.declared.ids.QueueId.{QueueId}
 use Rattle.policy.specs.Policy.{numbered}
 use Rattle.core_model.specs.declared.origin.Origin.{Origin}
 use Rattle.core_model.specs.declared.origin.PacketOrigin.{PacketOrigin}

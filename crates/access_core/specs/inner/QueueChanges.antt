@@ -1,5 +1,5 @@
 -- How a queue of the list changes: a packet is launched, denied, comes further, fails or leaves flight, or the queue is stopped.
-use Rattle.std.specs.Prelude.{◌≡◌, ◌+◌, ◌-◌, ◌<◌, ◌^◌, ℕ, true, List, [], ◌∷◌, ◌++◌, map, length, slice_set, Option, Some, None}
+use Rattle.std.specs.Prelude.{◌≡◌, ◌+◌, ◌-◌, ◌<◌, ◌^◌, ℕ, true, List, [], ◌∷◌, ◌++◌, map, length, option_map, slice_set, All, IfSome, Option, Some, None}
 use Rattle.aql_packet.specs.declared.ids.QueueId.{QueueId}
 use Rattle.aql_packet.specs.declared.ids.PacketId.{PacketId}
 use Rattle.aql_packet.specs.declared.packet.Packet.{Packet}
@@ -7,8 +7,9 @@ use Rattle.queue_error.specs.declared.error.QueueError.{QueueError}
 use Rattle.policy.specs.Policy.{numbered}
 use Rattle.core_model.specs.declared.flight.Progress.{Progress}
 use Rattle.core_model.specs.declared.limits.TheConstants.{MOST_IN_FLIGHT}
+use Rattle.packet_processor.specs.declared.places.FoundPacket.{FoundPacket}
 use Rattle.packet_processor.specs.declared.places.Place.{Place}
-use Rattle.packet_processor.specs.Queueing.{as_launched, with_progress, without_packet}
+use Rattle.packet_processor.specs.Queueing.{IsFoundIn, as_launched, with_progress, without_packet}
 use Rattle.sequences.specs.Room.{Roomy}
 use Rattle.access_core.specs.declared.access.leaving.Leaving.{Leaving}
 use Rattle.access_core.specs.declared.access.leaving.Leaving.TheVariants as leaving
@@ -26,6 +27,18 @@ with_error errors error = record { items = errors.items ++ error ∷ []; room = 
 abbrev pub without_one : Option PacketId → List Place → List Place
 without_one None places = places
 without_one (Some id) places = without_packet id places
+
+-- which packet was found, if one was
+abbrev pub packet_in : Option FoundPacket → Option PacketId
+packet_in found = option_map (λ one. one.packet) found
+
+-- if a packet is named, it was found in its place of the queue
+abbrev pub IsFoundOf : List Queue → QueueId → Option FoundPacket → Type 0
+IsFoundOf queues queue found = (q : Queue) → numbered queues queue.0 ≡ Some q → IfSome found (λ one. IsFoundIn one q.places)
+
+-- the packets in the queue's places have ids below this one
+abbrev pub IsAbove : List Queue → QueueId → PacketId → Type 0
+IsAbove queues queue id = (q : Queue) → numbered queues queue.0 ≡ Some q → All (λ place. place.id.0 < id.0) q.places
 
 -- what becomes of a queue
 abbrev pub with_launched : PacketId → Packet → Queue → Queue

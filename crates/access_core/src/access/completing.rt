@@ -1,7 +1,7 @@
 //! Packets in flight are found, completed and released.
 
 ghost use Rattle.core_model.specs.History.{beginning};
-ghost use Rattle.std.specs.Prelude.{◌≡◌, Err, IfErr, IfOk, fold, true};
+ghost use Rattle.std.specs.Prelude.{◌≡◌, Err, IfErr, IfNone, IfOk, IfSome, None, Some, find, fold, true};
 ghost use Rattle.core_model.specs.declared.entry.Effect.TheVariants as effect;
 ghost use Rattle.policy.specs.Policy.{region_lengths};
 ghost use Rattle.core_model.specs.Memory.{signals_after};
@@ -9,7 +9,8 @@ ghost use Rattle.core_model.specs.Needs.{completion_signal};
 ghost use Rattle.core_model.specs.Owed.{completion_of, refuses, is_finished};
 ghost use Rattle.core_model.specs.Legal.{Meets, as_accepted, due};
 ghost use Rattle.access_core.specs.inner.LiesInRegions.{lies_in_regions};
-ghost use Rattle.access_core.specs.inner.InPlace.{finish_owed, IsInPlace, IsSized, RefusedAt};
+ghost use Rattle.packet_processor.specs.Queueing.{IsFoundIn, is_place_of};
+ghost use Rattle.access_core.specs.inner.InPlace.{finish_owed, IsFoundAt, IsInPlace, IsSized, RefusedAt};
 
 use crate::access::host::change;
 use crate::access::leaving::{Leaving, leave_flight};
@@ -18,8 +19,15 @@ use crate::access::running_kernels::group_count;
 use crate::access::{AccessCore, enter};
 use aql_packet::{Packet, PacketId, QueueId};
 use core_model::{Call, Effect, Effects, Event, Outcome, Refusal};
-use packet_processor::{Place, completion_signal, is_ready};
+use packet_processor::{FoundPacket, Place, Places, completion_signal, is_ready};
 use signals::{SignalOp, Signals};
+
+/// The place of a packet in flight as it was found, and its index among its queue's.
+#[derive(Clone, Copy)]
+pub(crate) struct FoundPlace {
+    pub place: Place,
+    pub index: usize,
+}
 
 impl AccessCore {
     /// Completes a packet whose work is done: its completion signal, if it has one, is decremented
@@ -30,15 +38,16 @@ impl AccessCore {
         ensures places { self.new.places ≡ self.old.places }
         ensures room { result ≡ Err Refusal.AuditFull → ⊥ }
     {
-        let place = self.may_finish(queue, packet)?;
-        let effects = complete(&mut self.signals, queue, packet, &place.packet);
+        let found = self.may_finish(queue, packet)?;
+        let effects = complete(&mut self.signals, queue, packet, &found.place.packet);
+        let index = found.index;
         leave_flight(
             &mut self.queues,
             &mut self.in_flight_count,
             &mut self.grants,
             &mut self.blocks,
             queue,
-            Some(packet),
+            Some(FoundPacket { packet, index }),
             Leaving::Completed,
         );
         let event = Event::Call(Call::Finish { queue, packet });
@@ -47,37 +56,50 @@ impl AccessCore {
     }
 
     // The place of the packet in flight with this queue and id, if its work is done.
-    fn may_finish(&self, queue: QueueId, packet: PacketId) -> Result<Place, Refusal>
-        ensures may { IfOk result (λ place. due self.now.history (Event.Call (Call.Finish queue packet)) ≡ finish_owed self.now.history queue packet place.packet) }
-        ensures found { IfOk result (λ place. IsInPlace self.now.history queue packet place) }
+    fn may_finish(&self, queue: QueueId, packet: PacketId) -> Result<FoundPlace, Refusal>
+        ensures may { IfOk result (λ found. due self.now.history (Event.Call (Call.Finish queue packet)) ≡ finish_owed self.now.history queue packet found.place.packet) }
+        ensures found { IfOk result (λ found. IsInPlace self.now.history queue packet found.place) }
+        ensures at { IfOk result (λ found. IsFoundAt self.now.history queue (record { packet = packet; index = found.index })) }
         ensures why { IfErr result (λ why. due self.now.history (Event.Call (Call.Finish queue packet)) ≡ refuses why) }
         ensures room { IfErr result (λ why. why ≡ Refusal.AuditFull → ⊥) }
     {
-        let place = self.place_of(queue, packet)?;
-        if !is_finished(&place) {
+        let found = self.place_of(queue, packet)?;
+        if !is_finished(&found.place) {
             return Err(Refusal::NotFinished);
         }
         // The audit has room: the packet leaves flight for the entry.
         let _ = &self.audit;
-        Ok(place)
+        Ok(found)
     }
 
     // The place of the packet in flight with this queue and id, or why a call about it is refused.
-    pub(crate) fn place_of(&self, queue: QueueId, packet: PacketId) -> Result<Place, Refusal>
-        ensures found { IfOk result (λ place. IsInPlace self.now.history queue packet place) }
+    pub(crate) fn place_of(&self, queue: QueueId, packet: PacketId) -> Result<FoundPlace, Refusal>
+        ensures found { IfOk result (λ found. IsInPlace self.now.history queue packet found.place) }
+        ensures at { IfOk result (λ found. IsFoundAt self.now.history queue (record { packet = packet; index = found.index })) }
         ensures why { IfErr result (λ why. RefusedAt self.now.history queue packet why) }
         ensures room { IfErr result (λ why. why ≡ Refusal.AuditFull → ⊥) }
-        ensures within { IfOk result (λ place. lies_in_regions (region_lengths (beginning self.now.history).policy) place.packet ≡ true) }
-        ensures sized { IfOk result (λ place. IsSized place.packet) }
+        ensures within { IfOk result (λ found. lies_in_regions (region_lengths (beginning self.now.history).policy) found.place.packet ≡ true) }
+        ensures sized { IfOk result (λ found. IsSized found.place.packet) }
     {
         let Some(kept) = queue_of(self.queues.as_slice(), queue) else {
             return Err(Refusal::UnknownQueue);
         };
-        match kept.places.get(packet) {
-            Some(place) => Ok(*place),
+        match found_in(&kept.places, packet) {
+            Some(found) => Ok(found),
             None => Err(Refusal::NotInFlight),
         }
     }
+}
+
+// The place of the packet with an id, if it is in flight.
+fn found_in(places: &Places, id: PacketId) -> Option<FoundPlace>
+    ensures none { IfNone result (find (is_place_of id) places.now ≡ None) }
+    ensures found { IfSome result (λ found. find (is_place_of id) places.now ≡ Some found.place) }
+    ensures at { IfSome result (λ found. IsFoundIn (record { packet = id; index = found.index }) places.now) }
+{
+    let index = places.index_of(id)?;
+    let place = places.as_slice()[index];
+    Some(FoundPlace { place, index })
 }
 
 // Decrements a packet's completion signal, if it has one, and tells that and the packet's release.

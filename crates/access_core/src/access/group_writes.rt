@@ -8,15 +8,15 @@ ghost use Rattle.core_model.specs.Legal.{MeetsOrLacks};
 ghost use Rattle.policy.specs.Policy.{region_lengths};
 ghost use Rattle.core_model.specs.Owed.{enters, owed};
 ghost use Rattle.core_model.specs.Work.{write_of_run};
-ghost use Rattle.access_core.specs.inner.InPlace.{IsChanged, IsInPlace};
+ghost use Rattle.access_core.specs.inner.InPlace.{IsChanged, IsFoundAt, IsInPlace};
 ghost use Rattle.access_core.specs.inner.Laying.{LiesWithin};
 
 use crate::access::running::{advance, one_more};
 use crate::access::{AccessCore, enter};
-use aql_packet::{Address, PacketId, QueueId};
+use aql_packet::{Address, QueueId};
 use core_model::{Call, Effect, Effects, Event, Outcome, Refusal, Worked};
 use executor::WrittenRange;
-use packet_processor::Place;
+use packet_processor::{FoundPacket, Place};
 use regions::Regions;
 use sequences::Sequence;
 use std::alloc::{AllocError, Global};
@@ -28,17 +28,18 @@ impl AccessCore {
         &mut self,
         alloc: Global,
         queue: QueueId,
-        packet: PacketId,
+        found: FoundPacket,
         place: Place,
         left: u32,
         runs: Sequence<WrittenRange>,
     ) -> Result<Worked, Refusal>
-        requires found { IsInPlace self.old.history queue packet place }
-        requires owed { owed (beginning self.old.history) self.old.history.entries (Event.Call (Call.RunNext queue packet))
+        requires found { IsInPlace self.old.history queue found.packet place }
+        requires at { IsFoundAt self.old.history queue found }
+        requires owed { owed (beginning self.old.history) self.old.history.entries (Event.Call (Call.RunNext queue found.packet))
             ≡ enters (Outcome.Worked (Worked.Ran place.progress.groups_run left)) (map write_of_run runs) }
         requires written { All (λ run. is_within (region_lengths (beginning self.old.history).policy) run.address (length run.bytes) ≡ true) runs }
         requires room { place.progress.groups_run < 2 ^ 32 - 1 }
-        ensures met { MeetsOrLacks (Event.Call (Call.RunNext queue packet)) self.old.history self.new.history (map_ok Outcome.Worked result) }
+        ensures met { MeetsOrLacks (Event.Call (Call.RunNext queue found.packet)) self.old.history self.new.history (map_ok Outcome.Worked result) }
         ensures places { self.new.places ≡ self.old.places }
     {
         let changes = changes_of(alloc, runs)?;
@@ -46,7 +47,8 @@ impl AccessCore {
             return Err(Refusal::AuditFull);
         }
         lay_changes(&mut self.memory, changes.as_slice());
-        advance(&mut self.queues, queue, packet, one_more(&place.progress));
+        advance(&mut self.queues, queue, found, one_more(&place.progress));
+        let packet = found.packet;
         let group = place.progress.groups_run;
         let worked = Worked::Ran { group, left };
         let event = Event::Call(Call::RunNext { queue, packet });

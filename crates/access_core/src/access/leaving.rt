@@ -2,15 +2,16 @@
 
 ghost use Rattle.std.specs.Prelude.{◌≡◌, ◌-◌, ◌≤◌, IfNone, IfSome, filter, not, vec_capacity};
 ghost use Rattle.grants.specs.Ledger.{Releases, places};
+ghost use Rattle.packet_processor.specs.Queueing.{IsFoundIn};
 ghost use Rattle.access_core.specs.Cores.{places_of};
 ghost use Rattle.access_core.specs.inner.ArgumentBlocks.{is_block};
-ghost use Rattle.access_core.specs.inner.QueueChanges.{CanLeave, freed_by, places_freed, with_leaving, with_queue, without_one};
+ghost use Rattle.access_core.specs.inner.QueueChanges.{CanLeave, IsFoundOf, freed_by, packet_in, places_freed, with_leaving, with_queue, without_one};
 
 use crate::argument_blocks::ArgumentBlocks;
 use crate::queue::Queue;
-use aql_packet::{PacketId, QueueId};
+use aql_packet::QueueId;
 use grants::Grants;
-use packet_processor::Places;
+use packet_processor::{FoundPacket, Places};
 use queue_error::QueueError;
 
 /// What becomes of a queue that a packet leaves, beside that its place is free.
@@ -24,31 +25,33 @@ pub(crate) enum Leaving {
     Stopped,
 }
 
-// Takes a packet out of its place, if one is named, and answers how many places that frees.
-fn free_place(places: &mut Places, packet: Option<PacketId>) -> usize
-    ensures places { places.new ≡ without_one packet places.old }
-    ensures freed { result ≡ places_freed packet places.old }
+// Takes a packet out of its place, if one was found, and answers how many places that frees.
+fn free_place(places: &mut Places, found: Option<FoundPacket>) -> usize
+    requires { IfSome found (λ one. IsFoundIn one places.old) }
+    ensures places { places.new ≡ without_one (packet_in found) places.old }
+    ensures freed { result ≡ places_freed (packet_in found) places.old }
 {
-    match packet {
+    match found {
         None => 0,
-        Some(packet) => {
+        Some(found) => {
             let before = places.len();
-            places.release(packet);
+            places.release(found);
             before - places.len()
         }
     }
 }
 
-// Takes a packet out of its queue, if one is named, and answers how many places that frees.
+// Takes a packet out of its queue, if one was found, and answers how many places that frees.
 fn leave_queue(
     queues: &mut Vec<Queue>,
     queue: QueueId,
-    packet: Option<PacketId>,
+    found: Option<FoundPacket>,
     leaving: Leaving,
 ) -> usize
-    requires { CanLeave queues.old.items queue leaving }
-    ensures queues { queues.new.items ≡ with_queue queues.old.items queue (with_leaving packet leaving) }
-    ensures freed { result ≡ freed_by packet queues.old.items queue }
+    requires there { CanLeave queues.old.items queue leaving }
+    requires found { IsFoundOf queues.old.items queue found }
+    ensures queues { queues.new.items ≡ with_queue queues.old.items queue (with_leaving (packet_in found) leaving) }
+    ensures freed { result ≡ freed_by (packet_in found) queues.old.items queue }
     ensures capacity { vec_capacity queues.new ≡ vec_capacity queues.old }
 {
     let kept = &mut queues[queue.0 as usize - 1];
@@ -57,10 +60,10 @@ fn leave_queue(
         Leaving::Failed(error) => kept.errors.push(error),
         Leaving::Stopped => kept.stopped = true,
     }
-    free_place(&mut kept.places, packet)
+    free_place(&mut kept.places, found)
 }
 
-/// Takes a packet out of flight, if one is named: its place is free, it counts no more, and the rights that it held
+/// Takes a packet out of flight, if one was found: its place is free, it counts no more, and the rights that it held
 /// and its arguments are dropped.
 pub(crate) fn leave_flight(
     queues: &mut Vec<Queue>,
@@ -68,24 +71,25 @@ pub(crate) fn leave_flight(
     grants: &mut Grants,
     blocks: &mut ArgumentBlocks,
     queue: QueueId,
-    packet: Option<PacketId>,
+    found: Option<FoundPacket>,
     leaving: Leaving,
 )
     requires there { CanLeave queues.old.items queue leaving }
-    requires counted { freed_by packet queues.old.items queue ≤ in_flight_count.old }
-    ensures queues { queues.new.items ≡ with_queue queues.old.items queue (with_leaving packet leaving) }
+    requires found { IsFoundOf queues.old.items queue found }
+    requires counted { freed_by (packet_in found) queues.old.items queue ≤ in_flight_count.old }
+    ensures queues { queues.new.items ≡ with_queue queues.old.items queue (with_leaving (packet_in found) leaving) }
     ensures capacity { vec_capacity queues.new ≡ vec_capacity queues.old }
-    ensures in_flight_count { in_flight_count.new ≡ in_flight_count.old - freed_by packet queues.old.items queue }
-    ensures released { IfSome packet (λ id. Releases grants.old grants.new queue id) }
-    ensures dropped { IfSome packet (λ id. blocks.new.items ≡ filter (λ block. not (is_block queue id block)) blocks.old.items) }
-    ensures same { IfNone packet (grants.new ≡ grants.old) }
-    ensures same_blocks { IfNone packet (blocks.new.items ≡ blocks.old.items) }
+    ensures in_flight_count { in_flight_count.new ≡ in_flight_count.old - freed_by (packet_in found) queues.old.items queue }
+    ensures released { IfSome (packet_in found) (λ id. Releases grants.old grants.new queue id) }
+    ensures dropped { IfSome (packet_in found) (λ id. blocks.new.items ≡ filter (λ block. not (is_block queue id block)) blocks.old.items) }
+    ensures same { IfNone (packet_in found) (grants.new ≡ grants.old) }
+    ensures same_blocks { IfNone (packet_in found) (blocks.new.items ≡ blocks.old.items) }
     ensures places { places grants.new ≡ places grants.old }
     ensures block_places { places_of blocks.new ≡ places_of blocks.old }
 {
-    *in_flight_count -= leave_queue(queues, queue, packet, leaving);
-    if let Some(packet) = packet {
-        grants.release(queue, packet);
-        blocks.release(queue, packet);
+    *in_flight_count -= leave_queue(queues, queue, found, leaving);
+    if let Some(found) = found {
+        grants.release(queue, found.packet);
+        blocks.release(queue, found.packet);
     }
 }

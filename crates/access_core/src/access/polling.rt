@@ -12,8 +12,9 @@ ghost use Rattle.core_model.specs.Owed.{enters, owed, owed_poll, refuses};
 ghost use Rattle.policy.specs.Results.{map_ok};
 ghost use Rattle.core_model.specs.Legal.{Meets, due};
 ghost use Rattle.access_core.specs.inner.Polling.{look_owed, polled_as};
-ghost use Rattle.access_core.specs.inner.InPlace.{IsInPlace};
+ghost use Rattle.access_core.specs.inner.InPlace.{IsFoundAt, IsInPlace};
 
+use crate::access::completing::FoundPlace;
 use crate::access::leaving::{Leaving, leave_flight};
 use crate::access::running::advance;
 use crate::access::{AccessCore, enter};
@@ -21,7 +22,7 @@ use aql_packet::{Packet, PacketId, QueueId, SignalHandle};
 use core_model::{
     Call, Effect, Effects, Event, NONE_SATISFIED, Outcome, Polled, Progress, Refusal, Satisfied,
 };
-use packet_processor::{Place, is_ready};
+use packet_processor::{FoundPacket, Place, is_ready};
 use queue_error::{QueueError, Rule};
 use signals::Signals;
 
@@ -49,45 +50,49 @@ impl AccessCore {
             result ≡ Err Refusal.AuditFull → ⊥ }
     {
         self.keeps_room();
-        let (place, look) = self.may_poll(queue, packet)?;
+        let (FoundPlace { place, index }, look) = self.may_poll(queue, packet)?;
+        let found = FoundPacket { packet, index };
         match look {
             Look::Still(told) => Ok(told),
-            Look::Fails => Ok(self.fail(queue, packet, place)),
-            Look::Sees { new, ready } => Ok(self.see(queue, packet, place, new, ready)),
+            Look::Fails => Ok(self.fail(queue, found, place)),
+            Look::Sees { new, ready } => Ok(self.see(queue, found, place, new, ready)),
         }
     }
 
     // The place of the packet in flight with this queue and id, and what a poll of it finds.
-    fn may_poll(&self, queue: QueueId, packet: PacketId) -> Result<(Place, Look), Refusal>
+    fn may_poll(&self, queue: QueueId, packet: PacketId) -> Result<(FoundPlace, Look), Refusal>
         ensures may { IfOk result (λ found.
             due self.now.history (Event.Call (Call.Poll queue packet)) ≡ look_owed queue packet found.1) }
-        ensures found { IfOk result (λ found. IsInPlace self.now.history queue packet found.0) }
+        ensures found { IfOk result (λ found. IsInPlace self.now.history queue packet found.0.place) }
+        ensures at { IfOk result (λ found. IsFoundAt self.now.history queue (record { packet = packet; index = found.0.index })) }
         ensures why { IfErr result (λ why. due self.now.history (Event.Call (Call.Poll queue packet)) ≡ refuses why) }
     {
-        let place = self.place_of(queue, packet)?;
-        let look = match look_at(&self.signals, &place, queue, packet) {
+        let found = self.place_of(queue, packet)?;
+        let look = match look_at(&self.signals, &found.place, queue, packet) {
             Err(why) => return Err(why),
             Ok(look) => look,
         };
         match look {
-            Look::Still(told) => Ok((place, Look::Still(told))),
-            Look::Fails => Ok((place, Look::Fails)),
+            Look::Still(told) => Ok((found, Look::Still(told))),
+            Look::Fails => Ok((found, Look::Fails)),
             Look::Sees { new, ready } => {
                 if self.is_full() {
                     return Err(Refusal::AuditFull);
                 }
-                Ok((place, Look::Sees { new, ready }))
+                Ok((found, Look::Sees { new, ready }))
             }
         }
     }
 
     // Fails a packet in flight: its queue has an error more, and it leaves flight.
-    fn fail(&mut self, queue: QueueId, packet: PacketId, place: Place) -> Polled
-        requires may { due self.old.history (Event.Call (Call.Poll queue packet)) ≡ look_owed queue packet Look.Fails }
-        requires found { IsInPlace self.old.history queue packet place }
-        ensures met { Meets (Event.Call (Call.Poll queue packet)) self.old.history self.new.history (Ok (Outcome.Polled result)) }
+    fn fail(&mut self, queue: QueueId, found: FoundPacket, place: Place) -> Polled
+        requires may { due self.old.history (Event.Call (Call.Poll queue found.packet)) ≡ look_owed queue found.packet Look.Fails }
+        requires found { IsInPlace self.old.history queue found.packet place }
+        requires at { IsFoundAt self.old.history queue found }
+        ensures met { Meets (Event.Call (Call.Poll queue found.packet)) self.old.history self.new.history (Ok (Outcome.Polled result)) }
         ensures places { self.new.places ≡ self.old.places }
     {
+        let packet = found.packet;
         let error = QueueError {
             queue,
             packet,
@@ -100,7 +105,7 @@ impl AccessCore {
             &mut self.grants,
             &mut self.blocks,
             queue,
-            Some(packet),
+            Some(found),
             Leaving::Failed(error),
         );
         let told = Polled::Failed(error);
@@ -114,21 +119,23 @@ impl AccessCore {
     fn see(
         &mut self,
         queue: QueueId,
-        packet: PacketId,
+        found: FoundPacket,
         place: Place,
         new: Satisfied,
         ready: bool,
     ) -> Polled
-        requires may { due self.old.history (Event.Call (Call.Poll queue packet)) ≡ look_owed queue packet (Look.Sees new ready) }
-        requires found { IsInPlace self.old.history queue packet place }
-        ensures met { Meets (Event.Call (Call.Poll queue packet)) self.old.history self.new.history (Ok (Outcome.Polled result)) }
+        requires may { due self.old.history (Event.Call (Call.Poll queue found.packet)) ≡ look_owed queue found.packet (Look.Sees new ready) }
+        requires found { IsInPlace self.old.history queue found.packet place }
+        requires at { IsFoundAt self.old.history queue found }
+        ensures met { Meets (Event.Call (Call.Poll queue found.packet)) self.old.history self.new.history (Ok (Outcome.Polled result)) }
         ensures places { self.new.places ≡ self.old.places }
     {
         let progress = Progress {
             satisfied: satisfied_by_either(&place.progress.satisfied, &new),
             ..place.progress
         };
-        advance(&mut self.queues, queue, packet, progress);
+        advance(&mut self.queues, queue, found, progress);
+        let packet = found.packet;
         let told = polled_as(ready, new);
         let event = Event::Call(Call::Poll { queue, packet });
         enter(

@@ -1,7 +1,7 @@
 //! The groups of dispatches in flight are run: those of agent dispatches here.
 
 ghost use Rattle.core_model.specs.History.{beginning};
-ghost use Rattle.std.specs.Prelude.{◌≡◌, ◌++◌, ◌+◌, ◌-◌, ◌<◌, ◌^◌, Err, IfOk, List, length, option_to_list, replicate, true, vec_capacity};
+ghost use Rattle.std.specs.Prelude.{Some, ◌≡◌, ◌++◌, ◌+◌, ◌-◌, ◌<◌, ◌^◌, Err, IfOk, List, length, option_to_list, replicate, true, vec_capacity};
 ghost use Rattle.std.specs.Int.{w64, to_le_bytes};
 ghost use Rattle.aql_packet.specs.declared.packet.Packet.TheVariants as kind;
 ghost use Rattle.regions.specs.Memory.{is_within, lengths_of};
@@ -13,17 +13,18 @@ ghost use Rattle.queue_error.specs.declared.error.QueueError.{QueueError};
 ghost use Rattle.core_model.specs.Owed.{enters, owed};
 ghost use Rattle.policy.specs.Results.{map_ok};
 ghost use Rattle.core_model.specs.Legal.{MeetsOrLacks};
-ghost use Rattle.access_core.specs.inner.QueueChanges.{IsThere, with_advance, with_queue};
+ghost use Rattle.access_core.specs.inner.QueueChanges.{IsFoundOf, IsThere, with_advance, with_queue};
 ghost use Rattle.access_core.specs.inner.LiesInRegions.{lies_in_regions};
-ghost use Rattle.access_core.specs.inner.InPlace.{IsChanged, IsInPlace, IsPlaced, is_placed};
+ghost use Rattle.access_core.specs.inner.InPlace.{IsChanged, IsFoundAt, IsInPlace, IsPlaced, is_placed};
 
+use crate::access::completing::FoundPlace;
 use crate::access::{AccessCore, enter};
 use crate::queue::Queue;
 use aql_packet::{Address, AgentDispatch, Packet, PacketId, QueueId};
 use core_model::{
     AgentFunction, Call, Effect, Effects, Event, Outcome, Progress, Range, Refusal, Worked,
 };
-use packet_processor::{Place, function_of};
+use packet_processor::{FoundPacket, Place, function_of};
 use regions::Regions;
 use sequences::Sequence;
 use std::alloc::{AllocError, Global};
@@ -53,10 +54,11 @@ impl AccessCore {
             result ≡ Err Refusal.AuditFull → ⊥ }
     {
         self.keeps_room();
-        let place = self.place_of(queue, packet)?;
+        let FoundPlace { place, index } = self.place_of(queue, packet)?;
+        let found = FoundPacket { packet, index };
         match place.packet {
-            Packet::Agent(dispatch) => self.run_agent(alloc, queue, packet, place, dispatch),
-            Packet::Kernel(dispatch) => self.run_kernel(alloc, queue, packet, place, dispatch),
+            Packet::Agent(dispatch) => self.run_agent(alloc, queue, found, place, dispatch),
+            Packet::Kernel(dispatch) => self.run_kernel(alloc, queue, found, place, dispatch),
             Packet::BarrierAnd(_) => Err(Refusal::NotInFlight),
             Packet::BarrierOr(_) => Err(Refusal::NotInFlight),
         }
@@ -67,14 +69,15 @@ impl AccessCore {
         &mut self,
         alloc: Global,
         queue: QueueId,
-        packet: PacketId,
+        found: FoundPacket,
         place: Place,
         dispatch: AgentDispatch,
     ) -> Result<Worked, Refusal>
-        requires found { IsInPlace self.old.history queue packet place }
+        requires found { IsInPlace self.old.history queue found.packet place }
+        requires at { IsFoundAt self.old.history queue found }
         requires within { lies_in_regions (region_lengths (beginning self.old.history).policy) place.packet ≡ true }
         requires packet_is { place.packet ≡ kind.Agent dispatch }
-        ensures met { MeetsOrLacks (Event.Call (Call.RunNext queue packet)) self.old.history self.new.history (map_ok Outcome.Worked result) }
+        ensures met { MeetsOrLacks (Event.Call (Call.RunNext queue found.packet)) self.old.history self.new.history (map_ok Outcome.Worked result) }
         ensures places { self.new.places ≡ self.old.places }
     {
         if place.progress.groups_run >= 1 {
@@ -86,7 +89,8 @@ impl AccessCore {
         let target = self.function_piece(alloc, &dispatch)?;
         let result = self.result_piece(alloc, &dispatch)?;
         let effects = lay_both(&mut self.memory, target, result);
-        advance(&mut self.queues, queue, packet, one_more(&place.progress));
+        advance(&mut self.queues, queue, found, one_more(&place.progress));
+        let packet = found.packet;
         let worked = Worked::Ran { group: 0, left: 0 };
         let event = Event::Call(Call::RunNext { queue, packet });
         enter(&mut self.audit, event, Outcome::Worked(worked), effects);
@@ -186,13 +190,19 @@ pub(crate) fn one_more(progress: &Progress) -> Progress
     }
 }
 
-// Notes how far a packet in flight has come.
-pub(crate) fn advance(queues: &mut Vec<Queue>, queue: QueueId, id: PacketId, progress: Progress)
-    requires { IsThere queues.old.items queue }
-    ensures queues { queues.new.items ≡ with_queue queues.old.items queue (with_advance id progress) }
+// Notes how far a packet in flight that was found has come.
+pub(crate) fn advance(
+    queues: &mut Vec<Queue>,
+    queue: QueueId,
+    found: FoundPacket,
+    progress: Progress,
+)
+    requires there { IsThere queues.old.items queue }
+    requires found { IsFoundOf queues.old.items queue (Some found) }
+    ensures queues { queues.new.items ≡ with_queue queues.old.items queue (with_advance found.packet progress) }
     ensures capacity { vec_capacity queues.new ≡ vec_capacity queues.old }
 {
-    queues[queue.0 as usize - 1].places.advance(id, progress);
+    queues[queue.0 as usize - 1].places.advance(found, progress);
 }
 
 // The same byte again and again.

@@ -12,7 +12,7 @@ ghost use Rattle.core_model.specs.Legal.{Meets, MeetsOrLacks};
 ghost use Rattle.policy.specs.Policy.{region_lengths};
 ghost use Rattle.core_model.specs.Owed.{group_error, owed};
 ghost use Rattle.core_model.specs.Work.{group_count};
-ghost use Rattle.access_core.specs.inner.InPlace.{IsInPlace};
+ghost use Rattle.access_core.specs.inner.InPlace.{IsFoundAt, IsInPlace};
 ghost use Rattle.access_core.specs.inner.Running.{FaultsAs, fault_owed, next_result};
 
 use crate::access::leaving::{Leaving, leave_flight};
@@ -24,7 +24,7 @@ use executor::{
     Dispatch, Extent, ItemFault, RunFault, WrittenRange, groups_along,
     law_groups_read_where_they_may, run_group,
 };
-use packet_processor::Place;
+use packet_processor::{FoundPacket, Place};
 use queue_error::QueueError;
 use sequences::Sequence;
 use std::alloc::Global;
@@ -35,14 +35,15 @@ impl AccessCore {
         &mut self,
         alloc: Global,
         queue: QueueId,
-        packet: PacketId,
+        found: FoundPacket,
         place: Place,
         dispatch: KernelDispatch,
     ) -> Result<Worked, Refusal>
-        requires found { IsInPlace self.old.history queue packet place }
+        requires found { IsInPlace self.old.history queue found.packet place }
+        requires at { IsFoundAt self.old.history queue found }
         requires sized { has_sizes dispatch ≡ true }
         requires packet_is { place.packet ≡ kind.Kernel dispatch }
-        ensures met { MeetsOrLacks (Event.Call (Call.RunNext queue packet)) self.old.history self.new.history (map_ok Outcome.Worked result) }
+        ensures met { MeetsOrLacks (Event.Call (Call.RunNext queue found.packet)) self.old.history self.new.history (map_ok Outcome.Worked result) }
         ensures places { self.new.places ≡ self.old.places }
     {
         let count = group_count(&dispatch);
@@ -50,9 +51,9 @@ impl AccessCore {
         if group >= count {
             return Ok(Worked::Done);
         }
-        match self.group_runs(alloc, queue, packet, place, dispatch) {
-            Ok(runs) => self.enter_group(alloc, queue, packet, place, count - (group + 1), runs),
-            Err(RunFault::Fault(fault)) => Ok(self.fault(queue, packet, place, group, fault)),
+        match self.group_runs(alloc, queue, found.packet, place, dispatch) {
+            Ok(runs) => self.enter_group(alloc, queue, found, place, count - (group + 1), runs),
+            Err(RunFault::Fault(fault)) => Ok(self.fault(queue, found, place, group, fault)),
             Err(RunFault::OutOfMemory) => Err(Refusal::OutOfMemory),
         }
     }
@@ -94,17 +95,19 @@ impl AccessCore {
     fn fault(
         &mut self,
         queue: QueueId,
-        packet: PacketId,
+        found: FoundPacket,
         place: Place,
         group: u32,
         fault: ItemFault,
     ) -> Worked
-        requires found { IsInPlace self.old.history queue packet place }
-        requires owed { owed (beginning self.old.history) self.old.history.entries (Event.Call (Call.RunNext queue packet))
-            ≡ fault_owed (group_error queue packet group fault) }
-        ensures met { Meets (Event.Call (Call.RunNext queue packet)) self.old.history self.new.history (Ok (Outcome.Worked result)) }
+        requires found { IsInPlace self.old.history queue found.packet place }
+        requires at { IsFoundAt self.old.history queue found }
+        requires owed { owed (beginning self.old.history) self.old.history.entries (Event.Call (Call.RunNext queue found.packet))
+            ≡ fault_owed (group_error queue found.packet group fault) }
+        ensures met { Meets (Event.Call (Call.RunNext queue found.packet)) self.old.history self.new.history (Ok (Outcome.Worked result)) }
         ensures places { self.new.places ≡ self.old.places }
     {
+        let packet = found.packet;
         let error = QueueError {
             queue,
             packet,
@@ -122,7 +125,7 @@ impl AccessCore {
             &mut self.grants,
             &mut self.blocks,
             queue,
-            Some(packet),
+            Some(found),
             Leaving::Failed(error),
         );
         let worked = Worked::Faulted(error);

@@ -9,7 +9,7 @@ ghost use Rattle.packet_processor.specs.Holding.{as_rights};
 ghost use Rattle.packet_processor.specs.Judged.{facts_seen, Judges};
 ghost use Rattle.access_core.specs.Keeping.{KeepsPlaces};
 ghost use Rattle.access_core.specs.inner.Deciding.{Decides, IsBlockPlaced, opening_of};
-ghost use Rattle.access_core.specs.inner.QueueChanges.{CanFail, CanLaunch, with_denied, with_launched, with_queue};
+ghost use Rattle.access_core.specs.inner.QueueChanges.{CanFail, CanLaunch, IsAbove, with_denied, with_launched, with_queue};
 ghost use Rattle.policy.specs.Results.{map_ok};
 ghost use Rattle.core_model.specs.Legal.{Meets, MeetsOrLacks, due};
 
@@ -54,7 +54,8 @@ struct Launching {
 
 // Puts the next packet of a queue into a place.
 fn place_next(queues: &mut Vec<Queue>, queue: QueueId, id: PacketId, packet: Packet)
-    requires { CanLaunch queues.old.items queue }
+    requires free { CanLaunch queues.old.items queue }
+    requires above { IsAbove queues.old.items queue id }
     ensures { queues.new.items ≡ with_queue queues.old.items queue (with_launched id packet) }
 {
     let kept = &mut queues[queue.0 as usize - 1];

@@ -8,7 +8,7 @@ use Rattle.access_core.proofs.Seen.{seen}
 use Rattle.access_core.proofs.HeldAfter.{grants-released}
 use Rattle.access_core.proofs.CachedMore.{IsCached-more, memory-still}
 use Rattle.access_core.proofs.QueueAt.{flight-released}
-use Rattle.access_core.proofs.TakeLemmas.{is-open, open-of}
+use Rattle.access_core.proofs.TakeLemmas.{found-of, is-open, open-of}
 use Rattle.access_core.proofs.WorkLemmas.{failure-releases, can-fail, freed-below, place-inside, queues-released, sound-failed}
 use Rattle.core_model.specs.declared.entry.Effect.TheVariants as effect
 use Rattle.core_model.specs.declared.outcome.Outcome.TheVariants as outcome
@@ -20,41 +20,44 @@ failed queue id v = record v { errors = v.errors ++ error_without_place queue id
 pub leave_flight-requires-clause-there : goal.leave_flight-requires-clause-there
 leave_flight-requires-clause-there = grind (arith, can-fail, is-open)
 
+pub leave_flight-requires-clause-found : goal.leave_flight-requires-clause-found
+leave_flight-requires-clause-found c = found-of c.self.inside c.self.invariant _ (seen c.self.view_is) c.args.queue c.args.found c.requires.at
+
 pub leave_flight-requires-clause-counted : goal.leave_flight-requires-clause-counted
 leave_flight-requires-clause-counted c =
     let a = c.self.inside in
-    let at = open-of a c.self.invariant _ (seen c.self.view_is) c.args.queue c.args.packet c.args.place c.requires.found in
-    freed-below a c.self.invariant c.args.queue c.args.packet at
+    let at = open-of a c.self.invariant _ (seen c.self.view_is) c.args.queue c.args.found.packet c.args.place c.requires.found in
+    freed-below a c.self.invariant c.args.queue c.args.found.packet at
 
 pub invariant_of-self : goal.invariant_of-self
 invariant_of-self c =
     let a = c.self.inside in
-    let is = failure-releases c.args.queue c.args.packet in
-    let found = place-inside a _ (seen c.self.view_is) c.args.queue c.args.packet c.args.place c.requires.found in
+    let is = failure-releases c.args.queue c.args.found.packet in
+    let found = place-inside a _ (seen c.self.view_is) c.args.queue c.args.found.packet c.args.place c.requires.found in
     let at = is-open a c.self.invariant c.args.queue found.opening found.owner_is in
-    IsCached-more a _ (Call (Poll c.args.queue c.args.packet)) (outcome.Polled (Failed (error_without_place c.args.queue c.args.packet.0 B1)))
-    (effect.Release c.args.queue c.args.packet ∷ []) c.self.invariant
+    IsCached-more a _ (Call (Poll c.args.queue c.args.found.packet)) (outcome.Polled (Failed (error_without_place c.args.queue c.args.found.packet.0 B1)))
+    (effect.Release c.args.queue c.args.found.packet ∷ []) c.self.invariant
     (record {
       same = ((refl, refl, refl), refl);
       audit = rw c.one-effects.ensures at c.enter.ensures;
-      grants = grants-released a c.self.invariant _ _ _ refl (λ client on right b. refl) (λ rows. refl) _ _ c.args.queue c.args.packet is.drops
-          (flight-released (start_of a) a.audit.items _ _ _ c.args.queue c.args.packet is) c.leave_flight.ensures.released c.leave_flight.ensures.dropped;
+      grants = grants-released a c.self.invariant _ _ _ refl (λ client on right b. refl) (λ rows. refl) _ _ c.args.queue c.args.found.packet is.drops
+          (flight-released (start_of a) a.audit.items _ _ _ c.args.queue c.args.found.packet is) c.leave_flight.ensures.released c.leave_flight.ensures.dropped;
       memory = memory-still a.memory _ (λ x byte. refl);
       values = refl;
       queues = rw (c.leave_flight.ensures.queues, c.leave_flight.ensures.in_flight_count)
-          (queues-released a c.self.invariant c.args.queue c.args.packet _ _ _ is refl at (with_leaving (Some c.args.packet) (leaving.Failed (error_without_place c.args.queue c.args.packet.0 B1)))
-          (failed c.args.queue c.args.packet)
-          refl (sound-failed a c.self.invariant c.args.queue c.args.packet at (error_without_place c.args.queue c.args.packet.0 B1) found.flying found.found) refl (λ m v. grind arith));
+          (queues-released a c.self.invariant c.args.queue c.args.found.packet _ _ _ is refl at (with_leaving (Some c.args.found.packet) (leaving.Failed (error_without_place c.args.queue c.args.found.packet.0 B1)))
+          (failed c.args.queue c.args.found.packet)
+          refl (sound-failed a c.self.invariant c.args.queue c.args.found.packet at (error_without_place c.args.queue c.args.found.packet.0 B1) found.flying found.found) refl (λ m v. grind arith));
     })
     _ (seen c.self.view_is) c.requires.may
 
 pub returns-clause-places : goal.returns-clause-places
 returns-clause-places c =
     let a = c.self.inside in
-    let error = error_without_place c.args.queue c.args.packet.0 B1 in
-    let found = place-inside a _ (seen c.self.view_is) c.args.queue c.args.packet c.args.place c.requires.found in
-    let can = can-fail a c.self.invariant c.args.queue c.args.packet (is-open a c.self.invariant c.args.queue found.opening found.owner_is) found.flying found.found in
+    let error = error_without_place c.args.queue c.args.found.packet.0 B1 in
+    let found = place-inside a _ (seen c.self.view_is) c.args.queue c.args.found.packet c.args.place c.requires.found in
+    let can = can-fail a c.self.invariant c.args.queue c.args.found.packet (is-open a c.self.invariant c.args.queue found.opening found.owner_is) found.flying found.found in
     places-kept a _ c.self.view_is c.leave_flight.new.queues c.leave_flight.new.grants c.leave_flight.new.blocks c.enter.new.audit _ c.leave_flight.ensures.capacity
-    (ap (map error_places) c.leave_flight.ensures.queues ∙ errors-changed a.queues.items c.args.queue (with_leaving (Some c.args.packet) (leaving.Failed error)) can.0 can.1
-    (failed-places can.0 c.args.packet error can.2))
+    (ap (map error_places) c.leave_flight.ensures.queues ∙ errors-changed a.queues.items c.args.queue (with_leaving (Some c.args.found.packet) (leaving.Failed error)) can.0 can.1
+    (failed-places can.0 c.args.found.packet error can.2))
     c.leave_flight.ensures.places c.leave_flight.ensures.block_places c.enter.ensures

@@ -10,7 +10,7 @@ use Rattle.access_core.proofs.HeldAfter.{grants-released}
 use Rattle.access_core.proofs.CachedMore.{IsCached-more, memory-still}
 use Rattle.access_core.proofs.KernelLemmas.{fault-due}
 use Rattle.access_core.proofs.QueueAt.{flight-released}
-use Rattle.access_core.proofs.TakeLemmas.{is-open, open-of}
+use Rattle.access_core.proofs.TakeLemmas.{found-of, is-open, open-of}
 use Rattle.access_core.proofs.WorkLemmas.{fault-releases, can-fail, freed-below, place-inside, queues-released, sound-failed}
 use Rattle.core_model.specs.declared.entry.Effect.TheVariants as effect
 use Rattle.core_model.specs.declared.outcome.Outcome.TheVariants as outcome
@@ -22,47 +22,50 @@ failed error id v = record v { errors = v.errors ++ error ∷ []; places = witho
 pub leave_flight-requires-clause-there : goal.leave_flight-requires-clause-there
 leave_flight-requires-clause-there = grind (arith, can-fail, is-open)
 
+pub leave_flight-requires-clause-found : goal.leave_flight-requires-clause-found
+leave_flight-requires-clause-found c = found-of c.self.inside c.self.invariant _ (seen c.self.view_is) c.args.queue c.args.found c.requires.at
+
 pub leave_flight-requires-clause-counted : goal.leave_flight-requires-clause-counted
 leave_flight-requires-clause-counted c =
     let a = c.self.inside in
-    let at = open-of a c.self.invariant _ (seen c.self.view_is) c.args.queue c.args.packet c.args.place c.requires.found in
-    freed-below a c.self.invariant c.args.queue c.args.packet at
+    let at = open-of a c.self.invariant _ (seen c.self.view_is) c.args.queue c.args.found.packet c.args.place c.requires.found in
+    freed-below a c.self.invariant c.args.queue c.args.found.packet at
 
 pub invariant_of-self : goal.invariant_of-self
 invariant_of-self c =
     let a = c.self.inside in
-    let error = group_error c.args.queue c.args.packet c.args.group c.args.fault in
-    let is = fault-releases c.args.queue c.args.packet error in
-    let found = place-inside a _ (seen c.self.view_is) c.args.queue c.args.packet c.args.place c.requires.found in
+    let error = group_error c.args.queue c.args.found.packet c.args.group c.args.fault in
+    let is = fault-releases c.args.queue c.args.found.packet error in
+    let found = place-inside a _ (seen c.self.view_is) c.args.queue c.args.found.packet c.args.place c.requires.found in
     let at = is-open a c.self.invariant c.args.queue found.opening found.owner_is in
-    IsCached-more a _ (Call (RunNext c.args.queue c.args.packet)) (outcome.Worked (Faulted error)) (effect.Release c.args.queue c.args.packet ∷ []) c.self.invariant
+    IsCached-more a _ (Call (RunNext c.args.queue c.args.found.packet)) (outcome.Worked (Faulted error)) (effect.Release c.args.queue c.args.found.packet ∷ []) c.self.invariant
     (record {
       same = ((refl, refl, refl), refl);
       audit = rw c.one-effects.ensures at c.enter.ensures;
-      grants = grants-released a c.self.invariant _ _ _ refl (λ client on right b. refl) (λ rows. refl) _ _ c.args.queue c.args.packet is.drops
-          (flight-released (start_of a) a.audit.items _ _ _ c.args.queue c.args.packet is) c.leave_flight.ensures.released c.leave_flight.ensures.dropped;
+      grants = grants-released a c.self.invariant _ _ _ refl (λ client on right b. refl) (λ rows. refl) _ _ c.args.queue c.args.found.packet is.drops
+          (flight-released (start_of a) a.audit.items _ _ _ c.args.queue c.args.found.packet is) c.leave_flight.ensures.released c.leave_flight.ensures.dropped;
       memory = memory-still a.memory _ (λ x byte. refl);
       values = refl;
       queues = rw (c.leave_flight.ensures.queues, c.leave_flight.ensures.in_flight_count)
-          (queues-released a c.self.invariant c.args.queue c.args.packet _ _ _ is refl at (with_leaving (Some c.args.packet) (leaving.Failed error)) (failed error c.args.packet)
-          refl (sound-failed a c.self.invariant c.args.queue c.args.packet at error found.flying found.found) refl (λ m v. grind arith));
+          (queues-released a c.self.invariant c.args.queue c.args.found.packet _ _ _ is refl at (with_leaving (Some c.args.found.packet) (leaving.Failed error)) (failed error c.args.found.packet)
+          refl (sound-failed a c.self.invariant c.args.queue c.args.found.packet at error found.flying found.found) refl (λ m v. grind arith));
     })
-    _ (seen c.self.view_is) (fault-due a c.self.invariant _ (seen c.self.view_is) c.args.queue c.args.packet c.args.place c.requires.found error c.requires.owed)
+    _ (seen c.self.view_is) (fault-due a c.self.invariant _ (seen c.self.view_is) c.args.queue c.args.found.packet c.args.place c.requires.found error c.requires.owed)
 
 pub returns-clause-met : goal.returns-clause-met
 returns-clause-met c =
-    let error = group_error c.args.queue c.args.packet c.args.group c.args.fault in
-    met-entry c.self.inside _ (seen c.self.view_is) (Call (RunNext c.args.queue c.args.packet)) (outcome.Worked (Faulted error)) (effect.Release c.args.queue c.args.packet ∷ []) _
-    (fault-due c.self.inside c.self.invariant _ (seen c.self.view_is) c.args.queue c.args.packet c.args.place c.requires.found error c.requires.owed)
+    let error = group_error c.args.queue c.args.found.packet c.args.group c.args.fault in
+    met-entry c.self.inside _ (seen c.self.view_is) (Call (RunNext c.args.queue c.args.found.packet)) (outcome.Worked (Faulted error)) (effect.Release c.args.queue c.args.found.packet ∷ []) _
+    (fault-due c.self.inside c.self.invariant _ (seen c.self.view_is) c.args.queue c.args.found.packet c.args.place c.requires.found error c.requires.owed)
     (rw c.one-effects.ensures at c.enter.ensures.items)
 
 pub returns-clause-places : goal.returns-clause-places
 returns-clause-places c =
     let a = c.self.inside in
-    let error = group_error c.args.queue c.args.packet c.args.group c.args.fault in
-    let found = place-inside a _ (seen c.self.view_is) c.args.queue c.args.packet c.args.place c.requires.found in
-    let can = can-fail a c.self.invariant c.args.queue c.args.packet (is-open a c.self.invariant c.args.queue found.opening found.owner_is) found.flying found.found in
+    let error = group_error c.args.queue c.args.found.packet c.args.group c.args.fault in
+    let found = place-inside a _ (seen c.self.view_is) c.args.queue c.args.found.packet c.args.place c.requires.found in
+    let can = can-fail a c.self.invariant c.args.queue c.args.found.packet (is-open a c.self.invariant c.args.queue found.opening found.owner_is) found.flying found.found in
     places-kept a _ c.self.view_is c.leave_flight.new.queues c.leave_flight.new.grants c.leave_flight.new.blocks c.enter.new.audit _ c.leave_flight.ensures.capacity
-    (ap (map error_places) c.leave_flight.ensures.queues ∙ errors-changed a.queues.items c.args.queue (with_leaving (Some c.args.packet) (leaving.Failed error)) can.0 can.1
-    (failed-places can.0 c.args.packet error can.2))
+    (ap (map error_places) c.leave_flight.ensures.queues ∙ errors-changed a.queues.items c.args.queue (with_leaving (Some c.args.found.packet) (leaving.Failed error)) can.0 can.1
+    (failed-places can.0 c.args.found.packet error can.2))
     c.leave_flight.ensures.places c.leave_flight.ensures.block_places c.enter.ensures

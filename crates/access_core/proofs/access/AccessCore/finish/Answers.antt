@@ -8,7 +8,7 @@ use Rattle.access_core.proofs.Seen.{seen}
 use Rattle.access_core.proofs.HeldAfter.{grants-released}
 use Rattle.access_core.proofs.CachedMore.{IsCached-more, memory-still}
 use Rattle.access_core.proofs.QueueAt.{flight-released}
-use Rattle.access_core.proofs.TakeLemmas.{open-of}
+use Rattle.access_core.proofs.TakeLemmas.{found-of, open-of}
 use Rattle.access_core.proofs.WorkLemmas.{finish-releases, freed-below, memory-completed, finish-due, queues-released, sound-released}
 use Rattle.core_model.specs.declared.outcome.Outcome.TheVariants as outcome
 use Rattle.access_core.proofs.access.AccessCore.finish.Goals as goal
@@ -16,21 +16,24 @@ use Rattle.access_core.proofs.access.AccessCore.finish.Goals as goal
 pub leave_flight-requires-clause-there : goal.leave_flight-requires-clause-there
 leave_flight-requires-clause-there c =
     let a = c.self.inside in
-    let at = open-of a c.self.invariant _ (seen c.self.view_is) c.args.queue c.args.packet c.in_ok-place.place c.in_ok-place.ensures.found in
+    let at = open-of a c.self.invariant _ (seen c.self.view_is) c.args.queue c.args.packet c.in_ok-found.found.place c.in_ok-found.ensures.found in
     (at.q, at.found)
+
+pub leave_flight-requires-clause-found : goal.leave_flight-requires-clause-found
+leave_flight-requires-clause-found c = found-of c.self.inside c.self.invariant _ (seen c.self.view_is) c.args.queue (record { packet = c.args.packet; index = c.in_ok-found.found.index }) c.in_ok-found.ensures.at
 
 pub leave_flight-requires-clause-counted : goal.leave_flight-requires-clause-counted
 leave_flight-requires-clause-counted c =
     let a = c.self.inside in
     freed-below a c.self.invariant c.args.queue c.args.packet
-    (open-of a c.self.invariant _ (seen c.self.view_is) c.args.queue c.args.packet c.in_ok-place.place c.in_ok-place.ensures.found)
+    (open-of a c.self.invariant _ (seen c.self.view_is) c.args.queue c.args.packet c.in_ok-found.found.place c.in_ok-found.ensures.found)
 
 pub invariant_of-self : goal.invariant_of-self
 invariant_of-self c =
     let a = c.self.inside in
-    let p = c.in_ok-place.place.packet in
+    let p = c.in_ok-found.found.place.packet in
     let is = finish-releases a.signals c.args.queue c.args.packet p in
-    let at = open-of a c.self.invariant _ (seen c.self.view_is) c.args.queue c.args.packet c.in_ok-place.place c.in_ok-place.ensures.found in
+    let at = open-of a c.self.invariant _ (seen c.self.view_is) c.args.queue c.args.packet c.in_ok-found.found.place c.in_ok-found.ensures.found in
     IsCached-more a _ (Call (Finish c.args.queue c.args.packet)) outcome.Accepted (completion_of a.signals c.args.queue c.args.packet p) c.self.invariant
     (record {
       same = ((refl, refl, refl), refl);
@@ -43,12 +46,12 @@ invariant_of-self c =
           (queues-released a c.self.invariant c.args.queue c.args.packet _ _ _ is refl at (with_leaving (Some c.args.packet) leaving.Completed) (λ v. record v { places = without_packet c.args.packet v.places })
           refl (sound-released at.q c.args.packet at.sound) refl (λ m v. grind arith));
     })
-    _ (seen c.self.view_is) (finish-due a c.self.invariant _ (seen c.self.view_is) _ c.args.queue c.args.packet p c.in_ok-place.ensures.may)
+    _ (seen c.self.view_is) (finish-due a c.self.invariant _ (seen c.self.view_is) _ c.args.queue c.args.packet p c.in_ok-found.ensures.may)
 
 pub returns-clause-places : goal.returns-clause-places
 returns-clause-places c =
     let a = c.self.inside in
-    let at = open-of a c.self.invariant _ (seen c.self.view_is) c.args.queue c.args.packet c.in_ok-place.place c.in_ok-place.ensures.found in
+    let at = open-of a c.self.invariant _ (seen c.self.view_is) c.args.queue c.args.packet c.in_ok-found.found.place c.in_ok-found.ensures.found in
     places-kept a _ c.self.view_is c.leave_flight.new.queues c.leave_flight.new.grants c.leave_flight.new.blocks c.enter.new.audit _ c.leave_flight.ensures.capacity
     (ap (map error_places) c.leave_flight.ensures.queues ∙ errors-changed a.queues.items c.args.queue (with_leaving (Some c.args.packet) leaving.Completed) at.q at.found refl)
     c.leave_flight.ensures.places c.leave_flight.ensures.block_places c.enter.ensures

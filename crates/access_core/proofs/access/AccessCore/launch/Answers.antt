@@ -1,14 +1,14 @@
 -- The packet is in flight, and the entry tells it.
 use Rattle.core_model.specs.History.{beginning}
 use Rattle.std.proofs.Common.{◌≡◌, ◌∙◌, ap, refl, sym, subst, true, Some, [], map, option_map}
-use Rattle.access_core.proofs.Terms.{History, IsNext-from_owed, Launched, MayHold, Packet, Take, TakesNext, arguments_of, as_rights, entry_of, launched_by, lies_in_regions, owner}
+use Rattle.access_core.proofs.Terms.{History, IsNext-from_owed, Launched, MayHold, Packet, Take, TakesNext, arguments_of, as_rights, launched_by, lies_in_regions, owner}
 use Rattle.access_core.proofs.Terms.{region_lengths, rights_at_launch, start_of}
 use Rattle.access_core.proofs.Seen.{seen}
 use Rattle.access_core.specs.inner.Deciding.{IsBlockPlaced, opening_of}
 use Rattle.access_core.proofs.HeldAfter.{grants-launched, launch-in_force}
 use Rattle.access_core.proofs.CachedMore.{IsCached-more, memory-still, owed-inside}
 use Rattle.access_core.proofs.QueueAt.{flight-launched}
-use Rattle.access_core.proofs.TakeLemmas.{block-placed, can-take, queues-launched}
+use Rattle.access_core.proofs.TakeLemmas.{below-next, block-placed, can-take, queues-launched}
 use Rattle.core_model.specs.declared.outcome.Outcome.TheVariants as outcome
 use Rattle.access_core.proofs.access.AccessCore.launch.Goals as goal
 
@@ -21,11 +21,19 @@ hold_reserved-requires-clause-in_force c =
     (sym (seen c.self.view_is)))
     (subst (λ h. MayHold h (opening_of c.args.launching) c.args.launching.asked.packet) (sym (seen c.self.view_is)) c.requires.5)
 
-pub place_next-requires : goal.place_next-requires
-place_next-requires c =
+pub place_next-requires-clause-free : goal.place_next-requires-clause-free
+place_next-requires-clause-free c =
     let a = c.self.inside in
     let can = can-take a c.self.invariant c.args.queue (subst (λ h. TakesNext h c.args.queue) (sym (seen c.self.view_is)) c.requires.3) in
     (can.opened.q, can.opened.found, can.few, can.opened.small)
+
+pub place_next-requires-clause-above : goal.place_next-requires-clause-above
+place_next-requires-clause-above c =
+    let a = c.self.inside in
+    let can = can-take a c.self.invariant c.args.queue (subst (λ h. TakesNext h c.args.queue) (sym (seen c.self.view_is)) c.requires.3) in
+    let owing = owed-inside a c.self.invariant _ (seen c.self.view_is) _ _ _ c.requires.0 in
+    let next = IsNext-from_owed (start_of a) a.audit.items c.args.queue c.args.packet c.args.bytes.now _ _ owing in
+    below-next a c.self.invariant c.args.queue can c.args.packet next.id_is
 
 pub argument_block-requires : goal.argument_block-requires
 argument_block-requires c =

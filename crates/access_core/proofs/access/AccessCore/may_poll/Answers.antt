@@ -8,23 +8,23 @@ use Rattle.access_core.proofs.WorkLemmas.{failure-releases, release-due}
 use Rattle.access_core.proofs.Terms.{Call, Poll, look_owed}
 use Rattle.access_core.proofs.access.AccessCore.may_poll.Goals as goal
 
-pub returns-in_err-place-clause-why : goal.returns-in_err-place-clause-why
+pub returns-in_err-found-clause-why : goal.returns-in_err-found-clause-why
 unfolding owed
-returns-in_err-place-clause-why = grind arith
+returns-in_err-found-clause-why = grind arith
 
 pub returns-in-Err-clause-why : goal.returns-in-Err-clause-why
 returns-in-Err-clause-why c =
     due-as c.args.self.now.history (Call (Poll c.args.queue c.args.packet)) _
-    (poll-owed c.self.inside c.self.invariant _ (seen c.self.view_is) c.args.queue c.args.packet c.in_ok-place.place c.in_ok-place.ensures.found _ c.in-Err.ensures.why)
+    (poll-owed c.self.inside c.self.invariant _ (seen c.self.view_is) c.args.queue c.args.packet c.in_ok-found.found.place c.in_ok-found.ensures.found _ c.in-Err.ensures.why)
 
 pub returns-in-Still-clause-may : goal.returns-in-Still-clause-may
 returns-in-Still-clause-may = grind (arith, poll-owed)
 
 pub returns-in-Fails-clause-may : goal.returns-in-Fails-clause-may
 returns-in-Fails-clause-may c =
-    release-due c.self.inside c.self.invariant _ (seen c.self.view_is) c.args.queue c.args.packet c.in_ok-place.place c.in_ok-place.ensures.found _ _ _
+    release-due c.self.inside c.self.invariant _ (seen c.self.view_is) c.args.queue c.args.packet c.in_ok-found.found.place c.in_ok-found.ensures.found _ _ _
     (failure-releases c.args.queue c.args.packet)
-    (poll-owed c.self.inside c.self.invariant _ (seen c.self.view_is) c.args.queue c.args.packet c.in_ok-place.place c.in_ok-place.ensures.found _
+    (poll-owed c.self.inside c.self.invariant _ (seen c.self.view_is) c.args.queue c.args.packet c.in_ok-found.found.place c.in_ok-found.ensures.found _
     (c.in-Ok.ensures.may ∙ ap (look_owed c.args.queue c.args.packet) c.in-Fails.is))
 
 pub returns-then-is_full-clause-why : goal.returns-then-is_full-clause-why

@@ -13,9 +13,9 @@ returns-then-group-count-clause-met c =
     let h = c.args.self.now.history in
     let reached : nat_le c.group_count-count.result c.args.place.progress.groups_run ≡ true = search rules in
     let ran : nat_le (group_count (packet.Kernel c.args.dispatch)) c.args.place.progress.groups_run ≡ true = rw (← c.group_count-count.ensures) reached in
-    let is : due h (Call (RunNext c.args.queue c.args.packet)) ≡ answers (outcome.Worked Done) =
-    due-as h (Call (RunNext c.args.queue c.args.packet)) (answers (outcome.Worked Done))
-    (kernel-owed h c.args.queue c.args.packet c.args.place c.requires.found c.args.dispatch c.requires.packet_is true ran) in
+    let is : due h (Call (RunNext c.args.queue c.args.found.packet)) ≡ answers (outcome.Worked Done) =
+    due-as h (Call (RunNext c.args.queue c.args.found.packet)) (answers (outcome.Worked Done))
+    (kernel-owed h c.args.queue c.args.found.packet c.args.place c.requires.found c.args.dispatch c.requires.packet_is true ran) in
     inl (record { reply_is = rw is refl; history_is = rw is refl })
 
 pub enter_group-requires-clause-owed : goal.enter_group-requires-clause-owed
@@ -25,8 +25,8 @@ enter_group-requires-clause-owed c =
     let group = c.args.place.progress.groups_run in
     let left : nat_le c.group_count-count.result group ≡ false = search rules in
     let ran : nat_le (group_count (packet.Kernel d)) group ≡ false = rw (← c.group_count-count.ensures) left in
-    kernel-owed h c.args.queue c.args.packet c.args.place c.requires.found d c.requires.packet_is false ran
-    ∙ ap (group_owed c.args.queue c.args.packet d group) c.in-Ok.ensures.ok
+    kernel-owed h c.args.queue c.args.found.packet c.args.place c.requires.found d c.requires.packet_is false ran
+    ∙ ap (group_owed c.args.queue c.args.found.packet d group) c.in-Ok.ensures.ok
     ∙ ap (λ (count : ℕ). enters (outcome.Worked (Ran group (count - (group + 1)))) (map write_of_run c.in-Ok.runs)) (sym c.group_count-count.ensures)
 
 pub fault-requires-clause-owed : goal.fault-requires-clause-owed
@@ -36,11 +36,11 @@ fault-requires-clause-owed c =
     let group = c.args.place.progress.groups_run in
     let left : nat_le c.group_count-count.result group ≡ false = search rules in
     let ran : nat_le (group_count (packet.Kernel d)) group ≡ false = rw (← c.group_count-count.ensures) left in
-    let came : next_result h c.args.queue c.args.packet c.args.place d ≡ broke_rule c.in-Err-Fault.fault =
-    subst (FaultsAs (next_result h c.args.queue c.args.packet c.args.place d)) c.in-Err-Fault.field-0-is c.in-Err-Fault.ensures.fault in
-    kernel-owed h c.args.queue c.args.packet c.args.place c.requires.found d c.requires.packet_is false ran
-    ∙ ap (group_owed c.args.queue c.args.packet d group) came
-    ∙ ap (λ (f : ItemFault). fault_owed (group_error c.args.queue c.args.packet group f)) (sym c.in-Err-Fault.fault-is)
+    let came : next_result h c.args.queue c.args.found.packet c.args.place d ≡ broke_rule c.in-Err-Fault.fault =
+    subst (FaultsAs (next_result h c.args.queue c.args.found.packet c.args.place d)) c.in-Err-Fault.field-0-is c.in-Err-Fault.ensures.fault in
+    kernel-owed h c.args.queue c.args.found.packet c.args.place c.requires.found d c.requires.packet_is false ran
+    ∙ ap (group_owed c.args.queue c.args.found.packet d group) came
+    ∙ ap (λ (f : ItemFault). fault_owed (group_error c.args.queue c.args.found.packet group f)) (sym c.in-Err-Fault.fault-is)
 
 pub returns-in-Err-OutOfMemory-clause-met : goal.returns-in-Err-OutOfMemory-clause-met
 returns-in-Err-OutOfMemory-clause-met c =
@@ -50,8 +50,8 @@ returns-in-Err-OutOfMemory-clause-met c =
     let left : nat_le c.group_count-count.result group ≡ false = search rules in
     let ran : nat_le (group_count (packet.Kernel d)) group ≡ false = rw (← c.group_count-count.ensures) left in
     inr (record {
-      may = group-lacks h c.args.queue c.args.packet d group (next_result h c.args.queue c.args.packet c.args.place d)
-          (kernel-owed h c.args.queue c.args.packet c.args.place c.requires.found d c.requires.packet_is false ran);
+      may = group-lacks h c.args.queue c.args.found.packet d group (next_result h c.args.queue c.args.found.packet c.args.place d)
+          (kernel-owed h c.args.queue c.args.found.packet c.args.place c.requires.found d c.requires.packet_is false ran);
       reply_is = refl;
       history_is = refl;
     })

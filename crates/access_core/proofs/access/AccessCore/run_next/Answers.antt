@@ -1,11 +1,9 @@
 -- A packet that isn't in flight, or has no groups, is refused.
 use Rattle.std.proofs.Common.{◌≡◌, refl, rules, inl, Err, arith}
 use Rattle.access_core.proofs.RunLemmas.{no-groups, run-refused}
-use Rattle.std.proofs.Common.{sym, ap, ◌∙◌}
+use Rattle.std.proofs.Common.{ap}
 use Rattle.policy.specs.Results.{map_ok}
-use Rattle.core_model.specs.Owed.{enters, refuses}
 use Rattle.core_model.specs.declared.outcome.Outcome.TheVariants as outcome
-use Rattle.core_model.specs.declared.outcome.Worked.TheVariants as worked
 use Rattle.core_model.proofs.Room.{fault-finds}
 use Rattle.access_core.proofs.Rooms.{never-told}
 use Rattle.access_core.proofs.Terms.{Call, RunNext}

@@ -1,25 +1,32 @@
 -- What is cached follows the stop.
 use Rattle.std.proofs.Common.{refl, sym, ap, map, ◌∙◌, arith}
-use Rattle.access_core.proofs.Terms.{Call, Stop, error_places, release_of, with_leaving}
+use Rattle.access_core.proofs.Terms.{Call, Stop, error_places, packet_in, release_of, with_leaving}
 use Rattle.access_core.specs.declared.access.leaving.Leaving.TheVariants as leaving
 use Rattle.access_core.proofs.Places.{places-kept}
 use Rattle.access_core.proofs.ChangedQueue.{errors-changed}
 use Rattle.access_core.proofs.Seen.{seen}
 use Rattle.access_core.proofs.CachedMore.{IsCached-more, memory-still, owed-inside}
 use Rattle.access_core.proofs.StopLemmas.{freed-stopped, grants-stopped, memory-released, queues-stopped, stop-open, values-released}
+use Rattle.access_core.proofs.TakeLemmas.{all-found-of}
 use Rattle.core_model.specs.declared.outcome.Outcome.TheVariants as outcome
 use Rattle.access_core.proofs.access.AccessCore.stop.Goals as goal
 
 pub leave_flight-requires-clause-there : goal.leave_flight-requires-clause-there
 leave_flight-requires-clause-there = grind (arith, stop-open)
 
+pub leave_flight-requires-clause-found : goal.leave_flight-requires-clause-found
+leave_flight-requires-clause-found c = all-found-of c.self.inside c.self.invariant _ (seen c.self.view_is) c.args.queue c.in_ok-barrier.barrier c.in_ok-barrier.ensures.found
+
 pub leave_flight-requires-clause-counted : goal.leave_flight-requires-clause-counted
-leave_flight-requires-clause-counted = grind (arith, stop-open, freed-stopped)
+leave_flight-requires-clause-counted c =
+    let a = c.self.inside in
+    let at = stop-open a c.self.invariant c.args.queue _ _ (owed-inside a c.self.invariant _ (seen c.self.view_is) _ _ _ c.in_ok-barrier.ensures.may) in
+    freed-stopped a c.self.invariant c.args.queue at (packet_in c.in_ok-barrier.barrier)
 
 pub invariant_of-self : goal.invariant_of-self
 invariant_of-self c =
     let a = c.self.inside in
-    let barrier = c.in_ok-barrier.barrier in
+    let barrier = packet_in c.in_ok-barrier.barrier in
     let at = stop-open a c.self.invariant c.args.queue _ _ (owed-inside a c.self.invariant _ (seen c.self.view_is) _ _ _ c.in_ok-barrier.ensures.may) in
     IsCached-more a _ (Call (Stop c.args.queue)) outcome.Accepted (release_of c.args.queue barrier) c.self.invariant
     (record {
@@ -36,7 +43,7 @@ invariant_of-self c =
 pub returns-clause-places : goal.returns-clause-places
 returns-clause-places c =
     let a = c.self.inside in
-    let barrier = c.in_ok-barrier.barrier in
+    let barrier = packet_in c.in_ok-barrier.barrier in
     let at = stop-open a c.self.invariant c.args.queue _ _ (owed-inside a c.self.invariant _ (seen c.self.view_is) _ _ _ c.in_ok-barrier.ensures.may) in
     places-kept a _ c.self.view_is c.leave_flight.new.queues c.leave_flight.new.grants c.leave_flight.new.blocks c.enter.new.audit _ c.leave_flight.ensures.capacity
     (ap (map error_places) c.leave_flight.ensures.queues ∙ errors-changed a.queues.items c.args.queue (with_leaving barrier leaving.Stopped) at.q at.found refl)

@@ -1,5 +1,5 @@
 -- The header is in the first word.
-use Rattle.std.proofs.Common.{ℕ, List, get_or, ◌∙◌, ◌==◌, ap, rules, arith}
+use Rattle.std.proofs.Common.{ℕ, List, get_or, ◌∙◌, ◌==◌, ap, rules}
 use Rattle.aql_packet.specs.Numbers.{bits}
 use Rattle.access_core.proofs.access.taking.header.Goals as goal
 
