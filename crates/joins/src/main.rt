@@ -13,7 +13,7 @@ use calls::{first_part, open, second_part};
 use core_model::{JoinFault, NotJoined, Part, join};
 use fault::Fault;
 use policy::Policy;
-use script::{NumberMeaning, LineAnswer, LineReply, write_line};
+use script::{LineAnswer, LineReply, NumberMeaning, write_line};
 use std::alloc::Global;
 use std::process::ExitCode;
 use world::Answer;

@@ -4,7 +4,7 @@
 ghost use Rattle.std.specs.Prelude.{◌<◌};
 
 use aql_packet::PacketId;
-use ring_core::{ALLOWANCE, Access, Part, HeldTicket, RingState, Seen, Step, StepFault, Ticket};
+use ring_core::{ALLOWANCE, Access, HeldTicket, Part, RingState, Seen, Step, StepFault, Ticket};
 use std::alloc::{AllocError, Global};
 use std::process::Abort;
 use std::test::Fail;
