@@ -50,10 +50,10 @@ class Memory:
     def __init__(self, program, library, room):
         self.program, self.library, self.room = program, library, room
 
-    def run(self, words, given, at=0, on=False, count=None):
+    def run(self, words, given, at=0, on=False, count=None, seconds=60):
         env = {"LD_PRELOAD": self.library, "REFUSE_AT": str(at)}
         env.update({"REFUSE_ON": "1"} if on else {}, **({"REFUSE_COUNT": count} if count else {}))
-        return run([self.program, *words], given, env)
+        return run([self.program, *words], given, env, seconds)
 
     def count(self, words, given):
         """How the run ends with memory, and how many requests it makes."""
@@ -108,8 +108,9 @@ class TextTrial:
         return None if asked[len(replies) - 1].split(" ")[0] not in TAKES_NONE else f"{ended}: refused, though it takes no memory"
 
     def from_then_on(self, at):
-        ended = self.memory.run(self.row.words, self.given, at, True)
-        # (threads that were begun may have what they need, or try again and again in vain)
+        # (threads that were begun may have what they need, or try again and again in vain, up to 10,000,000 times)
+        seconds = 600 if self.row.form == "threads" else 60
+        ended = self.memory.run(self.row.words, self.given, at, True, seconds=seconds)
         is_over = self.row.form == "threads" and ended == self.whole
         return None if is_over or self.is_unsettled(ended) else starves(ended, self.whole)
 
