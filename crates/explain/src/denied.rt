@@ -9,7 +9,7 @@ use crate::texts::{lies_whole, put_object, put_range};
 use aql_packet::{KernelDispatch, Packet, decode};
 use core_model::{Need, Range, Subject};
 use executor::MOST_SEGMENT_BYTES;
-use packet_processor::{function_of, needs};
+use packet_processor::{PacketNeeds, function_of};
 use policy::{Object, Right};
 use queue_error::{QueueError, Rule};
 use std::alloc::{AllocError, Global};
@@ -233,8 +233,8 @@ fn tell_rule(
     packet: &Packet,
 ) -> Result<(), AllocError> {
     tell_form(alloc, out, scene, opening, rule, packet)?;
-    let all = needs(rule, opening.agent, packet);
-    for need in &all {
+    let asked = PacketNeeds::of(opening.agent, *packet);
+    for need in asked.of_rule(rule) {
         if let Some(need) = need {
             tell_need(out, scene, opening, rule, need)?;
         }

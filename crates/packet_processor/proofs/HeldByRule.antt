@@ -22,6 +22,17 @@ all-options p (o ∷ os) = list_all-append p (option_to_list o) (flat_map option
 abbrev pub rights_of : List Need → List (Object × Rights)
 rights_of ns = map (λ need. as_rights (right_needed need)) ns
 
+-- what a need has a packet hold, if there is one
+abbrev pub held_if_any : Option Need → List (Object × Rights)
+held_if_any need = rights_of (option_to_list need)
+
+-- what some have it hold, each of which may be none
+abbrev pub all_held : List (Option Need) → List (Object × Rights)
+all_held needs = rights_of (flat_map option_to_list needs)
+
+pub all_held-splits : (need : Option Need) (needs : List (Option Need)) → all_held (need ∷ needs) ≡ held_if_any need ++ all_held needs
+all_held-splits need needs = grind arith
+
 rights_map : (ns : List Need) (rest : List ObjectRight) → map as_rights (map right_needed ns ++ rest) ≡ rights_of ns ++ map as_rights rest
 rights_map [] rest = refl
 rights_map (n ∷ ns) rest = ap (λ xs. as_rights (right_needed n) ∷ xs) (rights_map ns rest)

@@ -12,7 +12,6 @@ ghost use Rattle.packet_processor.specs.inner.RightsPassing.{rights_passing};
 
 use crate::facts::Facts;
 use crate::judging::object_of;
-use crate::need_table::Needs;
 use crate::packet_needs::PacketNeeds;
 use aql_packet::Address;
 use byteorder::{ByteOrder, LittleEndian};
@@ -108,16 +107,14 @@ fn hold_if_in_force(
 }
 
 // Puts what is needed behind what is held.
-fn hold_all(held: &mut Sequence<Held>, needs: &Needs) -> Result<(), AllocError>
+fn hold_all(held: &mut Sequence<Held>, needs: &[Option<Need>]) -> Result<(), AllocError>
     ensures { OnOk result (held.new
         ≡ held.old ++ map (λ need. as_rights (right_needed need)) (flat_map option_to_list needs.now)) }
 {
-    let [first, second, third, fourth, fifth] = *needs;
-    hold_one(held, first)?;
-    hold_one(held, second)?;
-    hold_one(held, third)?;
-    hold_one(held, fourth)?;
-    hold_one(held, fifth)
+    for need in needs {
+        hold_one(held, *need)?;
+    }
+    Ok(())
 }
 
 // Puts what is needed behind what is held, if it is anything.

@@ -10,7 +10,7 @@ ghost use Rattle.packet_processor.specs.inner.FieldRules.{later_failing, verdict
 
 use crate::dispatch_rules::{has_arguments, has_segments, has_sizes};
 use crate::facts::{Facts, Verdict};
-use crate::need_table::{Needs, function_of};
+use crate::need_table::function_of;
 use crate::packet_needs::PacketNeeds;
 use aql_packet::{Packet, decode};
 use core_model::{Need, Subject};
@@ -106,7 +106,7 @@ fn asks_for_known_work(packet: &Packet) -> bool
 }
 
 // Whether all rights that are needed are in force.
-fn are_met(facts: &Facts, needs: &Needs) -> bool
+fn are_met(facts: &Facts, needs: &[Option<Need>]) -> bool
     ensures { result ≡ list_all (rules.need_is_met (facts_seen facts.now)) (flat_map option_to_list needs.now) }
 {
     needs.iter().all(|need| is_met_or_none(facts, need))

@@ -17,7 +17,7 @@ mod queue_state;
 pub use facts::{Facts, Verdict};
 pub use holding::{held_by_arguments, held_by_needs};
 pub use judging::verdict;
-pub use need_table::{Needs, function_of, needs, result_range};
+pub use need_table::{function_of, result_range};
 pub use packet_needs::PacketNeeds;
 pub use packets::{completion_signal, is_barrier, is_ready};
 pub use places::{FoundPacket, Place, Places};

@@ -1,4 +1,4 @@
-//! What a packet needs, rule by rule: the one table by which it is judged, holds its rights, and runs.
+//! What a packet needs: the tables by which it is judged, holds its rights, and runs.
 
 ghost use Rattle.std.specs.Prelude.{◌≡◌, ◌∷◌, [], option_to_list};
 ghost use Rattle.std.specs.List.{flat_map};
@@ -8,10 +8,6 @@ use crate::packets::completion_signal;
 use aql_packet::{Address, AgentDispatch, AgentHandle, KernelDispatch, Packet, SignalHandle};
 use core_model::{ADD64, AgentFunction, COPY, FILL, Need, Range, Subject};
 use policy::{Object, Right};
-use queue_error::Rule;
-
-/// The needs of a rule: none has more than five.
-pub type Needs = [Option<Need>; 5];
 
 /// The function that a dispatch names, and what it is to work on; none where agents have no function
 /// of its number (own).
@@ -44,39 +40,24 @@ pub fn result_range(dispatch: &AgentDispatch) -> Range
     range_at(address, if address == 0 { 0 } else { 8 })
 }
 
-/// The rights that a launch rule asks of a packet for an agent, and on what: L4 the use of the agent,
-/// L6 to launch a kernel, L8 ranges of memory, L9 to wait on dependencies, L10 to change the completion
-/// signal (own).
-pub fn needs(rule: Rule, agent: AgentHandle, packet: &Packet) -> Needs
-    ensures { flat_map option_to_list result ≡ model.needs rule agent packet.now }
+/// What a packet needs of the agent that it is for: its use.
+pub(crate) fn agent_needs(agent: AgentHandle) -> [Option<Need>; 1]
+    ensures { flat_map option_to_list result
+        ≡ record { subject = Subject.Object (Object.Agent agent); right = Right.Use } ∷ [] }
 {
-    match rule {
-        Rule::L4 => one(on_object(Object::Agent(agent), Right::Use)),
-        Rule::L6 => kernel_needs(packet),
-        Rule::L8 => memory_needs(packet),
-        Rule::L9 => wait_needs(packet),
-        Rule::L10 => one(on_signal(completion_signal(packet), Right::Change)),
-        _ => [None; 5],
-    }
+    [on_object(Object::Agent(agent), Right::Use)]
 }
 
-// At most one need.
-fn one(need: Option<Need>) -> Needs
-    ensures { flat_map option_to_list result ≡ option_to_list need }
-{
-    [need, None, None, None, None]
-}
-
-// What a packet needs of kernels: a kernel dispatch to launch its own.
-fn kernel_needs(packet: &Packet) -> Needs
+/// What a packet needs of kernels: a kernel dispatch to launch its own.
+pub(crate) fn kernel_needs(packet: &Packet) -> [Option<Need>; 1]
     ensures { flat_map option_to_list result ≡ model.kernel_needs packet.now }
 {
     match packet {
-        Packet::Kernel(dispatch) => one(on_object(
+        Packet::Kernel(dispatch) => [on_object(
             Object::Kernel(dispatch.kernel_object),
             Right::Launch,
-        )),
-        _ => [None; 5],
+        )],
+        _ => [None],
     }
 }
 
@@ -91,17 +72,17 @@ pub(crate) fn argument_need(dispatch: &KernelDispatch, size: u32) -> Option<Need
     )
 }
 
-// What a packet needs of memory.
-fn memory_needs(packet: &Packet) -> Needs
+/// What a packet needs of memory.
+pub(crate) fn memory_needs(packet: &Packet) -> [Option<Need>; 3]
     ensures { flat_map option_to_list result ≡ model.memory_needs packet.now }
 {
     match packet {
         Packet::Agent(dispatch) => {
             let [first, second] = function_needs(function_of(dispatch));
             let third = on_range(result_range(dispatch), Right::Write);
-            [first, second, third, None, None]
+            [first, second, third]
         }
-        _ => [None; 5],
+        _ => [None; 3],
     }
 }
 
@@ -123,8 +104,8 @@ fn function_needs(function: Option<AgentFunction>) -> [Option<Need>; 2]
     }
 }
 
-// What a packet needs of the signals that it depends on.
-fn wait_needs(packet: &Packet) -> Needs
+/// What a packet needs of the signals that it depends on.
+pub(crate) fn wait_needs(packet: &Packet) -> [Option<Need>; 5]
     ensures { flat_map option_to_list result
         ≡ flat_map (model.signal_need Right.Wait) (model.dependencies packet.now) }
 {
@@ -138,6 +119,13 @@ fn wait_needs(packet: &Packet) -> Needs
         ],
         _ => [None; 5],
     }
+}
+
+/// What a packet needs of the signal that is decremented when it completes.
+pub(crate) fn completion_needs(packet: &Packet) -> [Option<Need>; 1]
+    ensures { flat_map option_to_list result ≡ model.signal_need Right.Change (model.completion_signal packet.now) }
+{
+    [on_signal(completion_signal(packet), Right::Change)]
 }
 
 // So many bytes from an address on.

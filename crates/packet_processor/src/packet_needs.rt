@@ -4,13 +4,14 @@ ghost use Rattle.std.specs.Prelude.{◌≡◌, option_to_list};
 ghost use Rattle.std.specs.List.{flat_map};
 ghost use Rattle.core_model.specs.Needs as model;
 
-use crate::need_table::{Needs, needs};
+use crate::need_table::{agent_needs, completion_needs, kernel_needs, memory_needs, wait_needs};
 use aql_packet::{AgentHandle, Packet};
+use core_model::Need;
 use queue_error::Rule;
 use std::marker::Model;
 
 // What a rule asks for that asks for no right.
-const NONE: Needs = [None; 5];
+const NONE: [Option<Need>; 0] = [];
 
 /// A packet for an agent, with the rights that it needs. A contract sees the agent and the packet.
 #[derive(Drop)]
@@ -18,15 +19,15 @@ pub struct PacketNeeds {
     agent: AgentHandle,
     packet: Packet,
     /// The use of the agent.
-    of_agent: Needs,
+    of_agent: [Option<Need>; 1],
     /// To launch a kernel.
-    of_kernel: Needs,
+    of_kernel: [Option<Need>; 1],
     /// Ranges of memory.
-    of_memory: Needs,
+    of_memory: [Option<Need>; 3],
     /// To wait on dependencies.
-    of_dependencies: Needs,
+    of_dependencies: [Option<Need>; 5],
     /// To change the completion signal.
-    of_completion: Needs,
+    of_completion: [Option<Need>; 1],
 }
 
 impl Model for PacketNeeds {
@@ -46,11 +47,11 @@ impl PacketNeeds {
         ensures { result ≡ record { agent = agent; packet = packet } }
     {
         PacketNeeds {
-            of_agent: needs(Rule::L4, agent, &packet),
-            of_kernel: needs(Rule::L6, agent, &packet),
-            of_memory: needs(Rule::L8, agent, &packet),
-            of_dependencies: needs(Rule::L9, agent, &packet),
-            of_completion: needs(Rule::L10, agent, &packet),
+            of_agent: agent_needs(agent),
+            of_kernel: kernel_needs(&packet),
+            of_memory: memory_needs(&packet),
+            of_dependencies: wait_needs(&packet),
+            of_completion: completion_needs(&packet),
             agent,
             packet,
         }
@@ -70,17 +71,18 @@ impl PacketNeeds {
         self.agent
     }
 
-    /// The rights that a launch rule asks for; many rules ask for none.
-    pub(crate) fn of_rule(&self, rule: Rule) -> &Needs
+    /// The rights that a launch rule asks for, and on what: L4 the use of the agent, L6 to launch a kernel, L8 ranges
+    /// of memory, L9 to wait on dependencies, L10 to change the completion signal; the other rules ask for none (own).
+    pub fn of_rule(&self, rule: Rule) -> &[Option<Need>]
         ensures { flat_map option_to_list result.now ≡ model.needs rule self.now.agent self.now.packet }
     {
         match rule {
-            Rule::L4 => &self.of_agent,
-            Rule::L6 => &self.of_kernel,
-            Rule::L8 => &self.of_memory,
-            Rule::L9 => &self.of_dependencies,
-            Rule::L10 => &self.of_completion,
-            _ => &NONE,
+            Rule::L4 => self.of_agent.as_slice(),
+            Rule::L6 => self.of_kernel.as_slice(),
+            Rule::L8 => self.of_memory.as_slice(),
+            Rule::L9 => self.of_dependencies.as_slice(),
+            Rule::L10 => self.of_completion.as_slice(),
+            _ => NONE.as_slice(),
         }
     }
 }
