@@ -1,0 +1,199 @@
+#!/usr/bin/env python3
+"""Counts machine instructions of proved programs by valgrind's callgrind, against ceilings: instructions.py BROKERD
+
+What is counted doesn't depend on the machine's load. Each row runs a command twice, once with more work, and divides the
+difference by the further work, so that starting and ending don't count. The ceilings stand in tests/instructions.toml;
+`docs/performance.md` tells the figures. Without valgrind nothing is counted, and the script says so: where it is root it
+first asks Debian for it.
+"""
+import os
+import re
+import shutil
+import subprocess
+import sys
+import tempfile
+import tomllib
+
+from trial import FILL, HERE, PRELUDE, SAMPLE, TOP, program_given, text
+
+BENCH = f"{TOP}/crates/bench/out/bench"
+
+# kernels that count in registers, that load and store at random places, and that meet at barriers, with how many steps
+# an item takes: those of crates/bench/src/kernel_speed.rt
+COUNTING = ("""
+  mov_u32 $s0, 0;
+  mov_u32 $s1, 13106;
+@again:
+  add_u32 $s0, $s0, 3;
+  xor_b32 $s2, $s0, $s1;
+  sub_u32 $s1, $s1, 1;
+  cmp_ne_b1_u32 $c0, $s1, 0;
+  cbr_b1 $c0, @again;
+  ret;
+""", 65_533)
+STORING = ("""
+  ld_kernarg_u64 $d0, [%words];
+  workitemabsid_u32 $s0, 0;
+  mov_u32 $s1, 6553;
+@turn:
+  mad_u32 $s0, $s0, 1664525, 1013904223;
+  shr_u32 $s2, $s0, 21;
+  cvt_u64_u32 $d1, $s2;
+  mad_u64 $d1, $d1, 4, $d0;
+  ld_global_u32 $s3, [$d1];
+  add_u32 $s3, $s3, 1;
+  st_global_u32 $s3, [$d1];
+  sub_u32 $s1, $s1, 1;
+  cmp_ne_b1_u32 $c0, $s1, 0;
+  cbr_b1 $c0, @turn;
+  ret;
+""", 65_534)
+MEETING = ("""
+  group_u32 %sum;
+  ld_kernarg_u64 $d0, [%words];
+  mov_u32 $s1, 13106;
+@round:
+  atomicnoret_add_group_rlx_wg_u32 [%sum], 1;
+  barrier;
+  sub_u32 $s1, $s1, 1;
+  cmp_ne_b1_u32 $c0, $s1, 0;
+  cbr_b1 $c0, @round;
+  ld_group_u32 $s2, [%sum];
+  st_global_u32 $s2, [$d0];
+  ret;
+""", 65_535)
+
+
+def policy(regions, body, header="kernarg_u64 %words"):
+    """A policy of one client, one agent, so many regions and one kernel, that allows the client all of it."""
+    rows = ['[[client]]\nname = "nora"', '[[agent]]\nname = "mixer"\ntakes = ["kernel", "agent"]']
+    rows += [f'[[region]]\nname = "r{number}"\nlength = 8192' for number in range(1, regions + 1)]
+    rows.append(f'[[kernel]]\nname = "k"\nentry = "&k"\ntext = """\nmodule &m:1:0:$full:$large:$default;\nprog kernel &k({header})\n{{{body}}};\n"""')
+    kinds = (("agent", '"USE"'), ("region", '"READ", "WRITE"'), ("kernel", '"LAUNCH"'))
+    rows += [f'[[allow]]\nclient = "nora"\nkind = "{kind}"\nobject = "*"\nrights = [{rights}]' for kind, rights in kinds]
+    return "\n".join(rows) + "\n"
+
+
+def dispatch(items, groups):
+    """A kernel dispatch of so many items a work-group and so many groups, with its argument block at the first region's begin."""
+    words = [0x1402 | 1 << 16 | items << 32 | 1 << 48, 1 | items * groups << 32, 1 | 1 << 32, 4 << 32, 1, 1 << 32, 0, 0]
+    return "".join(word.to_bytes(8, "little").hex() for word in words)
+
+
+def rights(regions):
+    given = ["grant nora agent mixer USE", "grant nora kernel k LAUNCH"]
+    return given + [f"grant nora region r{number} READ,WRITE" for number in range(1, regions + 1)]
+
+
+def packets(count):
+    """So many packets of the sample, one after the other: published, served, run and finished."""
+    lines = list(PRELUDE)
+    for number in range(count):
+        lines += [f"submit 1 1 {FILL}", "serve 1", f"run 1 {number}", f"finish 1 {number}"]
+    return lines
+
+
+def group(items):
+    """One work-group of so many items, whose kernel's argument is the second region."""
+    return rights(2) + ["write nora 0000000100000000 0000000002000000", "queue nora mixer 8 1", f"submit 1 1 {dispatch(items, 1)}", "serve 1", "run 1 0"]
+
+
+def run_lines(regions, queues, count):
+    """So many `run` lines of a packet with work-groups of one item, where each queue has eight packets in flight that hold a region."""
+    lines = rights(regions) + [f"write nora 0000000100000000 00000000{regions:02x}000000"] + ["queue nora mixer 8 1"] * queues
+    for queue in range(1, queues + 1):
+        lines += [f"submit {queue} 1 {dispatch(1, 4096)}", f"serve {queue}"] * 8
+    return lines + ["run 1 0"] * count
+
+
+class Counter:
+    """Runs commands under callgrind, their policies in a folder."""
+
+    def __init__(self, brokerd, room):
+        self.brokerd, self.room, self.wrong = brokerd, room, []
+
+    def policy(self, written):
+        path = f"{self.room}/policy.toml"
+        with open(path, "w", encoding="utf-8") as it:
+            it.write(written)
+        return path
+
+    def instructions(self, words, given=b""):
+        out = f"{self.room}/counted"
+        ran = subprocess.run(["valgrind", "--tool=callgrind", f"--callgrind-out-file={out}", *words], input=given, capture_output=True)
+        found = re.search(rb"Collected : (\d+)", ran.stderr)
+        if ran.returncode or not found:
+            self.wrong.append(f"{' '.join(words)[:120]}: status {ran.returncode}, {ran.stdout[-120:]!r} {ran.stderr[-200:]!r}")
+            return 0
+        return int(found[1])
+
+    def script(self, written, less, more, units):
+        """Instructions a unit, where the second script does so many units more than the first."""
+        words = [self.brokerd, "run", self.policy(written), "--audit", "1048576"]
+        few, many = (self.instructions(words, text(lines)) for lines in (less, more))
+        return (many - few) / units
+
+    def kernel(self, kernel):
+        body, steps = kernel
+        return self.script(policy(2, body), group(8), group(24), 16 * steps)
+
+    def check(self):
+        words = [self.brokerd, "check"]
+        body = lambda count: "\n" + "  add_u32 $s0, $s1, 7;\n" * count + "  ret;\n"
+        few, many = (self.instructions([*words, self.policy(policy(1, body(count)))]) for count in (1000, 3000))
+        return (many - few) / 2000
+
+    def rows(self):
+        with open(SAMPLE, encoding="utf-8") as it:
+            sample = it.read()
+        yield "scripted packet", lambda: self.script(sample, packets(500), packets(1500), 1000)
+        yield "step in registers", lambda: self.kernel(COUNTING)
+        yield "step with loads and stores", lambda: self.kernel(STORING)
+        yield "step with atomics and barriers", lambda: self.kernel(MEETING)
+        yield "run line, 2 regions, 8 in flight", lambda: self.script(policy(2, "\n  ret;\n"), run_lines(2, 1, 100), run_lines(2, 1, 300), 200)
+        yield "run line, 64 regions, 512 in flight", lambda: self.script(policy(64, "\n  ret;\n"), run_lines(64, 64, 10), run_lines(64, 64, 30), 20)
+        yield "checked instruction", self.check
+        if os.path.exists(BENCH):
+            yield "packet of a lane", lambda: self.lanes()
+
+    def lanes(self):
+        """Each run has 1, 2 and 4 lanes with 1, 4 and 16 producers a lane."""
+        few, many = (self.instructions([BENCH, "lanes", str(count), "--runs", "1"]) for count in (100, 300))
+        return (many - few) / (200 * (1 + 2 + 4) * (1 + 4 + 16))
+
+
+def has_valgrind():
+    """Whether there is a valgrind, if need be from Debian."""
+    if not shutil.which("valgrind") and os.geteuid() == 0 and shutil.which("apt-get"):
+        for words in (["apt-get", "update"], ["apt-get", "install", "-y", "valgrind"]):
+            subprocess.run(words, stdin=subprocess.DEVNULL, capture_output=True)
+    return shutil.which("valgrind") is not None
+
+
+def main():
+    brokerd = program_given()
+    with open(f"{HERE}/instructions.toml", "rb") as it:
+        ceilings = tomllib.load(it)
+    if not has_valgrind():
+        print("skipped: there is no valgrind to count with")
+        print("0 passed, 0 failed")
+        return 0
+    passed, failed = 0, 0
+    with tempfile.TemporaryDirectory() as room:
+        counter = Counter(brokerd, room)
+        for name, count in counter.rows():
+            found, most = count(), ceilings.pop(name, 0)
+            well = 0 < found <= most
+            passed, failed = passed + well, failed + (not well)
+            print(f"{'ok' if well else 'FAILED'} {name}: {found:,.1f} instructions, at most {most:,}", flush=True)
+        for why in counter.wrong:
+            print(f"    {why}")
+    for name in ceilings:
+        print(f"FAILED {name}: no such row was counted")
+        failed += 1
+    print(f"{passed} passed, {failed} failed")
+    return 1 if failed else 0
+
+
+if __name__ == "__main__":
+    sys.exit(main())
