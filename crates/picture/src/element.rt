@@ -74,7 +74,7 @@ pub enum Sign {
     Write(ClientId),
     /// A client's own change of a signal.
     Change(ClientId),
-    /// An entry that no legal history has.
+    /// A reload, which has no sign yet, or an entry that no legal history has.
     Nothing,
 }
 
