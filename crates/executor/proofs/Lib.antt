@@ -10,4 +10,5 @@ mod ViewLemmas
 mod RoundLemmas
 mod GroupEnds
 mod ReadBytes
+mod WordLemmas
 mod RightRuns

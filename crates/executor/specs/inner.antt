@@ -9,3 +9,4 @@ pub mod Held
 pub mod Turns
 pub mod Stops
 pub mod ItemRuns
+pub mod Words

@@ -10,7 +10,6 @@ use crate::held::HeldRegion;
 use crate::view::View;
 use crate::written::WrittenBytes;
 use aql_packet::REGION_SPAN;
-use byteorder::{ByteOrder, LittleEndian};
 use policy::Right;
 use queue_error::Rule;
 use std::alloc::Global;
@@ -62,13 +61,7 @@ pub fn load(view: &View<'_>, written: &WrittenBytes, address: u64, size: usize) 
 {
     match access(view, Right::Read, address, size) {
         Err(rule) => Err(rule),
-        Ok(bytes) => {
-            let mut buffer = [0; 8];
-            let (part, _) = buffer.split_at_mut(size);
-            part.copy_from_slice(bytes);
-            written.load(address, part);
-            Ok(LittleEndian::read_uint(part, size))
-        }
+        Ok(bytes) => Ok(written.read(address, bytes)),
     }
 }
 
@@ -88,13 +81,9 @@ pub fn store(
 {
     match access(view, Right::Write, address, size) {
         Err(rule) => Err(StoreError::Broke(rule)),
-        Ok(_) => {
-            let bytes = value.to_le_bytes();
-            let (low, _) = bytes.split_at(size);
-            match written.store(alloc, address, low) {
-                Ok(()) => Ok(()),
-                Err(_) => Err(StoreError::OutOfMemory),
-            }
-        }
+        Ok(_) => match written.write(alloc, address, size, value) {
+            Ok(()) => Ok(()),
+            Err(_) => Err(StoreError::OutOfMemory),
+        },
     }
 }

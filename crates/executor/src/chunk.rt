@@ -1,8 +1,10 @@
 //! Chunks of 256 pages.
-ghost use Rattle.std.specs.Prelude.{◌≡◌, ◌+◌, ◌%◌, ◌^◌, ◌<◌, ◌≤◌, ℕ, [], OnOk, OnErr, length, max};
+ghost use Rattle.std.specs.Prelude.{◌≡◌, ◌+◌, ◌%◌, ◌^◌, ◌<◌, ◌≤◌, ℕ, [], OnOk, OnErr, length, max, take};
+ghost use Rattle.std.specs.Int.{w64, to_le_bytes};
 ghost use Rattle.executor.specs.inner.Pages.{chunk_byte};
 ghost use Rattle.executor.specs.Written.{laid, seen};
 ghost use Rattle.executor.specs.inner.Told.{Gathers};
+ghost use Rattle.executor.specs.inner.Words.{laid_if, or_below, seen_number};
 
 use crate::page::Page;
 use crate::written_range::WrittenRange;
@@ -64,6 +66,39 @@ impl Chunk {
         if index < self.pages.len() {
             self.pages[index].load(place % PAGE, buffer);
         }
+    }
+
+    /// The number that an access from a place on, in one page, sees, or none where all bytes are those
+    /// below.
+    #[inline(always)]
+    pub fn read(&self, place: usize, below: &[u8]) -> Option<u64>
+        requires some { 1 ≤ length below.now }
+        requires few { length below.now ≤ 8 }
+        requires page { place % 64 + length below.now ≤ 64 }
+        ensures { or_below result below.now ≡ seen_number (chunk_byte self.now) place below.now }
+    {
+        let index = place / PAGE;
+        if index < self.pages.len() {
+            self.pages[index].read(place % PAGE, below)
+        } else {
+            None
+        }
+    }
+
+    /// Writes a number's low bytes from a place on, in one page, where that page is there already.
+    /// Whether it is.
+    #[inline(always)]
+    pub fn overwrite(&mut self, place: usize, size: usize, value: u64) -> bool
+        requires few { size ≤ 8 }
+        requires page { place % 64 + size ≤ 64 }
+        ensures { (x : ℕ) → chunk_byte self.new x ≡ laid_if result (chunk_byte self.old) place (take size (to_le_bytes w64 value)) x }
+    {
+        let index = place / PAGE;
+        if index >= self.pages.len() {
+            return false;
+        }
+        self.pages[index].write(place % PAGE, size, value);
+        true
     }
 
     /// Adds the written bytes to runs of addresses below `base`, the chunk's first.

@@ -2,7 +2,7 @@
 ghost use Rattle.std.specs.Prelude.{◌≡◌, ◌+◌, ◌≤◌, None, Some, Ok, Err, IfOk, IfErr, OnOk, length, take, drop};
 ghost use Rattle.executor.specs.Accesses.{group_atomic_broken, group_broken, group_loaded, group_stored, overlaid};
 
-use byteorder::{ByteOrder, LittleEndian};
+use crate::word;
 use queue_error::Rule;
 
 /// Where the bytes of an access begin, or the rule that it breaks.
@@ -51,7 +51,7 @@ pub fn load(group: &[u8], address: u32, size: usize) -> Result<u64, Rule>
         Err(rule) => Err(rule),
         Ok(begin) => {
             let (_, bytes) = group.split_at(begin);
-            Ok(LittleEndian::read_uint(bytes, size))
+            Ok(word::read(bytes, size))
         }
     }
 }

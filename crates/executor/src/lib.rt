@@ -28,6 +28,7 @@ mod registers;
 mod rounds;
 mod values;
 mod view;
+mod word;
 mod written;
 mod written_range;
 mod written_region;

@@ -1,10 +1,14 @@
 //! Pages of 64 bytes.
-ghost use Rattle.std.specs.Prelude.{◌≡◌, ◌+◌, ◌^◌, ◌<◌, ◌≤◌, ℕ, Option, None, OnOk, length};
+ghost use Rattle.std.specs.Prelude.{◌≡◌, ◌+◌, ◌-◌, ◌^◌, ◌<◌, ◌≤◌, ℕ, Option, None, OnOk, length, take};
+ghost use Rattle.std.specs.Int.{w64, to_le_bytes};
 ghost use Rattle.executor.specs.inner.Pages.{page_byte};
 ghost use Rattle.executor.specs.Written.{laid, seen};
 ghost use Rattle.executor.specs.inner.Told.{Gathers};
+ghost use Rattle.executor.specs.inner.Words.{or_below, seen_number};
 
+use crate::word;
 use crate::written_range::{WrittenRange, note};
+use byteorder::{ByteOrder, LittleEndian};
 use std::alloc::{AllocError, Global};
 use std::marker::Model;
 
@@ -70,6 +74,53 @@ impl Page {
         }
     }
 
+    /// The number that an access from a place on sees, or none where all bytes are those below. Where all
+    /// are written, they are read at once.
+    #[inline(always)]
+    pub fn read(&self, place: usize, below: &[u8]) -> Option<u64>
+        requires some { 1 ≤ length below.now }
+        requires few { length below.now ≤ 8 }
+        requires page { place + length below.now ≤ 64 }
+        ensures { or_below result below.now ≡ seen_number (page_byte self.now) place below.now }
+    {
+        let all = ones(below.len());
+        let set = (self.mask >> place) & all;
+        if set == 0 {
+            None
+        } else if set == all {
+            Some(word::read(&self.bytes[place..], below.len()))
+        } else {
+            Some(self.read_mixed(place, below))
+        }
+    }
+
+    /// The number that an access from a place on sees, byte by byte.
+    #[inline(never)]
+    fn read_mixed(&self, place: usize, below: &[u8]) -> u64
+        requires some { 1 ≤ length below.now }
+        requires few { length below.now ≤ 8 }
+        requires page { place + length below.now ≤ 64 }
+        ensures { result ≡ seen_number (page_byte self.now) place below.now }
+    {
+        let mut buffer = [0; 8];
+        let (part, _) = buffer.split_at_mut(below.len());
+        part.copy_from_slice(below);
+        self.load(place, part);
+        LittleEndian::read_uint(part, below.len())
+    }
+
+    /// Writes a number's low bytes from a place on, all at once.
+    #[inline(always)]
+    pub fn write(&mut self, place: usize, size: usize, value: u64)
+        requires few { size ≤ 8 }
+        requires place { place < 64 }
+        requires page { place + size ≤ 64 }
+        ensures { (x : ℕ) → page_byte self.new x ≡ laid (page_byte self.old) place (take size (to_le_bytes w64 value)) x }
+    {
+        self.mask |= ones(size) << place;
+        word::write(&mut self.bytes[place..], size, value);
+    }
+
     /// Adds the written bytes to runs of addresses below `base`, the page's first.
     pub fn add_runs(
         &self,
@@ -87,4 +138,13 @@ impl Page {
         }
         Ok(())
     }
+}
+
+/// So many lowest bits, set.
+#[inline(always)]
+fn ones(count: usize) -> u64
+    requires { count ≤ 8 }
+    ensures { result ≡ 2 ^ count - 1 }
+{
+    (1 << count) - 1
 }
