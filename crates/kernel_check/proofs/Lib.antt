@@ -5,6 +5,7 @@ pub mod CheckLemmas
 pub mod BlockLemmas
 pub mod BodyLemmas
 mod StepCases
+mod FlatLemmas
 mod LayoutLemmas
 pub mod SoundLemmas
 pub mod DoneLemmas

@@ -5,6 +5,7 @@ pub mod Operands
 pub mod Layout
 pub mod Causes
 pub mod Steps
+pub mod Flat
 pub mod Checks
 pub mod Programs
 pub mod StepWords

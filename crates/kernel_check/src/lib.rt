@@ -9,6 +9,7 @@ mod checked;
 mod checking;
 mod constants;
 mod fault;
+mod flat;
 mod kernarg;
 mod labels;
 mod laws;
@@ -25,6 +26,7 @@ mod values;
 pub use checked::Checked;
 pub use checking::check;
 pub use fault::{CheckCause, CheckError, CheckFault};
+pub use flat::FlatStep;
 pub use laws::{
     law_faults_are_earliest, law_steps_are_faithful, law_steps_do_what_words_say,
     law_steps_have_what_they_need, law_wide_arguments_ascend,

@@ -5,6 +5,7 @@ ghost use Rattle.std.specs.List.{All};
 ghost use Rattle.std.specs.Str.{bytes_eq};
 ghost use Rattle.kernel_check.specs.declared.limits.TheConstants.{MAX_ARGUMENT_BYTES, MAX_GROUP_BYTES, MAX_INSTRUCTIONS};
 
+use crate::flat::{FlatStep, flat_steps};
 use crate::step::{LinedStep, Step};
 use sequences::Sequence;
 use std::alloc::{AllocError, Global};
@@ -20,17 +21,19 @@ pub struct Program {
     group_bytes: u32,
     wide: Sequence<u32>,
     steps: Sequence<Step>,
+    flat: Sequence<FlatStep>,
     lines: Sequence<u32>,
 }
 
 impl Model for Program {
+    ghost use Rattle.kernel_check.specs.Flat as flats;
     ghost use Rattle.kernel_check.specs.Programs as programs;
 
     ghost Value = { programs.Program };
 
     ghost view = { λ p. record { name = p.name; argument_bytes = p.argument_bytes; group_bytes = p.group_bytes; wide = p.wide; steps = p.steps; lines = p.lines } };
 
-    ghost invariant = { λ p. programs.IsSound (record { name = p.name; argument_bytes = p.argument_bytes; group_bytes = p.group_bytes; wide = p.wide; steps = p.steps; lines = p.lines }) };
+    ghost invariant = { λ p. programs.IsSound (record { name = p.name; argument_bytes = p.argument_bytes; group_bytes = p.group_bytes; wide = p.wide; steps = p.steps; lines = p.lines }) × flats.AreFlat p.flat p.steps };
 }
 
 /// Steps without their lines.
@@ -56,6 +59,7 @@ fn lines_of(alloc: Global, lined: &[LinedStep]) -> Result<Vec<u32>, AllocError>
 }
 
 impl Program {
+    ghost use Rattle.kernel_check.specs.Flat.{AreFlat};
     ghost use Rattle.kernel_check.specs.Programs.{Ascends, HasItsClasses, IsSound, StaysWithin, program};
 
     /// Any checked kernel is sound: each label that a step names exists, each argument that one loads stands there
@@ -80,6 +84,7 @@ impl Program {
         ensures { IfOk result (λ p. p ≡ program name argument_bytes group_bytes wide.items lined.now) }
     {
         let steps = steps_of(alloc, lined)?;
+        let flat = flat_steps(alloc, steps.as_slice())?;
         let lines = lines_of(alloc, lined)?;
         Ok(Program {
             name,
@@ -87,6 +92,7 @@ impl Program {
             group_bytes,
             wide: Sequence::from_vec(wide),
             steps: Sequence::from_vec(steps),
+            flat: Sequence::from_vec(flat),
             lines: Sequence::from_vec(lines),
         })
     }
@@ -138,6 +144,16 @@ impl Program {
         ensures classes { All HasItsClasses result.now }
     {
         self.steps.as_slice()
+    }
+
+    /// The steps laid flat, one for each step.
+    #[inline(always)]
+    pub fn flat_steps(&self) -> &[FlatStep]
+        ensures value { AreFlat result.now self.now.steps }
+        ensures count { length result.now ≡ length self.now.steps }
+        ensures few { length result.now ≤ MAX_INSTRUCTIONS }
+    {
+        self.flat.as_slice()
     }
 
     /// The line that each step stands on in the text, that of its instruction's first token.
