@@ -4,6 +4,8 @@ pub mod RunLemmas
 pub mod OnlyRuns
 mod ValueLemmas
 mod GroupLemmas
+mod FlatLemmas
+mod ItemLemmas
 mod TurnLemmas
 pub mod HeldWrites
 mod ViewLemmas

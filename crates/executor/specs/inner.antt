@@ -7,6 +7,7 @@ pub mod Outcomes
 pub mod Room
 pub mod Held
 pub mod Turns
+pub mod Flat
 pub mod Stops
 pub mod ItemRuns
 pub mod Words

@@ -12,6 +12,7 @@ ghost use Rattle.executor.specs.declared.limits.TheConstants.{BUDGET};
 
 use crate::act::{Outcome, act};
 use crate::fault::{ItemFault, RunFault};
+use crate::flat::go;
 use crate::item::{Item, ItemContext, Stop, StoppedItem};
 use crate::limits::BUDGET;
 use crate::location::{Extent, Location};
@@ -61,7 +62,7 @@ fn line_of(program: &Program, step: usize) -> u32
 }
 
 /// One turn of an item that has not used up its budget.
-#[inline]
+#[inline(never)]
 fn turn(
     alloc: Global,
     context: &ItemContext<'_>,
@@ -98,36 +99,44 @@ pub fn run_item(
         (ready stopped.old.item stopped.old.executed) (contents memory.old)) }
 {
     let own = context_of_item(context, number);
-    let begin = stopped.executed;
-    let mut item = stopped.item;
-    'turns: for executed in begin..BUDGET {
-        let next = item.next;
-        match turn(alloc, &own, program, &mut item, memory) {
-            Outcome::GoesOn => {}
-            Outcome::Arrived => {
-                *stopped = StoppedItem {
-                    item,
-                    executed: executed + 1,
-                    stop: Stop::Barrier,
-                };
-                return Ok(());
+    let flat_steps = program.flat_steps();
+    let mut left = BUDGET - stopped.executed;
+    let mut next = stopped.item.next;
+    'turns: while left > 0 {
+        let Some(flat) = flat_steps.get(next) else {
+            stopped.stop = Stop::End;
+            return Ok(());
+        };
+        left -= 1;
+        match go(&mut stopped.item.registers, next, flat) {
+            Some(after) => next = after,
+            None => {
+                stopped.item.next = next;
+                match turn(alloc, &own, program, &mut stopped.item, memory) {
+                    Outcome::GoesOn => next = stopped.item.next,
+                    Outcome::Arrived => {
+                        stopped.executed = BUDGET - left;
+                        stopped.stop = Stop::Barrier;
+                        return Ok(());
+                    }
+                    Outcome::Ended => {
+                        stopped.stop = Stop::End;
+                        return Ok(());
+                    }
+                    Outcome::Broke(rule, address) => return Err(fault(
+                        program,
+                        number,
+                        next,
+                        rule,
+                        Some(address),
+                    )),
+                    Outcome::OutOfMemory => return Err(RunFault::OutOfMemory),
+                }
             }
-            Outcome::Ended => {
-                stopped.stop = Stop::End;
-                return Ok(());
-            }
-            Outcome::Broke(rule, address) => return Err(fault(
-                program,
-                number,
-                next,
-                rule,
-                Some(address),
-            )),
-            Outcome::OutOfMemory => return Err(RunFault::OutOfMemory),
         }
     }
-    if item.next < program.steps().len() {
-        return Err(fault(program, number, item.next, Rule::A5, None));
+    if next < program.steps().len() {
+        return Err(fault(program, number, next, Rule::A5, None));
     }
     stopped.stop = Stop::End;
     Ok(())

@@ -11,6 +11,7 @@ mod chunk;
 mod conversion;
 mod dispatch;
 mod fault;
+mod flat;
 mod group;
 mod group_access;
 mod held;

@@ -1,99 +1,165 @@
-use Rattle.std.proofs.Common.{◌≡◌, None, Some, ◌<◌, ◌≤◌, ◌∷◌, ◌++◌, length, arith, subst, sym, ap}
-use Rattle.executor.specs.Group.{ready, running, context_of_item}
+use Rattle.std.proofs.Common.{rules, ◌≡◌, None, Some, ℕ, ◌-◌, ◌<◌, ◌≤◌, length, arith, subst, sym, ap}
+use Rattle.std.specs.Prelude.{slice_get}
+use Rattle.executor.specs.Group.{ready, context_of_item}
 use Rattle.executor.specs.Items.{Surroundings}
-use Rattle.executor.specs.inner.Held.{contents, surroundings}
 use Rattle.executor.specs.Meaning.{turn, goes_on, arrives, ends, broke}
-use Rattle.executor.specs.inner.ItemRuns.{ItemFails}
 use Rattle.executor.specs.declared.fault.RunFault.{RunFault}
+use Rattle.executor.specs.declared.registers.Registers.{Registers}
+use Rattle.executor.specs.inner.Held.{contents, surroundings}
+use Rattle.executor.specs.inner.ItemRuns.{ItemFails}
+use Rattle.kernel_check.specs.Flat.{plain}
 use Rattle.queue_error.specs.declared.rule.Rule.TheVariants.{A5}
-use Rattle.executor.proofs.GroupLemmas.{goes_more, arrives_now, ends_now, breaks_now, spent, stops}
+use Rattle.executor.proofs.FlatLemmas.{flat_turn, stays}
+use Rattle.executor.proofs.GroupLemmas.{spent, stops}
+use Rattle.executor.proofs.ItemLemmas.{reached_more, reached_arrives, reached_ends, reached_breaks, turn_alike}
+use Rattle.executor.proofs.Maps.{get_read}
 use Rattle.executor.proofs.item_run.run_item.Goals as goal
+
+pub returns-in_default-clause-ok : goal.returns-in_default-clause-ok
+returns-in_default-clause-ok c =
+    let a = surroundings c.args.context.now in
+    let p = c.args.program.now in
+    let n = c.args.number in
+    let r = c.turns.stopped.item.registers in
+    let next = c.turns.next in
+    let left = c.turns.left in
+    let m = contents c.turns.memory in
+    let first = ready c.args.stopped.now.item c.args.stopped.now.executed in
+    let before = contents c.args.memory.now in
+    let far : length c.flat_steps-flat_steps.result.now ≤ next = search rules in
+    let past : length p.steps ≤ next = omega (arith, far, c.flat_steps-flat_steps.ensures.count) in
+    reached_ends a p n first before (record { registers = r; next = next }) left m c.turns.invariant.1 m (stops (context_of_item a n) p.steps (record { registers = r; next = next }) (65536 - left) m past)
+
+pub turns-preserved-in-Some-go : goal.turns-preserved-in-Some-go
+turns-preserved-in-Some-go c =
+    let a = surroundings c.args.context.now in
+    let p = c.args.program.now in
+    let n = c.args.number in
+    let r = c.turns.stopped.item.registers in
+    let next = c.turns.next in
+    let left = c.turns.left in
+    let m = contents c.turns.memory in
+    let first = ready c.args.stopped.now.item c.args.stopped.now.executed in
+    let before = contents c.args.memory.now in
+    let few : left ≤ 65536 = c.turns.invariant.0 in
+    let some : 0 < left = omega arith in
+    let flats = c.flat_steps-flat_steps.result.now in
+    let found : slice_get flats next ≡ Some c.in-Some.flat.now = get_read flats next c.in-Some.flat.now c.in-Some.ensures.lookup.1 c.in-Some.ensures.lookup.3.0 in (
+      omega (arith, few),
+      reached_more a p n first before (record { registers = r; next = next }) left m c.turns.invariant.1
+          (record { registers = c.go.new.r; next = c.in-Some-go.after }) m few some
+          (flat_turn (context_of_item a n) flats p.steps r c.go.new.r next c.in-Some-go.after m c.in-Some.flat.now c.flat_steps-flat_steps.ensures.value found
+          c.in-Some-go.ensures (65536 - left) (omega (arith, few, some))),
+    )
 
 pub turns-preserved : goal.turns-preserved
 turns-preserved c =
     let a = surroundings c.args.context.now in
     let p = c.args.program.now in
     let n = c.args.number in
-    let i = c.turns.item in
+    let r = c.turns.stopped.item.registers in
+    let next = c.turns.next in
+    let left = c.turns.left in
     let m = contents c.turns.memory in
-    let few : c.turns.executed < 65536 = omega arith in
-    let is : turn (context_of_item a n) p.steps i c.turns.executed m ≡ goes_on c.turn.new.item (contents c.turn.new.memory) =
-    subst (λ (s : Surroundings). turn s p.steps i c.turns.executed m ≡ goes_on c.turn.new.item (contents c.turn.new.memory))
-    c.context_of_item-own.ensures.surroundings (c.in-GoesOn.ensures c.turns.executed few) in
-    λ earlier rest are many.
-    goes_more a p n earlier rest are many (running (earlier ++ ready c.args.stopped.now.item c.args.stopped.now.executed ∷ rest) (contents c.args.memory.now))
-    i c.turns.executed m (c.turns.invariant earlier rest are many) c.turn.new.item (contents c.turn.new.memory) is
+    let first = ready c.args.stopped.now.item c.args.stopped.now.executed in
+    let before = contents c.args.memory.now in
+    let few : left ≤ 65536 = c.turns.invariant.0 in
+    let some : 0 < left = omega arith in
+    let spent_less : 65536 - left < 65536 = omega (arith, few, some) in
+    let is : turn (context_of_item a n) p.steps (record { registers = r; next = next }) (65536 - left) m ≡ goes_on c.turn.new.item (contents c.turn.new.memory) =
+    turn_alike (surroundings c.context_of_item-own.result) (context_of_item a n) p.steps c.go.new.r r next (65536 - left) m (goes_on c.turn.new.item (contents c.turn.new.memory))
+    c.context_of_item-own.ensures.surroundings (stays (plain c.in-Some.flat.now) r c.go.new.r next c.in-None.ensures)
+    (c.in-GoesOn.ensures (65536 - left) spent_less) in
+    (omega (arith, few), reached_more a p n first before (record { registers = r; next = next }) left m c.turns.invariant.1 c.turn.new.item (contents c.turn.new.memory) few some is)
 
 pub returns-in-Arrived-clause-ok : goal.returns-in-Arrived-clause-ok
 returns-in-Arrived-clause-ok c =
     let a = surroundings c.args.context.now in
     let p = c.args.program.now in
     let n = c.args.number in
-    let i = c.turns.item in
+    let r = c.turns.stopped.item.registers in
+    let next = c.turns.next in
+    let left = c.turns.left in
     let m = contents c.turns.memory in
-    let few : c.turns.executed < 65536 = omega arith in
-    let is : turn (context_of_item a n) p.steps i c.turns.executed m ≡ arrives c.turn.new.item (contents c.turn.new.memory) =
-    subst (λ (s : Surroundings). turn s p.steps i c.turns.executed m ≡ arrives c.turn.new.item (contents c.turn.new.memory))
-    c.context_of_item-own.ensures.surroundings (c.in-Arrived.ensures c.turns.executed few) in
-    λ earlier rest are many.
-    arrives_now a p n earlier rest are many (running (earlier ++ ready c.args.stopped.now.item c.args.stopped.now.executed ∷ rest) (contents c.args.memory.now))
-    i c.turns.executed m (c.turns.invariant earlier rest are many) c.turn.new.item (contents c.turn.new.memory) is
+    let first = ready c.args.stopped.now.item c.args.stopped.now.executed in
+    let before = contents c.args.memory.now in
+    let few : left ≤ 65536 = c.turns.invariant.0 in
+    let some : 0 < left = omega arith in
+    let spent_less : 65536 - left < 65536 = omega (arith, few, some) in
+    let is : turn (context_of_item a n) p.steps (record { registers = r; next = next }) (65536 - left) m ≡ arrives c.turn.new.item (contents c.turn.new.memory) =
+    turn_alike (surroundings c.context_of_item-own.result) (context_of_item a n) p.steps c.go.new.r r next (65536 - left) m (arrives c.turn.new.item (contents c.turn.new.memory))
+    c.context_of_item-own.ensures.surroundings (stays (plain c.in-Some.flat.now) r c.go.new.r next c.in-None.ensures)
+    (c.in-Arrived.ensures (65536 - left) spent_less) in
+    reached_arrives a p n first before (record { registers = r; next = next }) left m c.turns.invariant.1 c.turn.new.item (contents c.turn.new.memory) few some is
 
 pub returns-in-Ended-clause-ok : goal.returns-in-Ended-clause-ok
 returns-in-Ended-clause-ok c =
     let a = surroundings c.args.context.now in
     let p = c.args.program.now in
     let n = c.args.number in
-    let i = c.turns.item in
+    let r = c.turns.stopped.item.registers in
+    let next = c.turns.next in
+    let left = c.turns.left in
     let m = contents c.turns.memory in
-    let few : c.turns.executed < 65536 = omega arith in
-    let is : turn (context_of_item a n) p.steps i c.turns.executed m ≡ ends (contents c.turn.new.memory) =
-    subst (λ (s : Surroundings). turn s p.steps i c.turns.executed m ≡ ends (contents c.turn.new.memory))
-    c.context_of_item-own.ensures.surroundings (c.in-Ended.ensures c.turns.executed few) in
-    λ earlier rest are many.
-    ends_now a p n earlier rest are many (running (earlier ++ ready c.args.stopped.now.item c.args.stopped.now.executed ∷ rest) (contents c.args.memory.now))
-    i c.turns.executed m (c.turns.invariant earlier rest are many) (contents c.turn.new.memory) is
+    let first = ready c.args.stopped.now.item c.args.stopped.now.executed in
+    let before = contents c.args.memory.now in
+    let few : left ≤ 65536 = c.turns.invariant.0 in
+    let some : 0 < left = omega arith in
+    let spent_less : 65536 - left < 65536 = omega (arith, few, some) in
+    let is : turn (context_of_item a n) p.steps (record { registers = r; next = next }) (65536 - left) m ≡ ends (contents c.turn.new.memory) =
+    turn_alike (surroundings c.context_of_item-own.result) (context_of_item a n) p.steps c.go.new.r r next (65536 - left) m (ends (contents c.turn.new.memory))
+    c.context_of_item-own.ensures.surroundings (stays (plain c.in-Some.flat.now) r c.go.new.r next c.in-None.ensures)
+    (c.in-Ended.ensures (65536 - left) spent_less) in
+    reached_ends a p n first before (record { registers = r; next = next }) left m c.turns.invariant.1 (contents c.turn.new.memory) is
 
 pub returns-in-Broke-clause-err : goal.returns-in-Broke-clause-err
 returns-in-Broke-clause-err c =
     let a = surroundings c.args.context.now in
     let p = c.args.program.now in
     let n = c.args.number in
-    let i = c.turns.item in
+    let r = c.turns.stopped.item.registers in
+    let next = c.turns.next in
+    let left = c.turns.left in
     let m = contents c.turns.memory in
-    let from = ready c.args.stopped.now.item c.args.stopped.now.executed in
-    let few : c.turns.executed < 65536 = omega arith in
-    let is : turn (context_of_item a n) p.steps i c.turns.executed m ≡ broke c.in-Broke.rule (Some c.in-Broke.address) =
-    subst (λ (s : Surroundings). turn s p.steps i c.turns.executed m ≡ broke c.in-Broke.rule (Some c.in-Broke.address))
-    c.context_of_item-own.ensures.surroundings (c.in-Broke.ensures c.turns.executed few) in
-    subst (λ (f : RunFault). ItemFails a p n from (contents c.args.memory.now) f) (sym c.fault.ensures)
-    (λ earlier rest are many.
-    breaks_now a p n earlier rest are many (running (earlier ++ from ∷ rest) (contents c.args.memory.now)) i c.turns.executed m
-    (c.turns.invariant earlier rest are many) c.in-Broke.rule (Some c.in-Broke.address) is)
+    let first = ready c.args.stopped.now.item c.args.stopped.now.executed in
+    let before = contents c.args.memory.now in
+    let few : left ≤ 65536 = c.turns.invariant.0 in
+    let some : 0 < left = omega arith in
+    let spent_less : 65536 - left < 65536 = omega (arith, few, some) in
+    let is : turn (context_of_item a n) p.steps (record { registers = r; next = next }) (65536 - left) m ≡ broke c.in-Broke.rule (Some c.in-Broke.address) =
+    turn_alike (surroundings c.context_of_item-own.result) (context_of_item a n) p.steps c.go.new.r r next (65536 - left) m (broke c.in-Broke.rule (Some c.in-Broke.address))
+    c.context_of_item-own.ensures.surroundings (stays (plain c.in-Some.flat.now) r c.go.new.r next c.in-None.ensures)
+    (c.in-Broke.ensures (65536 - left) spent_less) in
+    subst (λ (f : RunFault). ItemFails a p n first before f) (sym c.fault.ensures)
+    (reached_breaks a p n first before (record { registers = r; next = next }) left m c.turns.invariant.1 c.in-Broke.rule (Some c.in-Broke.address) is)
 
-pub returns-then-item-steps-clause-err : goal.returns-then-item-steps-clause-err
-returns-then-item-steps-clause-err c =
+pub returns-then-next-steps-clause-err : goal.returns-then-next-steps-clause-err
+returns-then-next-steps-clause-err c =
     let a = surroundings c.args.context.now in
     let p = c.args.program.now in
     let n = c.args.number in
-    let i = c.turns.item in
+    let r = c.turns.stopped.item.registers in
+    let next = c.turns.next in
+    let left = c.turns.left in
     let m = contents c.turns.memory in
-    let from = ready c.args.stopped.now.item c.args.stopped.now.executed in
-    let all : c.turns.executed ≡ 65536 = omega arith in
-    let there : i.next < length p.steps = omega (arith, ap length c.steps.ensures.value, c.if-item-steps.true) in
-    subst (λ (f : RunFault). ItemFails a p n from (contents c.args.memory.now) f) (sym c.fault-then-item-steps.ensures)
-    (λ earlier rest are many.
-    breaks_now a p n earlier rest are many (running (earlier ++ from ∷ rest) (contents c.args.memory.now)) i c.turns.executed m
-    (c.turns.invariant earlier rest are many) A5 None (spent (context_of_item a n) p.steps i c.turns.executed m there all))
+    let first = ready c.args.stopped.now.item c.args.stopped.now.executed in
+    let before = contents c.args.memory.now in
+    let all : 65536 - left ≡ 65536 = omega arith in
+    let there : next < length p.steps = omega (arith, ap length c.steps.ensures.value, c.if-next-steps.true) in
+    subst (λ (f : RunFault). ItemFails a p n first before f) (sym c.fault-then-next-steps.ensures)
+    (reached_breaks a p n first before (record { registers = r; next = next }) left m c.turns.invariant.1 A5 None
+    (spent (context_of_item a n) p.steps (record { registers = r; next = next }) (65536 - left) m there all))
 
 pub returns-clause-ok : goal.returns-clause-ok
 returns-clause-ok c =
     let a = surroundings c.args.context.now in
     let p = c.args.program.now in
     let n = c.args.number in
-    let i = c.turns.item in
+    let r = c.turns.stopped.item.registers in
+    let next = c.turns.next in
+    let left = c.turns.left in
     let m = contents c.turns.memory in
-    let past : length p.steps ≤ i.next = omega (arith, ap length c.steps.ensures.value, c.if-item-steps.false) in
-    λ earlier rest are many.
-    ends_now a p n earlier rest are many (running (earlier ++ ready c.args.stopped.now.item c.args.stopped.now.executed ∷ rest) (contents c.args.memory.now))
-    i c.turns.executed m (c.turns.invariant earlier rest are many) m (stops (context_of_item a n) p.steps i c.turns.executed m past)
+    let first = ready c.args.stopped.now.item c.args.stopped.now.executed in
+    let before = contents c.args.memory.now in
+    let past : length p.steps ≤ next = omega (arith, ap length c.steps.ensures.value, c.if-next-steps.false) in
+    reached_ends a p n first before (record { registers = r; next = next }) left m c.turns.invariant.1 m (stops (context_of_item a n) p.steps (record { registers = r; next = next }) (65536 - left) m past)

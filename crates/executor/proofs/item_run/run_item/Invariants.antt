@@ -1,10 +1,12 @@
-use Rattle.std.proofs.Common.{◌≡◌, List, ◌∷◌, ◌++◌, length}
-use Rattle.executor.specs.Group.{Standing, ready, running, Leads}
+use Rattle.std.proofs.Common.{◌≤◌}
+use Rattle.executor.specs.Group.{ready}
 use Rattle.executor.specs.inner.Held.{contents, surroundings}
-use Rattle.executor.specs.inner.Stops.{AreStopped}
+use Rattle.executor.proofs.ItemLemmas.{Reached}
 use Rattle.executor.proofs.item_run.run_item.Given as goal
 
 abbrev pub invariant-turns : goal.invariant-turns
-invariant-turns l = (earlier rest : List Standing) → AreStopped earlier → length earlier ≡ l.number
-    → Leads (surroundings l.context) l.program (running (earlier ++ ready l.fn.stopped.item l.fn.stopped.executed ∷ rest) (contents l.fn.memory))
-    (running (earlier ++ ready l.item l.executed ∷ rest) (contents l.memory))
+invariant-turns l = (l.left ≤ 65536) × Reached (surroundings l.context) l.program l.number (ready l.fn.stopped.item l.fn.stopped.executed) (contents l.fn.memory)
+    (record { registers = l.stopped.item.registers; next = l.next }) l.left (contents l.memory)
+
+abbrev pub decreases-turns : goal.decreases-turns
+decreases-turns l = l.left

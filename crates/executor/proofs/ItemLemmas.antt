@@ -1,0 +1,60 @@
+-- An item that runs until it stops, by how many instructions it has left.
+use Rattle.std.proofs.Common.{◌≡◌, Option, Some, None, ℕ, ◌+◌, ◌-◌, ◌<◌, ◌≤◌, List, ◌∷◌, ◌++◌, length, slice_index, subst, arith}
+use Rattle.executor.specs.Group.{Standing, ready, waiting, ended, running, context_of_item, Leads}
+use Rattle.executor.specs.Items.{Contents, Surroundings}
+use Rattle.executor.specs.Meaning.{Act, goes_on, arrives, ends, broke, turn}
+use Rattle.executor.specs.declared.fault.RunFault.TheVariants as fault
+use Rattle.executor.specs.declared.item.Item.{Item}
+use Rattle.executor.specs.declared.registers.Registers.{Registers}
+use Rattle.executor.specs.inner.ItemRuns.{ItemRuns, ItemFails}
+use Rattle.executor.specs.inner.Stops.{AreStopped}
+use Rattle.kernel_check.specs.Programs.{Program}
+use Rattle.kernel_check.specs.declared.step.Step.{Step}
+use Rattle.queue_error.specs.declared.error.SegmentAddress.{SegmentAddress}
+use Rattle.queue_error.specs.declared.rule.Rule.{Rule}
+use Rattle.executor.proofs.GroupLemmas.{goes_more, arrives_now, ends_now, breaks_now, leads_none}
+
+-- an item of a group, which began as one and has so many instructions left
+abbrev pub Reached : Surroundings → Program → ℕ → Standing → Contents → Item → ℕ → Contents → Type 0
+Reached a p n begun before i left m = (earlier rest : List Standing) → AreStopped earlier → length earlier ≡ n
+    → Leads a p (running (earlier ++ begun ∷ rest) before) (running (earlier ++ ready i (65536 - left) ∷ rest) m)
+
+module _ (a : Surroundings) (p : Program) (n : ℕ) where
+  pub reached_first : (i : Item) (executed : ℕ) (m : Contents) → executed ≤ 65536 → Reached a p n (ready i executed) m i (65536 - executed) m
+  reached_first i executed m few = λ earlier rest are many.
+      let same : executed ≡ 65536 - (65536 - executed) = omega (arith, few) in
+      subst (λ k. Leads a p (running (earlier ++ ready i executed ∷ rest) m) (running (earlier ++ ready i k ∷ rest) m)) same
+      (leads_none a p (running (earlier ++ ready i executed ∷ rest) m))
+
+  module _ (begun : Standing) (before : Contents) (i : Item) (left : ℕ) (m : Contents) (so_far : Reached a p n begun before i left m) where
+    pub reached_more : (now : Item) (after : Contents) → left ≤ 65536 → 0 < left → turn (context_of_item a n) p.steps i (65536 - left) m ≡ goes_on now after
+        → Reached a p n begun before now (left - 1) after
+    reached_more now after few some is = λ earlier rest are many.
+        let from = running (earlier ++ begun ∷ rest) before in
+        let one : 65536 - left + 1 ≡ 65536 - (left - 1) = omega (arith, few, some) in
+        subst (λ k. Leads a p from (running (earlier ++ ready now k ∷ rest) after)) one
+        (goes_more a p n earlier rest are many from i (65536 - left) m (so_far earlier rest are many) now after is)
+
+    pub reached_arrives : (now : Item) (after : Contents) → left ≤ 65536 → 0 < left → turn (context_of_item a n) p.steps i (65536 - left) m ≡ arrives now after
+        → ItemRuns a p n begun before (waiting now (65536 - (left - 1))) after
+    reached_arrives now after few some is = λ earlier rest are many.
+        let from = running (earlier ++ begun ∷ rest) before in
+        let one : 65536 - left + 1 ≡ 65536 - (left - 1) = omega (arith, few, some) in
+        subst (λ k. Leads a p from (running (earlier ++ waiting now k ∷ rest) after)) one
+        (arrives_now a p n earlier rest are many from i (65536 - left) m (so_far earlier rest are many) now after is)
+
+    pub reached_ends : (after : Contents) → turn (context_of_item a n) p.steps i (65536 - left) m ≡ ends after → ItemRuns a p n begun before ended after
+    reached_ends after is = λ earlier rest are many.
+        ends_now a p n earlier rest are many (running (earlier ++ begun ∷ rest) before) i (65536 - left) m (so_far earlier rest are many) after is
+
+    pub reached_breaks : (rule : Rule) (address : Option SegmentAddress) → turn (context_of_item a n) p.steps i (65536 - left) m ≡ broke rule address
+        → ItemFails a p n begun before (fault.Fault (record { item = n; line = slice_index p.lines i.next; rule = rule; address = address }))
+    reached_breaks rule address is = λ earlier rest are many.
+        breaks_now a p n earlier rest are many (running (earlier ++ begun ∷ rest) before) i (65536 - left) m (so_far earlier rest are many) rule address is
+
+-- a turn of the same item in the same surroundings
+pub turn_alike : (a b : Surroundings) (steps : List Step) (before r : Registers) (next executed : ℕ) (m : Contents) (x : Act) → a ≡ b → before ≡ r
+    → turn a steps (record { registers = before; next = next }) executed m ≡ x → turn b steps (record { registers = r; next = next }) executed m ≡ x
+turn_alike a b steps before r next executed m x around same is =
+    subst (λ (q : Registers). turn b steps (record { registers = q; next = next }) executed m ≡ x) same
+    (subst (λ (s : Surroundings). turn s steps (record { registers = before; next = next }) executed m ≡ x) around is)
