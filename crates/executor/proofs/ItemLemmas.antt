@@ -1,5 +1,5 @@
 -- An item that runs until it stops, by how many instructions it has left.
-use Rattle.std.proofs.Common.{◌≡◌, Option, Some, None, ℕ, ◌+◌, ◌-◌, ◌<◌, ◌≤◌, List, ◌∷◌, ◌++◌, length, slice_index, subst, arith}
+use Rattle.std.proofs.Common.{◌≡◌, Option, ℕ, ◌+◌, ◌-◌, ◌<◌, ◌≤◌, List, ◌∷◌, ◌++◌, length, slice_index, subst, arith}
 use Rattle.executor.specs.Group.{Standing, ready, waiting, ended, running, context_of_item, Leads}
 use Rattle.executor.specs.Items.{Contents, Surroundings}
 use Rattle.executor.specs.Meaning.{Act, goes_on, arrives, ends, broke, turn}

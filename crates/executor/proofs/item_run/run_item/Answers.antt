@@ -1,10 +1,8 @@
-use Rattle.std.proofs.Common.{rules, ◌≡◌, None, Some, ℕ, ◌-◌, ◌<◌, ◌≤◌, length, arith, subst, sym, ap}
+use Rattle.std.proofs.Common.{rules, ◌≡◌, None, Some, ◌-◌, ◌<◌, ◌≤◌, length, arith, subst, sym, ap}
 use Rattle.std.specs.Prelude.{slice_get}
 use Rattle.executor.specs.Group.{ready, context_of_item}
-use Rattle.executor.specs.Items.{Surroundings}
 use Rattle.executor.specs.Meaning.{turn, goes_on, arrives, ends, broke}
 use Rattle.executor.specs.declared.fault.RunFault.{RunFault}
-use Rattle.executor.specs.declared.registers.Registers.{Registers}
 use Rattle.executor.specs.inner.Held.{contents, surroundings}
 use Rattle.executor.specs.inner.ItemRuns.{ItemFails}
 use Rattle.kernel_check.specs.Flat.{plain}
