@@ -10,7 +10,7 @@ use Rattle.aql_packet.specs.declared.packet.Barrier.{Barrier}
 use Rattle.aql_packet.specs.declared.packet.Packet.{Packet}
 use Rattle.aql_packet.specs.declared.packet.Packet.TheVariants.{Kernel, Agent, BarrierAnd, BarrierOr}
 use Rattle.aql_packet.specs.Numbers.{number_at, bits}
-use Rattle.aql_packet.specs.Layout.{Are64Bytes, IsHeader, LaysKernel, LaysAgent, LaysBarrier, Lays, PacketOf}
+use Rattle.aql_packet.specs.Layout.{Are64Bytes, IsHeader, LaysKernel, LaysAgent, LaysBarrier, PacketOf}
 use Rattle.aql_packet.specs.Reading.{decoded}
 use Rattle.aql_packet.proofs.ReadingLemmas.{decoded_is, laid_is_read}
 

@@ -11,6 +11,7 @@ use Rattle.aql_packet.specs.declared.packet.AgentDispatch.{AgentDispatch}
 use Rattle.aql_packet.specs.declared.packet.Barrier.{Barrier}
 use Rattle.aql_packet.specs.declared.packet.Packet.{Packet}
 use Rattle.aql_packet.specs.declared.packet.Packet.TheVariants.{Kernel, Agent, BarrierAnd, BarrierOr}
+use Rattle.aql_packet.specs.Kinds.{kernel_type, barrier_and_type, agent_type, barrier_or_type}
 use Rattle.aql_packet.specs.Numbers.{number_at, bits, bit_of}
 
 -- 64 numbers below 256.
@@ -52,7 +53,7 @@ pub record IsHeader (number type : ℕ) (header : Header) : Type 0 where
 
 -- A kernel dispatch packet.
 pub record LaysKernel (bytes : List ℕ) (packet : KernelDispatch) : Type 0 where
-  pub header : IsHeader (number_at bytes 0 2) 2 packet.header
+  pub header : IsHeader (number_at bytes 0 2) kernel_type packet.header
   pub setup_dimensions : bits (number_at bytes 2 2) 1 0 ≡ packet.dimensions
   pub setup_reserved : bits (number_at bytes 2 2) 15 2 ≡ 0
   pub workgroup_size_x : number_at bytes 4 2 ≡ packet.workgroup_size_x
@@ -71,7 +72,7 @@ pub record LaysKernel (bytes : List ℕ) (packet : KernelDispatch) : Type 0 wher
 
 -- An agent dispatch packet.
 pub record LaysAgent (bytes : List ℕ) (packet : AgentDispatch) : Type 0 where
-  pub header : IsHeader (number_at bytes 0 2) 4 packet.header
+  pub header : IsHeader (number_at bytes 0 2) agent_type packet.header
   pub function : number_at bytes 2 2 ≡ packet.function
   pub reserved_4 : number_at bytes 4 4 ≡ 0
   pub return_address : number_at bytes 8 8 ≡ packet.return_address.0
@@ -91,8 +92,8 @@ pub record LaysBarrier (bytes : List ℕ) (type : ℕ) (packet : Barrier) : Type
 abbrev pub Lays : List ℕ → Packet → Type 0
 Lays bytes (Kernel packet) = LaysKernel bytes packet
 Lays bytes (Agent packet) = LaysAgent bytes packet
-Lays bytes (BarrierAnd packet) = LaysBarrier bytes 3 packet
-Lays bytes (BarrierOr packet) = LaysBarrier bytes 5 packet
+Lays bytes (BarrierAnd packet) = LaysBarrier bytes barrier_and_type packet
+Lays bytes (BarrierOr packet) = LaysBarrier bytes barrier_or_type packet
 
 -- The bytes are 64 and lay the packet out.
 pub record PacketOf (bytes : List ℕ) (packet : Packet) : Type 0 where

@@ -1,4 +1,5 @@
 pub mod Numbers
+pub mod Kinds
 pub mod Layout
 pub mod Reading
 pub mod Ring

@@ -10,6 +10,7 @@ use Rattle.aql_packet.specs.declared.packet.Packet.{Packet}
 use Rattle.aql_packet.specs.declared.packet.Packet.TheVariants.{Kernel, Agent, BarrierAnd, BarrierOr}
 use Rattle.aql_packet.specs.declared.packet.CodecRule.{CodecRule}
 use Rattle.aql_packet.specs.declared.packet.CodecRule.TheVariants.{L1, L2, L3}
+use Rattle.aql_packet.specs.Kinds.{kernel_type, barrier_and_type, agent_type, barrier_or_type}
 use Rattle.aql_packet.specs.Numbers.{number_at, bits}
 use Rattle.aql_packet.specs.Layout.{are_64_bytes, arguments_at, signal_at, signals_at}
 
@@ -31,7 +32,7 @@ release_bits bytes = bits (number_at bytes 0 2) 12 11
 
 -- A packet of this type is run: kernel dispatch, barrier-AND, agent dispatch or barrier-OR.
 abbrev pub is_known : ℕ → Bool
-is_known type = type == 2 || type == 3 || type == 4 || type == 5
+is_known type = type == kernel_type || type == barrier_and_type || type == agent_type || type == barrier_or_type
 
 -- The header's reserved bits are zero, and no scope has the reserved number.
 abbrev pub is_plain_header : List ℕ → Bool
@@ -54,8 +55,8 @@ barrier_reserved_is_zero bytes = number_at bytes 2 6 == 0 && number_at bytes 48 
 -- The parts that a type reserves are zero.
 abbrev pub reserved_is_zero : ℕ → List ℕ → Bool
 reserved_is_zero type bytes =
-    if type == 2 then kernel_reserved_is_zero bytes
-    else if type == 4 then agent_reserved_is_zero bytes
+    if type == kernel_type then kernel_reserved_is_zero bytes
+    else if type == agent_type then agent_reserved_is_zero bytes
     else barrier_reserved_is_zero bytes
 
 -- What each rule asks of the bytes; what isn't 64 bytes has no known type (own).
@@ -123,9 +124,9 @@ barrier_at bytes = record {
 -- The packet of a known type.
 unfoldable pub packet_at : ℕ → List ℕ → Packet
 packet_at type bytes =
-    if type == 2 then Kernel (kernel_at bytes)
-    else if type == 4 then Agent (agent_at bytes)
-    else if type == 3 then BarrierAnd (barrier_at bytes)
+    if type == kernel_type then Kernel (kernel_at bytes)
+    else if type == agent_type then Agent (agent_at bytes)
+    else if type == barrier_and_type then BarrierAnd (barrier_at bytes)
     else BarrierOr (barrier_at bytes)
 
 -- The packet that the bytes lay out, where no rule fails.

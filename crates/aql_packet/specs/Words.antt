@@ -2,7 +2,7 @@
 use Rattle.std.specs.Prelude.{◌≡◌, ℕ, ◌<◌, ◌^◌, ◌==◌, Bool, List, [], ◌∷◌, length, map, get_or}
 use Rattle.std.specs.List.{flat_map}
 use Rattle.byteorder.specs.Endian.{little_bytes}
-use Rattle.aql_packet.specs.declared.ring.TheConstants.{INVALID}
+use Rattle.aql_packet.specs.Kinds.{invalid_type}
 use Rattle.aql_packet.specs.Numbers.{number_at, bits}
 
 -- The words of 64 bytes: each is the number in eight of them, the lowest byte first.
@@ -21,4 +21,4 @@ pub record AreEightWords (words : List ℕ) : Type 0 where
 
 -- Whether a packet's first word, which has its header, has the type INVALID (PSA, Architected Queuing Language).
 abbrev pub is_invalid : ℕ → Bool
-is_invalid word = bits word 7 0 == INVALID
+is_invalid word = bits word 7 0 == invalid_type

@@ -1,9 +1,14 @@
 //! Laws of the packet layout, proved as contracts of calls that do nothing.
 
 ghost use Rattle.aql_packet.specs.Layout.{Are64Bytes, PacketOf};
+ghost use Rattle.aql_packet.specs.Memory.{most_region_bytes, most_regions, region_span};
 ghost use Rattle.aql_packet.specs.Numbers.{bits, number_at};
 ghost use Rattle.aql_packet.specs.Reading.{barrier_bit, decoded, packet_type};
+ghost use Rattle.aql_packet.specs.Kinds.{invalid_type};
+ghost use Rattle.aql_packet.specs.Ring.{ring_sizes};
 ghost use Rattle.aql_packet.specs.Words.{AreEightWords, bytes_of, words_of};
+ghost use Rattle.aql_packet.specs.declared.memory.TheConstants.{MOST_REGION_BYTES, MOST_REGIONS, REGION_SPAN};
+ghost use Rattle.aql_packet.specs.declared.ring.TheConstants.{INVALID, RING_SIZES};
 ghost use Rattle.std.specs.Prelude.{List, Some, ℕ, ◌==◌, ◌≡◌};
 
 use crate::packet::Packet;
@@ -35,4 +40,13 @@ pub fn header_in_first_word()
 pub fn words_and_bytes_are_inverse()
     ensures words { (words : List ℕ) → AreEightWords words → words_of (bytes_of words) ≡ words }
     ensures bytes { (bytes : List ℕ) → Are64Bytes bytes → bytes_of (words_of bytes) ≡ bytes }
+{}
+
+/// The code's numbers of regions and of rings are those of the rules.
+pub fn numbers_are_those_of_the_rules()
+    ensures span { REGION_SPAN ≡ region_span }
+    ensures regions { MOST_REGIONS ≡ most_regions }
+    ensures region_bytes { MOST_REGION_BYTES ≡ most_region_bytes }
+    ensures sizes { RING_SIZES ≡ ring_sizes }
+    ensures invalid { INVALID ≡ invalid_type }
 {}

@@ -17,7 +17,8 @@ pub use ids::{
     Address, AgentHandle, ClientId, KernelObject, PacketId, QueueId, RegionHandle, SignalHandle,
 };
 pub use laws::{
-    header_in_first_word, one_spelling, reading_is_layout, words_and_bytes_are_inverse,
+    header_in_first_word, numbers_are_those_of_the_rules, one_spelling, reading_is_layout,
+    words_and_bytes_are_inverse,
 };
 pub use memory::{MOST_REGION_BYTES, MOST_REGIONS, REGION_SPAN};
 pub use packet::{

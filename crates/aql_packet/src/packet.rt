@@ -110,12 +110,15 @@ impl Packet {
 }
 
 /// The rules of a packet's layout, in the order in which they are tried.
-#[derive(Clone, Copy, Debug, PartialEq, Eq)]
+#[derive(Clone, Copy, Debug, PartialEq, Eq, thiserror::Error)]
 pub enum CodecRule {
     /// The type is 2, 3, 4 or 5.
+    #[error("the type is none of a packet that is run")]
     L1,
     /// Header bits 15:13 are zero and no scope is 3.
+    #[error("a reserved bit of the header is set, or a scope is 3")]
     L2,
     /// The fields that the type reserves are zero.
+    #[error("a field that the type reserves is not zero")]
     L3,
 }

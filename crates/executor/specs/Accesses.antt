@@ -11,11 +11,11 @@ use Rattle.policy.specs.declared.rights.Right.{Right}
 use Rattle.policy.specs.declared.rights.Right.TheVariants.{Read, Write}
 use Rattle.queue_error.specs.declared.rule.Rule.{Rule}
 use Rattle.queue_error.specs.declared.rule.Rule.TheVariants.{A1, A2, A3, A4, A7}
-use Rattle.aql_packet.specs.declared.memory.TheConstants.{REGION_SPAN}
+use Rattle.aql_packet.specs.Memory.{region_span}
 
 -- whether an address lies in a region: region h covers addresses from h * 2^32, as many as its length (own)
 abbrev pub covers_address : LentRegion → ℕ → Bool
-covers_address region address = region.number == address / REGION_SPAN && nat_lt (address % REGION_SPAN) (length region.bytes)
+covers_address region address = region.number == address / region_span && nat_lt (address % region_span) (length region.bytes)
 
 -- the held region in which an address lies
 abbrev pub region_of : List LentRegion → ℕ → Option LentRegion
@@ -26,13 +26,13 @@ abbrev pub broken_in : Option LentRegion → Right → ℕ → ℕ → Option Ru
 broken_in None right address n = Some A1
 broken_in (Some region) right address n =
     if not (has region.rights right) then Some A2
-    else if not (nat_le (address % REGION_SPAN + n) (length region.bytes)) then Some A3
+    else if not (nat_le (address % region_span + n) (length region.bytes)) then Some A3
     else None
 
 -- the bytes that are lent for an access
 abbrev pub lent_in : Option LentRegion → ℕ → ℕ → List ℕ
 lent_in None address n = []
-lent_in (Some region) address n = take n (drop (address % REGION_SPAN) region.bytes)
+lent_in (Some region) address n = take n (drop (address % region_span) region.bytes)
 
 abbrev pub broken : List LentRegion → Right → ℕ → ℕ → Option Rule
 broken view right address n = broken_in (region_of view address) right address n

@@ -12,7 +12,7 @@ use Rattle.executor.specs.declared.written_range.WrittenRange.{WrittenRange}
 use Rattle.policy.specs.Rights.{has}
 use Rattle.policy.specs.declared.rights.Right.{Right}
 use Rattle.policy.specs.declared.rights.Right.TheVariants.{Read}
-use Rattle.aql_packet.specs.declared.memory.TheConstants.{REGION_SPAN}
+use Rattle.aql_packet.specs.Memory.{region_span}
 
 -- an address lies in a held region, on which a right is held (own)
 pub record IsHeldAt (view : List LentRegion) (right : Right) (address : ℕ) : Type 0 where
@@ -22,7 +22,7 @@ pub record IsHeldAt (view : List LentRegion) (right : Right) (address : ℕ) : T
 
 -- regions are as short as there is room between their first addresses (own)
 abbrev pub AreShort : List LentRegion → Type 0
-AreShort view = All (λ region. length region.bytes ≤ REGION_SPAN) view
+AreShort view = All (λ region. length region.bytes ≤ region_span) view
 
 -- a run has bytes, and each of its addresses lies in a held region on which a right is held
 pub record IsHeldRun (view : List LentRegion) (right : Right) (run : WrittenRange) : Type 0 where

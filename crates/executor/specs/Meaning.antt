@@ -22,7 +22,7 @@ use Rattle.queue_error.specs.declared.error.SegmentAddress.{SegmentAddress}
 use Rattle.queue_error.specs.declared.error.SegmentAddress.TheVariants as segment
 use Rattle.queue_error.specs.declared.rule.Rule.{Rule}
 use Rattle.queue_error.specs.declared.rule.Rule.TheVariants.{A5}
-use Rattle.executor.specs.declared.limits.TheConstants.{BUDGET}
+use Rattle.executor.specs.Limits.{budget}
 
 -- what comes of a turn: the item goes on, it arrives at a barrier, it has ended, or it broke a rule, by an access to an
 -- address or by none
@@ -104,7 +104,7 @@ act a i m (step.WorkItemQuery q) =
 -- executed 65,536 instructions and has not ended breaks A5, by no access (own)
 abbrev pub turn_at : Surroundings → Item → ℕ → Contents → Option Step → Act
 turn_at a i executed m None = ends m
-turn_at a i executed m (Some s) = if executed == BUDGET then broke A5 None else act a i m s
+turn_at a i executed m (Some s) = if executed == budget then broke A5 None else act a i m s
 
 abbrev pub turn : Surroundings → List Step → Item → ℕ → Contents → Act
 turn a steps i executed m = turn_at a i executed m (slice_get steps i.next)

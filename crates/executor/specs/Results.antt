@@ -9,7 +9,7 @@ use Rattle.executor.specs.declared.fault.RunFault.{RunFault}
 use Rattle.executor.specs.declared.fault.RunFault.TheVariants as fault
 use Rattle.executor.specs.declared.written_range.WrittenRange.{WrittenRange}
 use Rattle.kernel_check.specs.Programs.{Program}
-use Rattle.executor.specs.declared.limits.TheConstants.{BUDGET, MOST_GROUP_ITEMS}
+use Rattle.executor.specs.Limits.{budget, most_group_items}
 
 -- where a group stands after so many turns
 abbrev pub after_turns : Surroundings → Program → ℕ → Status → Status
@@ -19,7 +19,7 @@ after_turns a p (suc n) from = after_turns a p n (follow a p from)
 -- as many turns as a group can take: each of its 1,024 items executes 65,536 instructions at the most and takes one turn to
 -- end, items meet at a barrier at most once for each instruction, and one turn finds that all have ended
 unfoldable pub most_turns : ℕ
-most_turns = 2 * (MOST_GROUP_ITEMS * (BUDGET + 1)) + 1
+most_turns = 2 * (most_group_items * (budget + 1)) + 1
 
 -- a status from which none follows: all items have ended, or one broke a rule
 abbrev pub IsOver : Status → Type 0

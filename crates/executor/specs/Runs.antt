@@ -12,7 +12,7 @@ use Rattle.executor.specs.declared.location.Location.{Location}
 use Rattle.executor.specs.declared.written_range.WrittenRange.{WrittenRange}
 use Rattle.executor.specs.declared.held.HeldRegion.{HeldRegion}
 use Rattle.kernel_check.specs.Programs.{Program, group_bytes_of}
-use Rattle.executor.specs.declared.limits.TheConstants.{MOST_GROUP_ITEMS, MOST_SEGMENT_BYTES}
+use Rattle.executor.specs.Limits.{most_group_items, most_segment_bytes}
 
 -- sizes that a dispatch may have (own limits)
 pub record HasSizes (d : Dispatch) : Type 0 where
@@ -22,7 +22,7 @@ pub record HasSizes (d : Dispatch) : Type 0 where
   pub fits_x : d.group_size.x ≤ d.grid_size.x
   pub fits_y : d.group_size.y ≤ d.grid_size.y
   pub fits_z : d.group_size.z ≤ d.grid_size.z
-  pub few_items : count_of d.group_size ≤ MOST_GROUP_ITEMS
+  pub few_items : count_of d.group_size ≤ most_group_items
   pub few_groups : count_of (groups_of d.grid_size d.group_size) < 2 ^ 32
 
 -- a dispatch of a kernel that can be run, and one of its work-groups
@@ -31,7 +31,7 @@ pub record IsRunnable (p : Program) (d : Dispatch) (group : ℕ) : Type 0 where
   pub sizes : HasSizes d
   pub one_of_them : group < count_of (groups_of d.grid_size d.group_size)
   pub segment : group_bytes_of p ≤ d.group_segment_size
-  pub segment_limit : d.group_segment_size ≤ MOST_SEGMENT_BYTES
+  pub segment_limit : d.group_segment_size ≤ most_segment_bytes
 
 -- one work-group of a kernel, with all that it is given to run on
 pub record GroupInput : Type 0 where

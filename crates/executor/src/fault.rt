@@ -7,7 +7,8 @@ use queue_error::{Rule, SegmentAddress};
 use std::alloc::AllocError;
 
 /// A rule that a work-item broke (own).
-#[derive(Clone, Copy, Debug, PartialEq, Eq)]
+#[derive(Clone, Copy, Debug, PartialEq, Eq, thiserror::Error)]
+#[error("item {item} line {line}: rule {rule}")]
 pub struct ItemFault {
     /// The work-item's number in its work-group, with x fastest.
     pub item: u32,
@@ -19,10 +20,12 @@ pub struct ItemFault {
 }
 
 /// Why a work-group has no writes.
-#[derive(Clone, Copy, Debug, PartialEq, Eq)]
+#[derive(Clone, Copy, Debug, PartialEq, Eq, thiserror::Error)]
 pub enum RunFault {
     /// A growth was refused.
+    #[error("out of memory")]
     OutOfMemory,
+    #[error("{0}")]
     Fault(ItemFault),
 }
 

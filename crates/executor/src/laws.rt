@@ -2,13 +2,14 @@
 
 ghost use Rattle.std.specs.Prelude.{◌≡◌, ◌≤◌, ℕ, List, All, Some, slice_get};
 ghost use Rattle.policy.specs.declared.rights.Right.TheVariants as right;
+ghost use Rattle.executor.specs.Limits.{budget, most_group_items, most_segment_bytes};
 ghost use Rattle.executor.specs.Laws.{AreLentAlike, AreShort, IsHeldRun, RunsRight};
 ghost use Rattle.executor.specs.Items.{LentRegion};
 ghost use Rattle.executor.specs.Locations.{count_of};
 ghost use Rattle.executor.specs.Results.{IsOver, after_turns, group_result, most_turns, wrote};
 ghost use Rattle.executor.specs.Runs.{GroupInput, begun, surroundings_of};
 ghost use Rattle.executor.specs.declared.written_range.WrittenRange.{WrittenRange};
-ghost use Rattle.executor.specs.declared.limits.TheConstants.{MOST_GROUP_ITEMS};
+ghost use Rattle.executor.specs.declared.limits.TheConstants.{BUDGET, MOST_GROUP_ITEMS, MOST_SEGMENT_BYTES};
 
 use kernel_check::Checked;
 
@@ -25,7 +26,7 @@ pub fn law_checked_kernels_run_right(checked: &Checked)
 /// A work-group has come to its end after as many turns as `most_turns` says, whatever its kernel does: all of its
 /// items have ended, or one has broken a rule. It does nothing.
 pub fn law_groups_come_to_an_end()
-    ensures { (input : GroupInput) → count_of input.group_size ≤ MOST_GROUP_ITEMS
+    ensures { (input : GroupInput) → count_of input.group_size ≤ most_group_items
         → IsOver (after_turns (surroundings_of input) input.program most_turns (begun input)) }
 {}
 
@@ -39,4 +40,11 @@ pub fn law_writes_lie_in_held_regions()
 /// does nothing.
 pub fn law_groups_read_where_they_may()
     ensures { (input : GroupInput) (others : List LentRegion) → AreLentAlike input.view others → group_result input ≡ group_result (record input { view = others }) }
+{}
+
+/// The code's limits of what is run are those of the rules. It does nothing.
+pub fn law_numbers_are_those_of_the_rules()
+    ensures items { MOST_GROUP_ITEMS ≡ most_group_items }
+    ensures segment { MOST_SEGMENT_BYTES ≡ most_segment_bytes }
+    ensures budget { BUDGET ≡ budget }
 {}

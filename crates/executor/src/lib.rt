@@ -40,7 +40,7 @@ pub use group::{groups_along, run_group};
 pub use held::HeldRegion;
 pub use laws::{
     law_checked_kernels_run_right, law_groups_come_to_an_end, law_groups_read_where_they_may,
-    law_writes_lie_in_held_regions,
+    law_numbers_are_those_of_the_rules, law_writes_lie_in_held_regions,
 };
 pub use limits::{BUDGET, MOST_GROUP_ITEMS, MOST_SEGMENT_BYTES};
 pub use location::Extent;

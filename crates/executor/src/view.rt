@@ -1,6 +1,7 @@
 //! The regions that a packet holds, and how the one that an address lies in is found.
 ghost use Rattle.std.specs.Prelude.{◌≡◌, ◌<◌, ◌≤◌, ◌++◌, ◌∷◌, [], All, OnErr, OnOk, find};
 ghost use Rattle.std.specs.Option.{option_copied};
+ghost use Rattle.aql_packet.specs.Memory.{most_regions};
 ghost use Rattle.executor.specs.Views.{has_byte_at};
 
 use crate::held::HeldRegion;
@@ -43,7 +44,7 @@ impl<'a> View<'a> {
     /// Puts a region behind others, whose numbers are less.
     pub fn put(&mut self, region: HeldRegion<'a>) -> Result<(), AllocError>
         requires begins { 1 ≤ region.handle.0 }
-        requires ends { region.handle.0 ≤ MOST_REGIONS }
+        requires ends { region.handle.0 ≤ most_regions }
         requires behind { All (λ before. before.handle.0 < region.handle.0) self.old }
         ensures ok { OnOk result (self.new ≡ self.old ++ region.entry ∷ []) }
         ensures err { OnErr result (self.new ≡ self.old) }

@@ -15,7 +15,7 @@ use Rattle.hsail_reader.specs.declared.module.Operand.TheVariants as an_operand
 use Rattle.hsail_reader.specs.declared.module.SegmentPlace.TheVariants as places
 use Rattle.hsail_reader.specs.declared.rows.Shape.TheVariants as shape
 use Rattle.hsail_reader.specs.declared.types.Source.TheVariants as sources
-use Rattle.hsail_reader.specs.declared.reading.TheConstants.{MAX_TEXT}
+use Rattle.hsail_reader.specs.Limits.{most_text_bytes}
 
 -- a number, with the sign that stood before it
 unfoldable pub signed : Bool → Grammar Constant
@@ -260,7 +260,7 @@ SpellModule tokens m = spells module_text m tokens []
 -- The text spells the module: it has at most 65,536 bytes, and its tokens spell it.
 unfoldable pub IsTextOf : List ℕ → Module → Type 0
 IsTextOf text m =
-    (length text ≤ MAX_TEXT) × ((tokens : List PlacedToken) × AreTokens 0 1 text tokens × SpellModule tokens m)
+    (length text ≤ most_text_bytes) × ((tokens : List PlacedToken) × AreTokens 0 1 text tokens × SpellModule tokens m)
 
 -- What may be answered: a module for a text of it, a fault for a text of no module, want of memory for
 -- any text.

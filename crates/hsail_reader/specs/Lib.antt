@@ -1,3 +1,4 @@
+pub mod Limits
 pub mod Nouns
 pub mod Types
 pub mod Operations

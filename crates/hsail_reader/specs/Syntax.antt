@@ -8,7 +8,7 @@ use Rattle.hsail_reader.specs.TextTokens.{PlacedToken}
 use Rattle.hsail_reader.specs.Tokens.{tokens_of}
 use Rattle.hsail_reader.specs.Nouns.{Module, ReadError, ReadFault, PlacedFlaw}
 use Rattle.hsail_reader.specs.declared.fault.ReadError.TheVariants as error
-use Rattle.hsail_reader.specs.declared.reading.TheConstants.{MAX_TEXT}
+use Rattle.hsail_reader.specs.Limits.{most_text_bytes}
 
 -- the module that some tokens are
 unfoldable pub module_at : List PlacedToken → Result Module PlacedFlaw
@@ -25,7 +25,7 @@ located text (Err r) = Err (fault_of text r)
 -- The module that a text is, or its fault: too long, the first place where no lexeme begins, or the
 -- first token at which no module goes on.
 unfoldable pub reading : List ℕ → Result Module ReadFault
-reading text = if nat_lt MAX_TEXT (length text) then Err too_long else located text (read_at text)
+reading text = if nat_lt most_text_bytes (length text) then Err too_long else located text (read_at text)
 
 -- what the reader answers is the reading, unless memory ran out
 abbrev pub Answers : Result Module ReadError → Result Module ReadFault → Type 0

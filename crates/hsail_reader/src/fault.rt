@@ -5,7 +5,6 @@ ghost use Rattle.hsail_reader.specs.declared.fault.Stop.TheVariants as stop;
 ghost use Rattle.hsail_reader.specs.Faults.{fault_at, cause_name, cause_number, cause_of, error_of, fault_of};
 
 use std::alloc::{AllocError, AllocFailed};
-use std::error::Error;
 use std::fmt;
 
 /// What is wrong with a text.
@@ -48,7 +47,7 @@ impl ReadCause {
 }
 
 /// The fault of a text: the place, with lines and columns from 1 and columns in bytes, and the cause.
-#[derive(Clone, Copy, Debug, PartialEq, Eq)]
+#[derive(Clone, Copy, Debug, PartialEq, Eq, thiserror::Error)]
 pub struct ReadFault {
     pub line: u32,
     pub column: u32,
@@ -71,7 +70,7 @@ impl fmt::Display for ReadFault {
 }
 
 /// Why no module was read.
-#[derive(Clone, Copy, Debug, PartialEq, Eq)]
+#[derive(Clone, Copy, Debug, PartialEq, Eq, thiserror::Error)]
 pub enum ReadError {
     /// There was no memory for the tokens or the module.
     OutOfMemory,
@@ -93,8 +92,6 @@ impl fmt::Display for ReadError {
         }
     }
 }
-
-impl Error for ReadError {}
 
 /// What is wrong with a text that isn't too long.
 #[derive(Clone, Copy)]

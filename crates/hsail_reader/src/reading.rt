@@ -5,6 +5,7 @@ ghost use Rattle.hsail_reader.specs.Faults.{Gives, too_long};
 ghost use Rattle.hsail_reader.specs.Tokens.{token_views};
 ghost use Rattle.hsail_reader.specs.Grammar.{AnswersByGrammar, field, fields};
 ghost use Rattle.hsail_reader.specs.Grammars.{read};
+ghost use Rattle.hsail_reader.specs.Limits.{most_text_bytes};
 ghost use Rattle.hsail_reader.specs.Syntax.{module_at, read_at, reading, Answers};
 ghost use Rattle.hsail_reader.specs.Terminals as terminals;
 ghost use Rattle.hsail_reader.specs.declared.reading.TheConstants.{MAX_TEXT};
@@ -20,6 +21,11 @@ use std::alloc::Global;
 
 /// The most bytes of a text.
 const MAX_TEXT: usize = 65_536;
+
+/// The code's limit of a text is that of the rules. It does nothing.
+pub fn numbers_are_those_of_the_rules()
+    ensures { MAX_TEXT ≡ most_text_bytes }
+{}
 
 /// What the module's line says behind the name.
 #[derive(Clone, Copy)]
@@ -163,7 +169,7 @@ fn parsed(alloc: Global, text: &[u8]) -> Result<Module, Stop>
 pub fn read_module(alloc: Global, text: &[u8]) -> Result<Module, ReadError>
     ensures exact { Answers result (reading text.now) }
     ensures grammar { AnswersByGrammar text.now result }
-    ensures too_long { (result ≡ Err (ReadError.Fault too_long)) ↔ (MAX_TEXT < length text.now) }
+    ensures too_long { (result ≡ Err (ReadError.Fault too_long)) ↔ (most_text_bytes < length text.now) }
 {
     if text.len() > MAX_TEXT {
         return Err(ReadError::Fault(ReadFault {

@@ -23,7 +23,7 @@ use Rattle.hsail_reader.specs.declared.types.DataType.{DataType}
 use Rattle.hsail_reader.specs.declared.types.RegisterClass.{RegisterClass}
 use Rattle.hsail_reader.specs.declared.types.Segment.{Segment}
 use Rattle.hsail_reader.specs.declared.types.Segment.TheVariants as segment
-use Rattle.kernel_check.specs.declared.limits.TheConstants.{MAX_ARGUMENT_BYTES, MAX_GROUP_BYTES, MAX_INSTRUCTIONS, MAX_KERNELS}
+use Rattle.kernel_check.specs.Limits.{most_argument_bytes, most_group_bytes, most_instructions, most_kernels}
 
 -- the label of a branch that the kernel doesn't have
 abbrev pub misses_label : (List ℕ → Option ℕ) → Operand → Bool
@@ -94,7 +94,7 @@ instruction_fails variables labels number op DoubleName = false
 instruction_fails variables labels number op WrongRegister = any_operand is_wrong op.operands
 instruction_fails variables labels number op WrongType = any_operand (has_wrong_type variables) op.operands
 instruction_fails variables labels number op UnknownArgument = any_operand (misses_argument variables) op.operands
-instruction_fails variables labels number op TooLarge = nat_le MAX_INSTRUCTIONS number || any_operand is_over op.operands
+instruction_fails variables labels number op TooLarge = nat_le most_instructions number || any_operand is_over op.operands
 instruction_fails variables labels number op BadAddress = any_operand (has_bad_address variables) op.operands
 
 -- by which causes a label fails that stands behind these
@@ -105,18 +105,18 @@ label_fails before name _ = false
 -- by which causes an argument fails that stands behind these, which end there
 abbrev pub argument_fails : Known Placed → ℕ → Argument → CheckCause → Bool
 argument_fails before end a DoubleName = is_some (find before a.name)
-argument_fails before end a TooLarge = nat_lt MAX_ARGUMENT_BYTES (end_behind end a)
+argument_fails before end a TooLarge = nat_lt most_argument_bytes (end_behind end a)
 argument_fails before end a _ = false
 
 -- by which causes a group variable fails that stands behind these variables, the last of which in group memory
 -- ends there
 abbrev pub variable_fails : Known Placed → ℕ → GroupVariable → CheckCause → Bool
 variable_fails before end v DoubleName = is_some (find before v.name)
-variable_fails before end v TooLarge = nat_lt MAX_GROUP_BYTES (group_end_behind end v)
+variable_fails before end v TooLarge = nat_lt most_group_bytes (group_end_behind end v)
 variable_fails before end v _ = false
 
 -- by which causes the head of a kernel fails that stands behind these kernels
 abbrev pub kernel_fails : Known ℕ → List ℕ → CheckCause → Bool
 kernel_fails before name DoubleName = is_some (find before name)
-kernel_fails before name TooLarge = nat_le MAX_KERNELS (length before)
+kernel_fails before name TooLarge = nat_le most_kernels (length before)
 kernel_fails before name _ = false

@@ -15,7 +15,7 @@ use Rattle.hsail_reader.specs.declared.types.RegisterClass.{RegisterClass}
 use Rattle.hsail_reader.specs.declared.types.RegisterClass.TheVariants.{Control, Single, Double}
 use Rattle.hsail_reader.specs.declared.types.Source.{Source}
 use Rattle.hsail_reader.specs.declared.types.Source.TheVariants as source
-use Rattle.kernel_check.specs.declared.limits.TheConstants.{MAX_DIMENSION, MAX_REGISTER}
+use Rattle.kernel_check.specs.Limits.{greatest_dimension, greatest_register}
 
 abbrev pub is_same_class : RegisterClass → RegisterClass → Bool
 is_same_class Control Control = true
@@ -39,7 +39,7 @@ is_wrong _ = false
 
 -- a register's number over 63
 abbrev pub is_far : Register → Bool
-is_far r = nat_lt MAX_REGISTER r.number
+is_far r = nat_lt greatest_register r.number
 
 -- a register's number over 63, or a constant out of its type's range
 abbrev pub is_over_source : DataType → Source → Bool
@@ -63,7 +63,7 @@ is_over (operand.Target t) = is_far t.register
 is_over (operand.Source s) = is_over_source s.kind s.source
 is_over (operand.Address a) = is_far_address a.address
 is_over (operand.Label x) = false
-is_over (operand.Dimension n) = nat_lt MAX_DIMENSION n
+is_over (operand.Dimension n) = nat_lt greatest_dimension n
 
 -- some operand passes a test
 abbrev pub any_operand : (Operand → Bool) → Operands → Bool

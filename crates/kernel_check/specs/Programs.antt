@@ -16,7 +16,7 @@ use Rattle.hsail_reader.specs.declared.types.RegisterClass.{RegisterClass}
 use Rattle.hsail_reader.specs.declared.types.RegisterClass.TheVariants as class
 use Rattle.hsail_reader.specs.declared.types.WorkItemQuery.{WorkItemQuery}
 use Rattle.hsail_reader.specs.declared.types.WorkItemQuery.TheVariants as query
-use Rattle.kernel_check.specs.declared.limits.TheConstants.{MAX_ARGUMENT_BYTES, MAX_GROUP_BYTES, MAX_INSTRUCTIONS}
+use Rattle.kernel_check.specs.Limits.{most_argument_bytes, most_group_bytes, most_instructions}
 
 -- a kernel's name, the bytes of its argument block and of its group variables, the offsets of its arguments of
 -- 64 bits, its steps, and the lines that they stand on
@@ -130,9 +130,9 @@ pub record IsSound (p : Program) : Type 0 where
   pub steps_stay : All (StaysWithin (length p.steps) p.argument_bytes) p.steps
   pub lined : length p.lines ≡ length p.steps
   pub wide_stay : All (λ offset. offset + 8 ≤ p.argument_bytes) p.wide
-  pub few_bytes : p.argument_bytes ≤ MAX_ARGUMENT_BYTES
-  pub few_group_bytes : p.group_bytes ≤ MAX_GROUP_BYTES
-  pub few_steps : length p.steps ≤ MAX_INSTRUCTIONS
+  pub few_bytes : p.argument_bytes ≤ most_argument_bytes
+  pub few_group_bytes : p.group_bytes ≤ most_group_bytes
+  pub few_steps : length p.steps ≤ most_instructions
 
 -- a kernel by its steps with their lines
 abbrev pub program : List ℕ → ℕ → ℕ → List ℕ → List LinedStep → Program

@@ -68,7 +68,7 @@ use Rattle.hsail_reader.specs.declared.types.TernaryOperation.{TernaryOperation}
 use Rattle.hsail_reader.specs.declared.types.TernaryOperation.TheVariants.{MultiplyAdd, ConditionalMove}
 use Rattle.hsail_reader.specs.declared.types.UnaryOperation.{UnaryOperation}
 use Rattle.hsail_reader.specs.declared.types.UnaryOperation.TheVariants.{Not, Convert}
-use Rattle.kernel_check.specs.declared.limits.TheConstants.{MAX_REGISTER}
+use Rattle.kernel_check.specs.Limits.{greatest_register}
 
 -- ---- types
 
@@ -111,7 +111,7 @@ is_signed _ = false
 
 -- a register by its number
 abbrev pub register_number : Register → ℕ
-register_number r = if nat_lt MAX_REGISTER r.number then 0 else r.number
+register_number r = if nat_lt greatest_register r.number then 0 else r.number
 
 abbrev pub register_in : RegisterClass → Register → AnyRegister
 register_in class.Control r = register.Control (register_number r)

@@ -5,7 +5,6 @@ ghost use Rattle.kernel_check.specs.declared.fault.CheckError.TheVariants as che
 ghost use Rattle.kernel_check.specs.Faults.{cause_name, cause_number, error_number};
 
 use std::alloc::{AllocError, AllocFailed};
-use std::error::Error;
 use std::fmt;
 
 /// What is wrong with an item of a module. An item with several faults has the one of least number.
@@ -61,7 +60,7 @@ impl CheckCause {
 }
 
 /// The fault of a module: the line of the item's first token, from 1, and the cause.
-#[derive(Clone, Copy, Debug, PartialEq, Eq)]
+#[derive(Clone, Copy, Debug, PartialEq, Eq, thiserror::Error)]
 pub struct CheckFault {
     pub line: u32,
     pub cause: CheckCause,
@@ -82,7 +81,7 @@ impl fmt::Display for CheckFault {
 }
 
 /// Why a module was not checked to its end.
-#[derive(Clone, Copy, Debug, PartialEq, Eq)]
+#[derive(Clone, Copy, Debug, PartialEq, Eq, thiserror::Error)]
 pub enum CheckError {
     /// There was no memory for the checked kernels.
     OutOfMemory,
@@ -116,8 +115,6 @@ impl fmt::Display for CheckError {
         }
     }
 }
-
-impl Error for CheckError {}
 
 impl From<AllocError> for CheckError {
     ghost from_gives = { λ _ e. e ≡ check_error.OutOfMemory };

@@ -6,6 +6,7 @@ ghost use Rattle.kernel_check.specs.Causes.{instruction_fails};
 ghost use Rattle.kernel_check.specs.Checks.{program_of};
 ghost use Rattle.kernel_check.specs.Faults.{Checkpoint, causes, first_fault, least_cause};
 ghost use Rattle.kernel_check.specs.Laws.{IsFirst, IsEarliest, IsFaithful};
+ghost use Rattle.kernel_check.specs.Limits.{greatest_dimension, greatest_register, most_argument_bytes, most_group_bytes, most_instructions, most_kernels};
 ghost use Rattle.kernel_check.specs.Needs.{leaves_nothing_out};
 ghost use Rattle.kernel_check.specs.Programs.{Ascends};
 ghost use Rattle.kernel_check.specs.Reads.{KeepsAll, KeepsOrder};
@@ -14,6 +15,7 @@ ghost use Rattle.kernel_check.specs.Steps.{step_of};
 ghost use Rattle.kernel_check.specs.declared.fault.CheckCause.{CheckCause};
 ghost use Rattle.kernel_check.specs.declared.fault.CheckFault.{CheckFault};
 ghost use Rattle.kernel_check.specs.declared.layout.Placed.{Placed};
+ghost use Rattle.kernel_check.specs.declared.limits.TheConstants.{MAX_ARGUMENT_BYTES, MAX_DIMENSION, MAX_GROUP_BYTES, MAX_INSTRUCTIONS, MAX_KERNELS, MAX_REGISTER};
 ghost use Rattle.hsail_reader.specs.RowOperations.{IsOfRow};
 ghost use Rattle.hsail_reader.specs.declared.module.Kernel.{Kernel};
 ghost use Rattle.hsail_reader.specs.declared.module.Operation.{Operation};
@@ -58,4 +60,14 @@ pub fn law_steps_do_what_words_say()
 /// The offsets of a kernel's arguments of 64 bits ascend. It does nothing.
 pub fn law_wide_arguments_ascend()
     ensures { (kernel : Kernel) → Ascends (program_of kernel).wide }
+{}
+
+/// The code's limits of kernels are those of the rules. It does nothing.
+pub fn law_numbers_are_those_of_the_rules()
+    ensures instructions { MAX_INSTRUCTIONS ≡ most_instructions }
+    ensures arguments { MAX_ARGUMENT_BYTES ≡ most_argument_bytes }
+    ensures group { MAX_GROUP_BYTES ≡ most_group_bytes }
+    ensures kernels { MAX_KERNELS ≡ most_kernels }
+    ensures register { MAX_REGISTER ≡ greatest_register }
+    ensures dimension { MAX_DIMENSION ≡ greatest_dimension }
 {}

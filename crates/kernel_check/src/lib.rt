@@ -28,8 +28,8 @@ pub use checking::check;
 pub use fault::{CheckCause, CheckError, CheckFault};
 pub use flat::FlatStep;
 pub use laws::{
-    law_faults_are_earliest, law_steps_are_faithful, law_steps_do_what_words_say,
-    law_steps_have_what_they_need, law_wide_arguments_ascend,
+    law_faults_are_earliest, law_numbers_are_those_of_the_rules, law_steps_are_faithful,
+    law_steps_do_what_words_say, law_steps_have_what_they_need, law_wide_arguments_ascend,
 };
 pub use limits::{MAX_ARGUMENT_BYTES, MAX_GROUP_BYTES, MAX_INSTRUCTIONS, MAX_KERNELS};
 pub use program::Program;

@@ -3,7 +3,7 @@
 ghost use Rattle.std.specs.Prelude.{◌≡◌, ◌<◌, ◌≤◌, ◌+◌, length, map, Bool, IfOk};
 ghost use Rattle.std.specs.List.{All};
 ghost use Rattle.std.specs.Str.{bytes_eq};
-ghost use Rattle.kernel_check.specs.declared.limits.TheConstants.{MAX_ARGUMENT_BYTES, MAX_GROUP_BYTES, MAX_INSTRUCTIONS};
+ghost use Rattle.kernel_check.specs.Limits.{most_argument_bytes, most_group_bytes, most_instructions};
 
 use crate::flat::{FlatStep, flat_steps};
 use crate::step::{LinedStep, Step};
@@ -114,7 +114,7 @@ impl Program {
     /// How many bytes the argument block has.
     pub fn kernarg_bytes(&self) -> u32
         ensures value { result ≡ self.now.argument_bytes }
-        ensures bound { result ≤ MAX_ARGUMENT_BYTES }
+        ensures bound { result ≤ most_argument_bytes }
     {
         self.argument_bytes
     }
@@ -122,7 +122,7 @@ impl Program {
     /// How many bytes the group variables take.
     pub fn group_bytes(&self) -> u32
         ensures value { result ≡ self.now.group_bytes }
-        ensures bound { result ≤ MAX_GROUP_BYTES }
+        ensures bound { result ≤ most_group_bytes }
     {
         self.group_bytes
     }
@@ -139,7 +139,7 @@ impl Program {
     /// The steps, in the order of the text. An item whose next step is none of them has ended.
     pub fn steps(&self) -> &[Step]
         ensures value { result.now ≡ self.now.steps }
-        ensures count { length result.now ≤ MAX_INSTRUCTIONS }
+        ensures count { length result.now ≤ most_instructions }
         ensures within { All (StaysWithin (length self.now.steps) self.now.argument_bytes) result.now }
         ensures classes { All HasItsClasses result.now }
     {

@@ -5,8 +5,8 @@ use Rattle.std.specs.List.{list_any, list_all, filter_map}
 use Rattle.std.specs.Result.{result_err}
 use Rattle.std.specs.Str.{bytes_eq}
 use Rattle.toml.specs.Data.{Data, Members, get_member, as_table}
-use Rattle.aql_packet.specs.declared.memory.TheConstants.{MOST_REGIONS}
-use Rattle.policy.specs.declared.limits.TheConstants.{MOST_AGENTS, MOST_ALLOW_ROWS, MOST_CLIENTS, MOST_DENY_ROWS, MOST_KERNELS, MOST_MEMORY_BYTES, MOST_SIGNALS}
+use Rattle.aql_packet.specs.Memory.{most_regions}
+use Rattle.policy.specs.Limits.{most_agents, most_allow_rows, most_clients, most_deny_rows, most_kernels, most_memory_bytes, most_signals}
 use Rattle.policy.specs.declared.fault.PolicyCause.{PolicyCause}
 use Rattle.policy.specs.declared.fault.PolicyCause.TheVariants.{BadValue, DoubleName, UnknownName, TooMany}
 use Rattle.policy.specs.declared.fault.PolicyFault.{PolicyFault}
@@ -150,7 +150,7 @@ named_array_checks at limit known rest = array_checks at limit (λ above. named_
 -- the regions together don't have too many bytes
 abbrev pub sum_check : Members → Option PolicyFault
 sum_check file =
-    result_err (unless (nat_le (sum (said_by row_length (rows_at section.Region file))) MOST_MEMORY_BYTES) (fault_in section.Region 0 TooMany))
+    result_err (unless (nat_le (sum (said_by row_length (rows_at section.Region file))) most_memory_bytes) (fault_in section.Region 0 TooMany))
 
 -- ---- the file
 
@@ -167,16 +167,16 @@ head_checks file =
 
 abbrev pub object_checks : Members → List (Option PolicyFault)
 object_checks file =
-    named_array_checks section.Client MOST_CLIENTS client_keys client_rest file
-    ++ (named_array_checks section.Agent MOST_AGENTS agent_keys agent_rest file
-    ++ ((named_array_checks section.Region MOST_REGIONS region_keys region_rest file ++ sum_check file ∷ [])
-    ++ (named_array_checks section.Signal MOST_SIGNALS signal_keys signal_rest file
-    ++ named_array_checks section.Kernel MOST_KERNELS kernel_keys kernel_rest file)))
+    named_array_checks section.Client most_clients client_keys client_rest file
+    ++ (named_array_checks section.Agent most_agents agent_keys agent_rest file
+    ++ ((named_array_checks section.Region most_regions region_keys region_rest file ++ sum_check file ∷ [])
+    ++ (named_array_checks section.Signal most_signals signal_keys signal_rest file
+    ++ named_array_checks section.Kernel most_kernels kernel_keys kernel_rest file)))
 
 abbrev pub policy_rows_checks : Members → List (Option PolicyFault)
 policy_rows_checks file =
-    array_checks section.Allow MOST_ALLOW_ROWS (λ above. rights_checks (names_at section.Client file) (λ on. names_at (section_of on) file)) file
-    ++ array_checks section.Deny MOST_DENY_ROWS (λ above. rights_checks (names_at section.Client file) (λ on. names_at (section_of on) file)) file
+    array_checks section.Allow most_allow_rows (λ above. rights_checks (names_at section.Client file) (λ on. names_at (section_of on) file)) file
+    ++ array_checks section.Deny most_deny_rows (λ above. rights_checks (names_at section.Client file) (λ on. names_at (section_of on) file)) file
 
 -- all checks of a file
 abbrev pub file_checks : Members → List (Option PolicyFault)

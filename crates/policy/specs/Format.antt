@@ -5,8 +5,8 @@ use Rattle.std.specs.Str.{bytes_eq}
 use Rattle.aql_packet.specs.Memory.{is_region_length}
 use Rattle.toml.specs.Data.{Data, string, integer, table, Items, no_items, item, Members, no_members, member, get_member, as_str, as_integer, as_array, as_table}
 use Rattle.toml.specs.Parse.{parse_document}
-use Rattle.aql_packet.specs.declared.memory.TheConstants.{MOST_REGIONS}
-use Rattle.policy.specs.declared.limits.TheConstants.{MOST_AGENTS, MOST_ALLOW_ROWS, MOST_CLIENTS, MOST_DENY_ROWS, MOST_KERNELS, MOST_MEMORY_BYTES, MOST_NAME_BYTES, MOST_POLICY_BYTES, MOST_SIGNALS}
+use Rattle.aql_packet.specs.Memory.{most_regions}
+use Rattle.policy.specs.Limits.{most_agents, most_allow_rows, most_clients, most_deny_rows, most_kernels, most_memory_bytes, most_name_bytes, most_policy_bytes, most_signals}
 use Rattle.policy.specs.declared.fault.PolicyCause.{PolicyCause}
 use Rattle.policy.specs.declared.fault.PolicyCause.TheVariants.{NotToml, MissingKey, BadValue, UnknownName, DoubleName, TooMany}
 use Rattle.policy.specs.declared.fault.PolicyFault.{PolicyFault}
@@ -44,7 +44,7 @@ is_name_byte b =
 
 -- a name is some of these, and not too many (own)
 abbrev pub is_name : List ℕ → Bool
-is_name text = (nat_le 1 (length text) && nat_le (length text) MOST_NAME_BYTES) && list_all is_name_byte text
+is_name text = (nat_le 1 (length text) && nat_le (length text) most_name_bytes) && list_all is_name_byte text
 
 abbrev pub a_text_that : (List ℕ → Bool) → Data → Option (List ℕ)
 a_text_that test (string text) = if test text then Some text else None
@@ -297,25 +297,25 @@ file_head file = do
 -- the regions, which have not too many bytes together
 abbrev pub regions_of : Members → Result (List (Name × ℕ)) PolicyFault
 regions_of file = do
-  regions ← array_of section.Region MOST_REGIONS (named_row region_keys region_length) file
-  _ ← unless (nat_le (sum_by (λ region. region.1) regions) MOST_MEMORY_BYTES) (fault_in section.Region 0 TooMany)
+  regions ← array_of section.Region most_regions (named_row region_keys region_length) file
+  _ ← unless (nat_le (sum_by (λ region. region.1) regions) most_memory_bytes) (fault_in section.Region 0 TooMany)
   Ok regions
 
 -- the clients and the objects, with no rows on rights yet
 abbrev pub objects_of : Version → Members → Result Declared PolicyFault
 objects_of version file = do
-  clients ← array_of section.Client MOST_CLIENTS (named_row client_keys no_more_keys) file
-  agents ← array_of section.Agent MOST_AGENTS (named_row agent_keys takes) file
+  clients ← array_of section.Client most_clients (named_row client_keys no_more_keys) file
+  agents ← array_of section.Agent most_agents (named_row agent_keys takes) file
   regions ← regions_of file
-  signals ← array_of section.Signal MOST_SIGNALS (named_row signal_keys initial_value) file
-  kernels ← array_of section.Kernel MOST_KERNELS (named_row kernel_keys kernel_source) file
+  signals ← array_of section.Signal most_signals (named_row signal_keys initial_value) file
+  kernels ← array_of section.Kernel most_kernels (named_row kernel_keys kernel_source) file
   Ok (record { version = version; clients = names clients; agents = agents; regions = regions; signals = signals; kernels = kernels; rows = record { allows = []; denies = [] } })
 
 -- the allow rows, and then the deny rows
 abbrev pub policy_rows : Declared → Members → Result PolicyRows PolicyFault
 policy_rows declared file = do
-  allows ← array_of section.Allow MOST_ALLOW_ROWS (λ _ row. rights_row declared row) file
-  denies ← array_of section.Deny MOST_DENY_ROWS (λ _ row. rights_row declared row) file
+  allows ← array_of section.Allow most_allow_rows (λ _ row. rights_row declared row) file
+  denies ← array_of section.Deny most_deny_rows (λ _ row. rights_row declared row) file
   Ok (record { allows = allows; denies = denies })
 
 -- what a file declares, or its first fault: the file's version and keys, and then the arrays in order
@@ -332,16 +332,16 @@ IsFile text file = IsUtf8 text × (parse_document text ≡ Some file)
 
 -- the text declares this
 pub record Declares (text : List ℕ) (declared : Declared) : Type 0 where
-  pub short : length text ≤ MOST_POLICY_BYTES
+  pub short : length text ≤ most_policy_bytes
   pub file : Members
   pub is_file : IsFile text file
   pub rows : declared_by file ≡ Ok declared
 
 -- the first fault of a text: it is too long, it is no TOML document, or the file that it is has that fault first
 pub data HasFault (text : List ℕ) (fault : PolicyFault) : Type 0 where
-  too_long : MOST_POLICY_BYTES < length text → fault ≡ fault_of_file TooMany → HasFault text fault
-  not_toml : length text ≤ MOST_POLICY_BYTES → ((file : Members) → IsFile text file → ⊥) → fault ≡ fault_of_file NotToml → HasFault text fault
-  in_file : length text ≤ MOST_POLICY_BYTES → (file : Members) → IsFile text file → declared_by file ≡ Err fault → HasFault text fault
+  too_long : most_policy_bytes < length text → fault ≡ fault_of_file TooMany → HasFault text fault
+  not_toml : length text ≤ most_policy_bytes → ((file : Members) → IsFile text file → ⊥) → fault ≡ fault_of_file NotToml → HasFault text fault
+  in_file : length text ≤ most_policy_bytes → (file : Members) → IsFile text file → declared_by file ≡ Err fault → HasFault text fault
 
 -- why a text isn't read: its first fault, or no memory
 abbrev pub IsRefused : List ℕ → ReadPolicyError → Type 0

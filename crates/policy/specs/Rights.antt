@@ -5,20 +5,19 @@ use Rattle.std.specs.Int.RustNames.{bit_and}
 use Rattle.policy.specs.declared.rights.Right.{Right}
 use Rattle.policy.specs.declared.rights.Right.TheVariants.{Use, Read, Write, Wait, Change, Launch}
 use Rattle.policy.specs.declared.rights.Rights.{Rights}
-use Rattle.policy.specs.declared.rights.TheConstants.Rights.{USE, READ, WRITE, WAIT, CHANGE, LAUNCH}
-
--- the set of one right
-abbrev pub set_of : Right → Rights
-set_of Use = USE
-set_of Read = READ
-set_of Write = WRITE
-set_of Wait = WAIT
-set_of Change = CHANGE
-set_of Launch = LAUNCH
 
 -- the bit of a right (own)
 abbrev pub bit_of : Right → ℕ
-bit_of right = (set_of right).0
+bit_of Use = 1
+bit_of Read = 2
+bit_of Write = 4
+bit_of Wait = 8
+bit_of Change = 16
+bit_of Launch = 32
+
+-- the set of one right
+abbrev pub set_of : Right → Rights
+set_of right = record { 0 = bit_of right }
 
 -- the right is in the set
 abbrev pub has : Rights → Right → Bool

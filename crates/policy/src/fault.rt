@@ -5,7 +5,6 @@ ghost use Rattle.policy.specs.declared.fault.RowError.TheVariants as row;
 ghost use Rattle.policy.specs.declared.fault.ReadPolicyError.TheVariants as file;
 
 use std::alloc::{AllocError, AllocFailed};
-use std::error::Error;
 use std::fmt;
 
 /// The array of a policy file in which a fault lies.
@@ -108,7 +107,7 @@ impl PolicyCause {
 }
 
 /// A fault of a policy file: the first, in the order in which the format looks for them.
-#[derive(Clone, Copy, Debug, PartialEq, Eq)]
+#[derive(Clone, Copy, Debug, PartialEq, Eq, thiserror::Error)]
 pub struct PolicyFault {
     /// What is wrong.
     pub cause: PolicyCause,
@@ -148,14 +147,14 @@ impl fmt::Display for PolicyFault {
     }
 }
 
-impl Error for PolicyFault {}
-
 /// Why a policy isn't read.
-#[derive(Clone, Copy, Debug, PartialEq, Eq)]
+#[derive(Clone, Copy, Debug, PartialEq, Eq, thiserror::Error)]
 pub enum ReadPolicyError {
     /// There was no memory for it.
+    #[error("out of memory")]
     OutOfMemory,
     /// The file has a fault.
+    #[error("{0}")]
     Fault(PolicyFault),
 }
 

@@ -2,10 +2,9 @@
 
 ghost use Rattle.std.specs.Prelude.{◌≡◌, ◌<◌, ◌≤◌, ◌↔◌, true, [], length, Some, IfOk, IfSome};
 ghost use Rattle.std.specs.Option.{option_copied};
-ghost use Rattle.policy.specs.declared.limits.TheConstants.{MOST_ALLOW_ROWS, MOST_DENY_ROWS, MOST_SIGNALS};
 ghost use Rattle.policy.specs.Object.{kind_of, number_of};
 ghost use Rattle.policy.specs.Declaring.{DeclaresAs};
-ghost use Rattle.policy.specs.Limits.{IsWithinLimits};
+ghost use Rattle.policy.specs.Limits.{IsWithinLimits, most_allow_rows, most_deny_rows, most_signals};
 ghost use Rattle.policy.specs.Names.{AreDistinct};
 ghost use Rattle.policy.specs.Policy.{names, numbered, number_in, names_of, name_in, row_of, rules_of};
 ghost use Rattle.policy.specs.Rules.{are_allowed, count, knows_object, knows_client};
@@ -104,8 +103,8 @@ impl Policy {
 
     /// Puts rows on rights in the place of those before.
     pub fn set_rows(&mut self, rows: PolicyRows)
-        requires allows { length rows.allows ≤ MOST_ALLOW_ROWS }
-        requires denies { length rows.denies ≤ MOST_DENY_ROWS }
+        requires allows { length rows.allows ≤ most_allow_rows }
+        requires denies { length rows.denies ≤ most_deny_rows }
         ensures { self.new ≡ record self.old { rows = rows } }
     {
         self.rows = rows;
@@ -164,7 +163,7 @@ impl Policy {
     /// How many clients there are.
     pub fn client_count(&self) -> usize
         ensures count { result ≡ length self.now.clients }
-        ensures bound { result ≤ MOST_SIGNALS }
+        ensures bound { result ≤ most_signals }
         ensures limits { IsWithinLimits self.now }
     {
         self.clients.len()
@@ -173,7 +172,7 @@ impl Policy {
     /// How many objects of a kind there are.
     pub fn object_count(&self, kind: Kind) -> usize
         ensures count { result ≡ count (rules_of self.now) kind }
-        ensures bound { result ≤ MOST_SIGNALS }
+        ensures bound { result ≤ most_signals }
         ensures limits { IsWithinLimits self.now }
     {
         match kind {

@@ -29,7 +29,7 @@ pub struct FaultPlace {
 
 /// A packet was denied, or failed at its work. It prints as `queue 1 packet 0 rule L8`, and with a
 /// place as `queue 1 packet 0 rule A3 group 1 item 1 line 9`.
-#[derive(Clone, Copy, Debug, PartialEq, Eq)]
+#[derive(Clone, Copy, Debug, PartialEq, Eq, thiserror::Error)]
 pub struct QueueError {
     pub queue: QueueId,
     pub packet: PacketId,
@@ -71,5 +71,3 @@ impl fmt::Display for QueueError {
         }
     }
 }
-
-impl std::error::Error for QueueError {}

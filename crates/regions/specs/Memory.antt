@@ -1,15 +1,15 @@
 -- The byte memory: a list of regions, each the list of its bytes. All of it is this project's own.
 use Rattle.std.specs.Prelude.{◌≡◌, ℕ, ◌+◌, ◌-◌, ◌/◌, ◌%◌, ◌<◌, ◌≤◌, Bool, ◌&&◌, nat_lt, nat_le, if◌then◌else◌, List, [], ◌∷◌, ◌++◌, length, take, drop, map, replicate, slice_get, slice_index, slice_index_or, Option, All}
-use Rattle.aql_packet.specs.declared.memory.TheConstants.{MOST_REGIONS, MOST_REGION_BYTES, REGION_SPAN}
+use Rattle.aql_packet.specs.Memory.{most_regions, most_region_bytes, region_span}
 use Rattle.aql_packet.specs.Memory.{covers}
 
 -- the number of the region in which an address would lie: region h covers addresses from h * REGION_SPAN (own)
 abbrev pub region_of : ℕ → ℕ
-region_of address = address / REGION_SPAN
+region_of address = address / region_span
 
 -- how far an address lies past the first address of its region (own)
 abbrev pub offset_of : ℕ → ℕ
-offset_of address = address % REGION_SPAN
+offset_of address = address % region_span
 
 -- the bytes of the region with this number: regions count from 1, so region 0 and unknown ones are empty (own)
 abbrev pub region_bytes : List (List ℕ) → ℕ → List ℕ
@@ -52,8 +52,8 @@ IsWritten old address bytes new =
 
 -- what every memory is: so many regions at most, each of at least 1 byte and so many at most, each byte below 256 (own)
 pub record IsMemory (regions : List (List ℕ)) : Type 0 where
-  pub few : length regions ≤ MOST_REGIONS
-  pub lengths : All (λ bytes. (1 ≤ length bytes) × (length bytes ≤ MOST_REGION_BYTES)) regions
+  pub few : length regions ≤ most_regions
+  pub lengths : All (λ bytes. (1 ≤ length bytes) × (length bytes ≤ most_region_bytes)) regions
   pub bytes : All (λ bytes. All (λ byte. byte < 256) bytes) regions
 
 -- a memory that was never written: regions of these lengths, all zeros (own)

@@ -1,10 +1,9 @@
 //! Why an access to the memory is refused.
 
-use std::error::Error;
 use std::fmt;
 
 /// Why a range of addresses is refused (own). The memory is then as before.
-#[derive(Clone, Copy, Debug, PartialEq, Eq)]
+#[derive(Clone, Copy, Debug, PartialEq, Eq, thiserror::Error)]
 pub enum RegionFault {
     /// The range's first address lies in no region.
     NoRegion = 1,
@@ -25,5 +24,3 @@ impl fmt::Display for RegionFault {
         }
     }
 }
-
-impl Error for RegionFault {}

@@ -19,7 +19,7 @@ pub struct Signals {
 }
 
 /// No signal has the number: it is 0, or more than the count (refusal 1).
-#[derive(Clone, Copy, Debug, PartialEq, Eq)]
+#[derive(Clone, Copy, Debug, PartialEq, Eq, thiserror::Error)]
 pub struct UnknownSignal;
 
 impl Model for Signals {
@@ -135,5 +135,3 @@ impl fmt::Display for UnknownSignal {
         f.write_str("UnknownSignal")
     }
 }
-
-impl std::error::Error for UnknownSignal {}
