@@ -4,4 +4,5 @@ pub mod Holds
 pub mod Cells
 pub mod Ledger
 pub mod Laws
+pub mod Refusals
 pub mod inner
