@@ -17,7 +17,7 @@ use Rattle.core_model.specs.declared.outcome.Polled.TheVariants.{Pending, Ready}
 use Rattle.core_model.specs.declared.entry.Effect.{Effect}
 use Rattle.core_model.specs.declared.entry.Effect.TheVariants.{Release}
 use Rattle.core_model.specs.declared.entry.Entry.{Entry}
-use Rattle.core_model.specs.declared.flight.TheConstants.{LAUNCH_PROGRESS}
+use Rattle.core_model.specs.Limits.{launch_progress}
 use Rattle.core_model.specs.declared.flight.InFlight.{InFlight}
 use Rattle.core_model.specs.declared.flight.Progress.{Progress}
 use Rattle.core_model.specs.History.{Start, effects_of}
@@ -90,7 +90,7 @@ satisfied_by_either a b = record { 0 = map (λ pair. pair.0 || pair.1) (zip a.0 
 
 -- how far a packet has come by an event: it is launched anew, one of its groups ran, or dependencies were seen (own)
 abbrev pub progress_by : QueueId → PacketId → Progress → Event → Outcome → Progress
-progress_by queue id p (Take q i _) (outcome.Taken Launched) = if same_packet q i queue id then LAUNCH_PROGRESS else p
+progress_by queue id p (Take q i _) (outcome.Taken Launched) = if same_packet q i queue id then launch_progress else p
 progress_by queue id p (Call (RunNext q i)) (outcome.Worked (Ran _ _)) = if same_packet q i queue id then record p { groups_run = p.groups_run + 1 } else p
 progress_by queue id p (Call (Poll q i)) (outcome.Polled (Pending seen)) = if same_packet q i queue id then record p { satisfied = satisfied_by_either p.satisfied seen } else p
 progress_by queue id p (Call (Poll q i)) (outcome.Polled (Ready seen)) = if same_packet q i queue id then record p { satisfied = satisfied_by_either p.satisfied seen } else p
@@ -98,7 +98,7 @@ progress_by queue id p _ _ = p
 
 -- and after its entry: of a packet that is released nothing is known (own)
 abbrev pub progress_after : QueueId → PacketId → Progress → Entry → Progress
-progress_after queue id p entry = if list_any (releases queue id) entry.effects then LAUNCH_PROGRESS else progress_by queue id p entry.event entry.outcome
+progress_after queue id p entry = if list_any (releases queue id) entry.effects then launch_progress else progress_by queue id p entry.event entry.outcome
 
 -- how far a packet has come since its launch (own)
 unfoldable pub progress : Start → List Entry → QueueId → PacketId → Progress

@@ -17,7 +17,7 @@ use Rattle.core_model.specs.declared.entry.Entry.{Entry}
 use Rattle.core_model.specs.declared.entry.Effect.{Effect}
 use Rattle.core_model.specs.declared.flight.InFlight.{InFlight}
 use Rattle.core_model.specs.declared.flight.Progress.{Progress}
-use Rattle.core_model.specs.declared.flight.TheConstants.{LAUNCH_PROGRESS}
+use Rattle.core_model.specs.Limits.{launch_progress}
 pub use Rattle.core_model.specs.declared.origin.Opening.{Opening}
 pub use Rattle.core_model.specs.declared.origin.QueueOrigin.{QueueOrigin}
 pub use Rattle.core_model.specs.declared.origin.PacketOrigin.{PacketOrigin}
@@ -64,7 +64,7 @@ opening_state policy kernels = record {
   errors = λ queue. [];
   is_stopped = λ queue. false;
   flight = [];
-  progress = λ queue id. LAUNCH_PROGRESS;
+  progress = λ queue id. launch_progress;
   held = λ queue id client on right. false;
   arguments = λ queue id. [];
   before = 0;
@@ -101,7 +101,7 @@ begin kernels o = record {
   errors = λ queue. (queue_in o.queues queue).errors;
   is_stopped = λ queue. (queue_in o.queues queue).stopped;
   flight = map (λ p. p.flying) o.packets;
-  progress = λ queue id. elim (packet_in o.packets queue id) [ None ↦ LAUNCH_PROGRESS | Some p ↦ p.progress ];
+  progress = λ queue id. elim (packet_in o.packets queue id) [ None ↦ launch_progress | Some p ↦ p.progress ];
   held = holds o.grants;
   arguments = λ queue id. elim (packet_in o.packets queue id) [ None ↦ [] | Some p ↦ p.arguments ];
   before = o.before;

@@ -16,8 +16,8 @@ use Rattle.policy.specs.declared.rights.Right.TheVariants.{Read}
 use Rattle.policy.specs.declared.row.Takes.{Takes}
 use Rattle.queue_error.specs.declared.rule.Rule.{Rule}
 use Rattle.queue_error.specs.declared.rule.Rule.TheVariants.{L1, L2, L3, L4, L5, L6, L7, L8, L9, L10}
-use Rattle.core_model.specs.declared.limits.TheConstants.{MOST_IN_FLIGHT}
-use Rattle.executor.specs.declared.limits.TheConstants.{MOST_GROUP_ITEMS, MOST_SEGMENT_BYTES}
+use Rattle.core_model.specs.Limits.{most_in_flight}
+use Rattle.executor.specs.Limits.{most_group_items, most_segment_bytes}
 use Rattle.core_model.specs.declared.kernel.KernelSegments.{KernelSegments}
 use Rattle.core_model.specs.declared.need.Need.{Need}
 use Rattle.core_model.specs.declared.need.Subject.{Subject}
@@ -68,7 +68,7 @@ has_dimensions d =
 abbrev pub has_sizes : KernelDispatch → Bool
 has_sizes d =
     has_dimensions d
-    && nat_le (count_of (group_size d)) MOST_GROUP_ITEMS
+    && nat_le (count_of (group_size d)) most_group_items
     && nat_lt (count_of (groups_of (grid_size d) (group_size d))) (2 ^ 32)
 
 -- what a dispatch asks for can be done: a kernel dispatch has sizes that may be, an agent dispatch names a known function (own)
@@ -84,7 +84,7 @@ kernel_passes facts d test = elim (numbered facts.kernels d.kernel_object.0) [ N
 -- a kernel dispatch asks for as much group memory as its kernel's variables take, and for neither segment more than there may be (own)
 abbrev pub has_segments : Facts → Packet → Bool
 has_segments facts (packet.Kernel d) =
-    kernel_passes facts d (λ kernel. nat_le kernel.group d.group_segment_size) && nat_le d.group_segment_size MOST_SEGMENT_BYTES && nat_le d.private_segment_size MOST_SEGMENT_BYTES
+    kernel_passes facts d (λ kernel. nat_le kernel.group d.group_segment_size) && nat_le d.group_segment_size most_segment_bytes && nat_le d.private_segment_size most_segment_bytes
 has_segments facts _ = true
 
 -- whether a right is in force that a packet needs, on an object, or on the region in which a range lies whole (own)
@@ -137,5 +137,5 @@ unfoldable pub cause_to_wait : List Packet → Bool → Option WaitCause
 cause_to_wait flying barrier_bit =
     if list_any is_barrier flying then Some cause.Barrier
     else if barrier_bit && nat_lt 0 (length flying) then Some cause.Active
-    else if nat_le MOST_IN_FLIGHT (length flying) then Some cause.Slots
+    else if nat_le most_in_flight (length flying) then Some cause.Slots
     else None

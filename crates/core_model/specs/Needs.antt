@@ -13,7 +13,7 @@ use Rattle.policy.specs.declared.rights.Right.TheVariants.{Use, Read, Write, Wai
 use Rattle.queue_error.specs.declared.rule.Rule.{Rule}
 use Rattle.queue_error.specs.declared.rule.Rule.TheVariants.{L4, L6, L8, L9, L10}
 use Rattle.regions.specs.Memory.{region_of}
-use Rattle.core_model.specs.declared.need.TheConstants.{FILL, COPY, ADD64}
+use Rattle.core_model.specs.Limits.{fill_number, copy_number, add64_number}
 use Rattle.core_model.specs.declared.need.Range.{Range}
 use Rattle.core_model.specs.declared.need.AgentFunction.{AgentFunction}
 use Rattle.core_model.specs.declared.need.AgentFunction.TheVariants.{Fill, Copy, Add64}
@@ -32,9 +32,9 @@ argument dispatch k = slice_index dispatch.arguments k
 -- the function that a dispatch names, and what it is to work on: FILL a range and a byte, COPY two ranges, ADD64 a number (own)
 abbrev pub function_of : AgentDispatch → Option AgentFunction
 function_of d =
-    if d.function == FILL then Some (Fill (range_at (argument d 0) (argument d 1)) (argument d 2 % 256))
-    else if d.function == COPY then Some (Copy (range_at (argument d 0) (argument d 2)) (range_at (argument d 1) (argument d 2)))
-    else if d.function == ADD64 then Some (Add64 (range_at (argument d 0) 8) (argument d 1))
+    if d.function == fill_number then Some (Fill (range_at (argument d 0) (argument d 1)) (argument d 2 % 256))
+    else if d.function == copy_number then Some (Copy (range_at (argument d 0) (argument d 2)) (range_at (argument d 1) (argument d 2)))
+    else if d.function == add64_number then Some (Add64 (range_at (argument d 0) 8) (argument d 1))
     else None
 
 -- where a dispatch's result goes: 8 bytes at its return address, none where that is 0 (own)

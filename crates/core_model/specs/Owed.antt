@@ -17,7 +17,7 @@ use Rattle.signals.specs.declared.operation.SignalOp.{SignalOp}
 use Rattle.signals.specs.declared.operation.SignalOp.TheVariants as op
 use Rattle.policy.specs.declared.object.Object.TheVariants as object
 use Rattle.policy.specs.declared.rights.Right.TheVariants as right
-use Rattle.policy.specs.declared.row.TheConstants.{TAKES_NOTHING}
+use Rattle.policy.specs.Limits.{takes_nothing}
 use Rattle.policy.specs.Rules.{knows_client, knows_object, are_allowed}
 use Rattle.policy.specs.Policy.{region_lengths, row_of, rules_of}
 use Rattle.queue_error.specs.declared.rule.Rule.{Rule}
@@ -45,9 +45,9 @@ use Rattle.core_model.specs.History.{Start}
 use Rattle.core_model.specs.Grants.{in_force, in_force_on_range}
 use Rattle.core_model.specs.Memory.{signals}
 use Rattle.core_model.specs.Queues.{Opening, openings, owner, next_id, is_stopped, is_down}
-use Rattle.core_model.specs.declared.outcome.TheConstants.{NONE_SATISFIED}
+use Rattle.core_model.specs.Limits.{none_satisfied}
 use Rattle.core_model.specs.Flight.{flight_of, in_flight, progress, satisfied_by_either}
-use Rattle.core_model.specs.declared.limits.TheConstants.{MOST_HOST_BYTES, QUEUES}
+use Rattle.core_model.specs.Limits.{most_host_bytes, most_queues}
 use Rattle.core_model.specs.Needs.{completion_signal}
 use Rattle.core_model.specs.LaunchRules.{Facts, first_failing_rule, cause_to_wait, is_barrier}
 use Rattle.core_model.specs.Work.{agent_writes, group_count, write_of_run, is_ready, is_negative, newly_seen_positions, seen_dependencies}
@@ -67,13 +67,13 @@ pub data Owed : Type 0 where
 
 -- how many bytes a client may read or write in one call: at least 1 (own)
 abbrev pub is_host_size : ℕ → Bool
-is_host_size size = nat_le 1 size && nat_le size MOST_HOST_BYTES
+is_host_size size = nat_le 1 size && nat_le size most_host_bytes
 
 -- the facts by which a queue's packets are judged (own)
 abbrev pub facts_of : Start → List Entry → Opening → Facts
 facts_of start entries opening = record {
   agent = opening.agent;
-  takes = unwrap_or (row_of start.policy.agents opening.agent.0) TAKES_NOTHING;
+  takes = unwrap_or (row_of start.policy.agents opening.agent.0) takes_nothing;
   in_force = in_force start entries opening.client;
   lengths = region_lengths start.policy;
   kernels = map segments_of start.kernels;
@@ -135,14 +135,14 @@ abbrev pub owed_sight : Packet → Satisfied → Satisfied → Owed
 owed_sight p seen new =
     if list_any (λ at. at) new.0
     then enters (outcome.Polled (if is_ready p (satisfied_by_either seen new) then Ready new else Pending new)) []
-    else answers (outcome.Polled (Pending NONE_SATISFIED))
+    else answers (outcome.Polled (Pending none_satisfied))
 
 -- a poll of a barrier packet in flight: ready packets stay ready; then a negative dependency fails it, before what is newly seen
 -- (PSA, Architected Queuing Language: barrier packets; that a negative dependency fails the packet is own)
 abbrev pub owed_poll : List ℤ → QueueId → PacketId → Packet → Progress → Owed
 owed_poll values queue id p so_far =
     refuse_unless (is_barrier p) (refuses refusal.NotInFlight)
-    (if is_ready p so_far.satisfied then answers (outcome.Polled (Ready NONE_SATISFIED))
+    (if is_ready p so_far.satisfied then answers (outcome.Polled (Ready none_satisfied))
     else if list_any (is_negative values) (seen_dependencies p so_far.satisfied)
     then enters (outcome.Polled (Failed (error_without_place queue id.0 B1))) (effect.Release queue id ∷ [])
     else owed_sight p so_far.satisfied (newly_seen_positions values p so_far.satisfied))
@@ -195,7 +195,7 @@ owed start entries (Open client agent size) =
     refuse_unless (knows_client (rules_of start.policy) client) (refuses refusal.UnknownClient)
     (refuse_unless (in_force start entries client (object.Agent agent) right.Use) (refuses (refusal.Denied right.Use))
     (refuse_unless (is_ring_size size) (refuses refusal.BadSize)
-    (if nat_le QUEUES (length (openings start entries)) then refuses refusal.TooMany
+    (if nat_le most_queues (length (openings start entries)) then refuses refusal.TooMany
     else enters (outcome.Opened (record { 0 = length (openings start entries) + 1 })) [])))
 owed start entries (Call (Stop queue)) =
     for_some (owner start entries queue) (refuses refusal.UnknownQueue) (λ opening.

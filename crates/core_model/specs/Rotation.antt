@@ -3,7 +3,7 @@ use Rattle.std.specs.Prelude.{◌≡◌, ◌+◌, ℕ, Bool, true, false, nat_lt
 use Rattle.std.specs.List.{flat_map}
 use Rattle.policy.specs.Policy.{region_lengths}
 use Rattle.regions.specs.Memory.{lengths_of}
-use Rattle.core_model.specs.declared.limits.TheConstants.{MOST_BEFORE}
+use Rattle.core_model.specs.Limits.{most_before}
 use Rattle.core_model.specs.declared.entry.Entry.{Entry}
 use Rattle.core_model.specs.declared.part.JoinFault.{JoinFault}
 use Rattle.core_model.specs.declared.part.JoinFault.TheVariants as fault
@@ -18,7 +18,7 @@ use Rattle.core_model.specs.Legal.{IsFollowedBy, SameOrigin, joined}
 
 -- whether more entries would lie before a history's next start than may (own)
 abbrev pub lies_too_far : History → Bool
-lies_too_far history = nat_lt MOST_BEFORE (history.origin.before + length history.entries)
+lies_too_far history = nat_lt most_before (history.origin.before + length history.entries)
 
 -- a history was rotated: the part is what it began from, its entries, and what follows from both, in regions as long and under the
 -- policy that was declared; the new one begins from the same as that part ends in, with no entry, and with places for as many (own)

@@ -1,7 +1,7 @@
 -- What a work-group is given: the regions that its packet holds, and the arguments that it had at its launch.
 use Rattle.std.specs.Prelude.{ℕ, ◌*◌, ◌==◌, not, List, filter, length, map, replicate, if◌then◌else◌}
 use Rattle.std.specs.List.{range_with_len, zip}
-use Rattle.aql_packet.specs.declared.memory.TheConstants.{REGION_SPAN}
+use Rattle.aql_packet.specs.Memory.{region_span}
 use Rattle.aql_packet.specs.declared.ids.QueueId.{QueueId}
 use Rattle.aql_packet.specs.declared.ids.PacketId.{PacketId}
 use Rattle.aql_packet.specs.declared.packet.KernelDispatch.{KernelDispatch}
@@ -50,7 +50,7 @@ held_regions start all =
 
 -- the first address of a region (own)
 abbrev pub first_address : RegionRights → ℕ
-first_address region = region.number * REGION_SPAN
+first_address region = region.number * region_span
 
 -- a held region as it is lent: only where READ is held its bytes are those of memory
 abbrev pub as_lent : Start → List Entry → RegionRights → LentRegion

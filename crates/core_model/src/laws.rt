@@ -53,7 +53,11 @@ ghost use Rattle.kernel_check.specs.Programs.{Program};
 ghost use Rattle.core_model.specs.Grants.{in_force};
 ghost use Rattle.core_model.specs.Memory.{memory_at, memory_from, signals};
 ghost use Rattle.regions.specs.Memory.{lies_in_region};
+ghost use Rattle.core_model.specs.Limits.{add64_number, copy_number, fill_number, launch_progress, most_before, most_entries, most_host_bytes, most_in_flight, most_queues, none_satisfied};
 ghost use Rattle.core_model.specs.declared.flight.TheConstants.{LAUNCH_PROGRESS};
+ghost use Rattle.core_model.specs.declared.limits.TheConstants.{MOST_BEFORE, MOST_ENTRIES, MOST_HOST_BYTES, MOST_IN_FLIGHT, QUEUES};
+ghost use Rattle.core_model.specs.declared.need.TheConstants.{ADD64, COPY, FILL};
+ghost use Rattle.core_model.specs.declared.outcome.TheConstants.{NONE_SATISFIED};
 ghost use Rattle.aql_packet.specs.Memory.{are_region_lengths};
 ghost use Rattle.core_model.specs.Holds.{arguments, held, own_rights};
 ghost use Rattle.core_model.specs.View.{GivenAtLaunch, given_at_launch};
@@ -344,7 +348,7 @@ pub fn nothing_is_told_of_what_is_not_there()
     ensures rights { (start : Start) (entries : List Entry) (queue : QueueId) (id : PacketId) (client : ClientId) (on : Object) (right : Right) →
         IsLegal start entries → in_flight start entries queue id ≡ None → held start entries queue id client on right ≡ false }
     ensures progress { (start : Start) (entries : List Entry) (queue : QueueId) (id : PacketId) →
-        IsLegal start entries → in_flight start entries queue id ≡ None → progress start entries queue id ≡ LAUNCH_PROGRESS }
+        IsLegal start entries → in_flight start entries queue id ≡ None → progress start entries queue id ≡ launch_progress }
     ensures arguments { (start : Start) (entries : List Entry) (queue : QueueId) (id : PacketId) →
         IsLegal start entries → in_flight start entries queue id ≡ None → arguments start entries queue id ≡ [] }
     ensures apart { (start : Start) (entries : List Entry) → IsLegal start entries → AreApart (flight start entries) }
@@ -372,4 +376,19 @@ pub fn what_leaves_flight_finds_room()
     ensures stop { (history : History) (queue : QueueId) (barrier : PacketId) → HasRoom history →
         barrier_in (flight_of (beginning history) history.entries queue) ≡ Some barrier → FindsRoom history (Call (Stop queue)) }
     ensures owes { (start : Start) (entries : List Entry) (event : Event) → owed start entries event ≡ refuses refusal.AuditFull → ⊥ }
+{}
+
+/// The code's limits and functions' numbers are those of the rules. A launch begins with no group run and no
+/// dependency seen as 0.
+pub fn numbers_are_those_of_the_rules()
+    ensures in_flight { MOST_IN_FLIGHT ≡ most_in_flight }
+    ensures queues { QUEUES ≡ most_queues }
+    ensures host_bytes { MOST_HOST_BYTES ≡ most_host_bytes }
+    ensures entries { MOST_ENTRIES ≡ most_entries }
+    ensures before { MOST_BEFORE ≡ most_before }
+    ensures fill { FILL ≡ fill_number }
+    ensures copy { COPY ≡ copy_number }
+    ensures add64 { ADD64 ≡ add64_number }
+    ensures launch { LAUNCH_PROGRESS ≡ launch_progress }
+    ensures unseen { NONE_SATISFIED ≡ none_satisfied }
 {}

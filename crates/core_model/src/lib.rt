@@ -34,9 +34,9 @@ pub use laws::{
     each_release_is_due, each_right_in_force_is_allowed, each_signal_change_was_granted,
     each_write_was_granted, faults_release_alone, groups_depend_on_what_they_read,
     held_rights_are_in_force, histories_go_on_from_their_states, joined_parts_are_legal,
-    law_of_flight, nothing_is_told_of_what_is_not_there, parts_lead_to_whole_histories,
-    refusals_change_nothing, rotations_hand_out_legal_parts, serving_keeps_a_history_legal,
-    taken_ids_go_on_from_the_start, what_leaves_flight_finds_room,
+    law_of_flight, nothing_is_told_of_what_is_not_there, numbers_are_those_of_the_rules,
+    parts_lead_to_whole_histories, refusals_change_nothing, rotations_hand_out_legal_parts,
+    serving_keeps_a_history_legal, taken_ids_go_on_from_the_start, what_leaves_flight_finds_room,
     whole_histories_begin_at_an_opening,
 };
 pub use limits::{MOST_BEFORE, MOST_ENTRIES, MOST_HOST_BYTES, MOST_IN_FLIGHT, QUEUES};

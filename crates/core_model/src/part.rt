@@ -28,11 +28,13 @@ impl Model for Part {
 }
 
 /// Why two parts aren't joined.
-#[derive(Clone, Copy, Debug, PartialEq, Eq)]
+#[derive(Clone, Copy, Debug, PartialEq, Eq, thiserror::Error)]
 pub enum JoinFault {
     /// Memory was wanted and not to be had.
+    #[error("out of memory")]
     OutOfMemory,
     /// The second doesn't begin from what the first ends in.
+    #[error("the second part does not begin where the first ends")]
     NotNext,
 }
 
