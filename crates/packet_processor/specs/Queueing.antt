@@ -4,7 +4,7 @@ use Rattle.aql_packet.specs.declared.ids.PacketId.{PacketId}
 use Rattle.aql_packet.specs.declared.packet.Packet.{Packet}
 use Rattle.core_model.specs.declared.flight.Progress.{Progress}
 use Rattle.core_model.specs.declared.outcome.WaitCause.{WaitCause}
-use Rattle.core_model.specs.declared.flight.TheConstants.{LAUNCH_PROGRESS}
+use Rattle.core_model.specs.Limits.{launch_progress}
 use Rattle.packet_processor.specs.declared.places.FoundPacket.{FoundPacket}
 use Rattle.packet_processor.specs.declared.places.Place.{Place}
 use Rattle.packet_processor.specs.declared.queue_state.QueueState.{QueueState}
@@ -15,7 +15,7 @@ use Rattle.packet_processor.specs.declared.queue_state.MayLaunch.TheVariants.{Go
 
 -- the place of a packet as it is launched
 abbrev pub as_launched : PacketId → Packet → Place
-as_launched id p = record { id = id; packet = p; progress = LAUNCH_PROGRESS }
+as_launched id p = record { id = id; packet = p; progress = launch_progress }
 
 -- whether a place is that of the packet with an id
 abbrev pub is_place_of : PacketId → Place → Bool

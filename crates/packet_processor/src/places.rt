@@ -2,7 +2,7 @@
 
 ghost use Rattle.std.specs.Prelude.{◌≡◌, ◌==◌, ◌<◌, ◌++◌, ◌∷◌, [], All, IfSome, find, length, map, option_map};
 ghost use Rattle.std.specs.Option.{option_copied};
-ghost use Rattle.core_model.specs.declared.limits.TheConstants.{MOST_IN_FLIGHT};
+ghost use Rattle.core_model.specs.Limits.{most_in_flight};
 ghost use Rattle.core_model.specs.LaunchRules.{is_barrier};
 ghost use Rattle.packet_processor.specs.Queueing.{IsFoundIn, IsIndexOf, as_launched, is_place_of, with_progress, without_packet};
 
@@ -136,7 +136,7 @@ impl Places {
 
     /// Puts a packet that is launched into a place that is free. Its id is above those of the others.
     pub fn launch(&mut self, id: PacketId, packet: Packet)
-        requires free { length self.old < MOST_IN_FLIGHT }
+        requires free { length self.old < most_in_flight }
         requires above { All (λ place. place.id.0 < id.0) self.old }
         ensures { self.new ≡ self.old ++ as_launched id packet ∷ [] }
     {
