@@ -30,5 +30,4 @@ pub mod Least
 pub mod Opened
 pub mod Rotated
 mod Rotating
-pub mod Serving
 pub mod PolicyRows

@@ -11,14 +11,10 @@ use Rattle.access_core.specs.Cores.{Core}
 abbrev pub KeepsPlaces : Event → Core → Core → Type 0
 KeepsPlaces event old new = may_lack_memory event (due old.history event) ≡ false → new.places ≡ old.places
 
--- an opening and a take keep the places so; every other event leaves all of them, even where it may want memory
-abbrev pub MadeInPlace : Event → Core → Core → Type 0
-MadeInPlace (Open client agent size) old new = KeepsPlaces (Open client agent size) old new
-MadeInPlace (Take queue packet bytes) old new = KeepsPlaces (Take queue packet bytes) old new
-MadeInPlace _ old new = new.places ≡ old.places
-
--- and so does a request, for each query leaves them, and so does a policy that is handed in
+-- an opening and a take keep the places so; every other request leaves all of them, even where it may want memory
 abbrev pub ServedInPlace : Request → Core → Core → Type 0
-ServedInPlace (request.Event event) old new = MadeInPlace event old new
-ServedInPlace (request.Query query) old new = new.places ≡ old.places
+ServedInPlace (request.Open client agent size) old new = KeepsPlaces (Open client agent size) old new
+ServedInPlace (request.Take queue packet bytes) old new = KeepsPlaces (Take queue packet bytes) old new
+ServedInPlace (request.Call asked) old new = new.places ≡ old.places
+ServedInPlace (request.Query asked) old new = new.places ≡ old.places
 ServedInPlace (request.Reload policy) old new = new.places ≡ old.places

@@ -29,6 +29,7 @@ use crate::argument_blocks::ArgumentBlocks;
 use crate::kernel::Kernel;
 use crate::queue::Queue;
 use aql_packet::KernelObject;
+use boxed::Boxed;
 use core_model::{Effects, Entry, Event, KernelSegments, Origin, Outcome};
 use grants::Grants;
 use regions::Regions;
@@ -65,7 +66,7 @@ impl From<AllocError> for OpenFault {
 /// and how many places its tables have.
 pub struct AccessCore {
     /// What its history begins from, and with it the policy that it was opened with.
-    start: Origin,
+    start: Boxed<Origin>,
     /// The kernels, in order.
     kernels: Vec<Kernel>,
     /// How large their segments are.

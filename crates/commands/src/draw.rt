@@ -100,7 +100,7 @@ fn draw_under<R: io::Read, O: io::Write, E: io::Write>(
 }
 
 /// Draws the run of a script over a policy as `draw_policy` does, and notes what the reader and the writers answered. It
-/// fails only where `run_policy_noting` does, or where there is no memory for the page, which `no memory` on `err` tells.
+/// fails only where `run_policies_noting` does, or where there is no memory for the page, which `no memory` on `err` tells.
 pub fn draw_policy_noting<R: io::Read, O: io::Write, E: io::Write>(
     alloc: Global,
     text: &[u8],

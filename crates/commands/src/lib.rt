@@ -20,5 +20,5 @@ pub use failure::Failure;
 pub use further::PolicyText;
 pub use kernel_judging::{KernelCause, KernelError, KernelFault, check_kernels};
 pub use laws::missing_entries_are_told;
-pub use run::{run_policies, run_policies_noting, run_policy, run_policy_noting};
+pub use run::{run_policies, run_policies_noting, run_policy};
 pub use status::Status;

@@ -166,23 +166,6 @@ pub fn run_policies<R: io::Read, O: io::Write, E: io::Write>(
     run_policies_noting(alloc, text, further, places, script, out, err, &mut noted)
 }
 
-/// Runs a script over a policy as `run_policy` does, and notes what the reader and the writers answered.
-pub fn run_policy_noting<R: io::Read, O: io::Write, E: io::Write>(
-    alloc: Global,
-    text: &[u8],
-    places: usize,
-    script: &mut R,
-    out: &mut O,
-    err: &mut E,
-    noted: &mut CommandLog,
-) -> Status
-    requires { noted.old ≡ none_noted }
-    ensures { RunsPolicies text.now [] places noted.new (streams (R.remaining script.old) (O.contents out.old) (E.contents err.old))
-        (streams (R.remaining script.new) (O.contents out.new) (E.contents err.new)) result }
-{
-    run_policies_noting(alloc, text, &[], places, script, out, err, noted)
-}
-
 /// Runs a script over the policy in a text as `run_policies` does, with no further policies.
 pub fn run_policy<R: io::Read, O: io::Write, E: io::Write>(
     alloc: Global,

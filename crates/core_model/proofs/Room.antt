@@ -318,7 +318,9 @@ module _ (old : History) (room : HasRoom old) (event : Event) where
   event-roomy new reply (inr lacks) = subst HasRoom (sym lacks.history_is) room
 
 request-roomy : (old new : History) (asked : Request) (reply : AnswerOrRefusal) → HasRoom old → IsServed old asked reply new → HasRoom new
-request-roomy old new (request.Event event) reply room served = event-roomy old room event new served.0 served.2
+request-roomy old new (request.Open client agent size) reply room served = event-roomy old room (Open client agent size) new served.0 served.2
+request-roomy old new (request.Take queue packet bytes) reply room served = event-roomy old room (Take queue packet bytes) new served.0 served.2
+request-roomy old new (request.Call asked) reply room served = event-roomy old room (Call asked) new served.0 served.2
 request-roomy old new (request.Query query) reply room served = subst HasRoom (sym served.1) room
 request-roomy old new (request.Reload policy) reply room served = by_reload served.2
   where

@@ -3,7 +3,7 @@ use Rattle.std.proofs.Common.{◌≡◌, List, [], ◌∷◌, ◌++◌, refl, sy
 use Rattle.std.specs.Prelude.{if◌then◌else◌}
 use Rattle.std.proofs.lemmas.List.{append-nil}
 use Rattle.core_model.specs.declared.event.Event.{Event}
-use Rattle.core_model.specs.declared.event.Event.TheVariants.{Reload}
+use Rattle.core_model.specs.declared.event.Event.TheVariants.{Call, Open, Reload, Take}
 use Rattle.core_model.specs.declared.event.Request.{Request}
 use Rattle.core_model.specs.declared.event.Request.TheVariants as request
 use Rattle.core_model.specs.declared.outcome.Outcome.{Outcome}
@@ -11,7 +11,7 @@ use Rattle.core_model.specs.declared.refusal.Refusal.{Refusal}
 use Rattle.core_model.specs.declared.refusal.Refusal.TheVariants as refusal
 use Rattle.core_model.specs.History.{beginning, History}
 use Rattle.core_model.specs.Owed.{Owed, owed, refuses, answers, enters}
-use Rattle.core_model.specs.Legal.{IsLegal, IsServed, MeetsOrLacks, ReloadMeetsOrLacks, AreReplies, as_reply, reply_of, due, entry_of, history_after, lacks_room, within_room}
+use Rattle.core_model.specs.Legal.{IsLegal, IsMade, IsServed, MeetsOrLacks, ReloadMeetsOrLacks, AreReplies, as_reply, reply_of, due, entry_of, history_after, lacks_room, within_room}
 use Rattle.core_model.specs.Queries.{AnswerOrRefusal}
 use Rattle.core_model.specs.Headline.{GoesOn}
 use Rattle.core_model.proofs.States.{IsLegal-more}
@@ -55,7 +55,9 @@ module _ (old : History) (legal : Legal old) (event : Event) where
   event-goes_on new reply (inr lacks) = stays old new legal lacks.history_is
 
 request-goes_on : (old new : History) (asked : Request) (reply : AnswerOrRefusal) → Legal old → IsServed old asked reply new → GoesOn old new
-request-goes_on old new (request.Event event) reply legal served = event-goes_on old legal event new served.0 served.2
+request-goes_on old new (request.Open client agent size) reply legal served = event-goes_on old legal (Open client agent size) new served.0 served.2
+request-goes_on old new (request.Take queue packet bytes) reply legal served = event-goes_on old legal (Take queue packet bytes) new served.0 served.2
+request-goes_on old new (request.Call asked) reply legal served = event-goes_on old legal (Call asked) new served.0 served.2
 request-goes_on old new (request.Query query) reply legal served = stays old new legal served.1
 request-goes_on old new (request.Reload policy) reply legal served = by_reload served.2
   where
@@ -88,9 +90,14 @@ refused-event old new event why (refuses _) told is = is
 refused-event old new event why (answers outcome) told is = absurd cc
 refused-event old new event why (enters outcome effects) told is = absurd cc
 
+refused-made : (old new : History) (event : Event) (why : Refusal) → IsMade event old (Err why) new → new ≡ old
+refused-made old new event why (made, told, inl meets) = refused-event old new event why (due old event) (told ∙ ap as_reply meets.reply_is) meets.history_is
+refused-made old new event why (made, told, inr lacks) = lacks.history_is
+
 pub refused-stays : (old new : History) (asked : Request) (why : Refusal) → IsServed old asked (Err why) new → new ≡ old
-refused-stays old new (request.Event event) why (made, told, inl meets) = refused-event old new event why (due old event) (told ∙ ap as_reply meets.reply_is) meets.history_is
-refused-stays old new (request.Event event) why (made, told, inr lacks) = lacks.history_is
+refused-stays old new (request.Open client agent size) why served = refused-made old new (Open client agent size) why served
+refused-stays old new (request.Take queue packet bytes) why served = refused-made old new (Take queue packet bytes) why served
+refused-stays old new (request.Call asked) why served = refused-made old new (Call asked) why served
 refused-stays old new (request.Query query) why served = served.1
 refused-stays old new (request.Reload policy) why (made, told, inl other) = other.history_is
 refused-stays old new (request.Reload policy) why (made, told, inr (same, inl meets)) = refused-event old new (Reload policy.rows) why (due old (Reload policy.rows)) (told ∙ ap as_reply meets.reply_is) meets.history_is

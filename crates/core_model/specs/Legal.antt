@@ -180,10 +180,16 @@ abbrev pub RepliesOrLacks : Query → History → AnswerOrRefusal → Type 0
 RepliesOrLacks asked history reply =
     Replies asked history reply ⊎ ((query_may_lack_memory (query_answer (beginning history) history.entries asked) ≡ true) × (reply ≡ Err refusal.OutOfMemory))
 
--- a request was served: an event got and left what was due, so did the reload of a policy that declares as before, and a query, which
+-- an event was made: it got and left what was due, and was told so; or it was told that memory was wanted (own)
+abbrev pub IsMade : Event → History → AnswerOrRefusal → History → Type 0
+IsMade event old reply new = (made : Result Outcome Refusal) × (reply ≡ as_reply made) × MeetsOrLacks event old new made
+
+-- a request was served: its event got and left what was due, so did the reload of a policy that declares as before, and a query, which
 -- changes nothing, got its reply; or it was told that memory was wanted, and then it counts as not made (own)
 abbrev pub IsServed : History → Request → AnswerOrRefusal → History → Type 0
-IsServed old (request.Event event) reply new = (made : Result Outcome Refusal) × (reply ≡ as_reply made) × MeetsOrLacks event old new made
+IsServed old (request.Open client agent size) reply new = IsMade (Open client agent size) old reply new
+IsServed old (request.Take queue packet bytes) reply new = IsMade (Take queue packet bytes) old reply new
+IsServed old (request.Call asked) reply new = IsMade (Call asked) old reply new
 IsServed old (request.Query asked) reply new = RepliesOrLacks asked old reply × (new ≡ old)
 IsServed old (request.Reload policy) reply new = (made : Result Outcome Refusal) × (reply ≡ as_reply made) × ReloadMeetsOrLacks policy old new made
 

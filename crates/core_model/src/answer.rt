@@ -6,6 +6,7 @@ use crate::refusal::Refusal;
 use policy::{Object, Rights};
 use queue_error::QueueError;
 use sequences::Sequence;
+use std::mem::size_of;
 
 /// What a request that isn't refused is answered.
 #[derive(Debug, Drop)]
@@ -31,3 +32,6 @@ pub enum Answer {
 
 /// The answer to a request, or why it was refused.
 pub type Reply = Result<Answer, Refusal>;
+
+// A reply is small, since each hand moves the whole value.
+const _: () = prove!(size_of::<Reply>() <= 128);

@@ -7,6 +7,7 @@ use policy::{Object, Rights};
 use sequences::Sequence;
 use signals::SignalOp;
 use std::alloc::{AllocError, Global};
+use std::mem::size_of;
 
 /// A call of a client or an administrator that can change the core, with all that was handed to it. It neither
 /// opens a queue nor hands over a packet.
@@ -56,6 +57,9 @@ pub enum Call {
         operation: SignalOp,
     },
 }
+
+// A call is small, since each hand moves the whole value.
+const _: () = prove!(size_of::<Call>() <= 128);
 
 impl Call {
     /// The same call once more, with bytes of its own.

@@ -8,6 +8,7 @@ use crate::outcome::Outcome;
 use aql_packet::{Address, PacketId, QueueId, SignalHandle};
 use sequences::Sequence;
 use std::alloc::{AllocError, Global};
+use std::mem::size_of;
 
 /// A change that an event made.
 #[derive(Debug, Drop, PartialEq, Eq)]
@@ -60,6 +61,9 @@ pub struct Entry {
     pub outcome: Outcome,
     pub effects: Effects,
 }
+
+// The audit's room is got for so many entries at once.
+const _: () = prove!(size_of::<Entry>() <= 320);
 
 impl Entry {
     /// The same entry once more, with bytes of its own.

@@ -4,9 +4,12 @@ ghost use Rattle.std.specs.Prelude.{◌≡◌, IfOk};
 
 use crate::call::Call;
 use aql_packet::{Address, AgentHandle, ClientId, PacketId, QueueId, SignalHandle};
+use boxed::Boxed;
 use policy::{Policy, PolicyRows};
+
 use signals::Condition;
 use std::alloc::{AllocError, Global};
+use std::mem::size_of;
 
 /// What can change the core, with all that was handed to it. An audit entry keeps it.
 #[derive(Debug, Drop, PartialEq, Eq)]
@@ -96,11 +99,29 @@ pub enum Query {
     Audit,
 }
 
-/// A call of the core.
+/// A call of the core: one for each event but a reload, which is asked for by its policy.
 #[derive(Drop)]
 pub enum Request {
-    Event(Event),
+    /// A client opens a queue of `size` slots on an agent.
+    Open {
+        client: ClientId,
+        agent: AgentHandle,
+        size: u64,
+    },
+    /// The packet processor hands over the next packet of a queue: its id and its 64 bytes.
+    Take {
+        queue: QueueId,
+        packet: PacketId,
+        bytes: [u8; 64],
+    },
+    /// A client or an administrator calls.
+    Call(Call),
+    /// A call that changes nothing.
     Query(Query),
     /// An administrator hands in a policy, whose rows on rights are to be in force from then on.
-    Reload(Policy),
+    Reload(Boxed<Policy>),
 }
+
+// Values that are passed on with each call are small, since each hand moves the whole value.
+const _: () = prove!(size_of::<Event>() <= 128);
+const _: () = prove!(size_of::<Request>() <= 128);

@@ -2,6 +2,7 @@
 
 use aql_packet::QueueId;
 use queue_error::QueueError;
+use std::mem::size_of;
 
 /// Why a packet may not start yet (PSA, Architected Queuing Language: the barrier bit and barrier
 /// packets; the number of slots is own).
@@ -68,3 +69,6 @@ pub enum Outcome {
     /// A signal was changed: its old value for an exchange or a compare-and-swap, else 0.
     Changed(i64),
 }
+
+// An outcome is small, since each hand moves the whole value.
+const _: () = prove!(size_of::<Outcome>() <= 128);

@@ -6,6 +6,7 @@ ghost use Rattle.core_model.specs.Rotation.{GoOn, Joins, LeadTo};
 
 use crate::entry::Entry;
 use crate::origin::Origin;
+use boxed::Boxed;
 use sequences::Reserved;
 use std::alloc::{AllocError, Global};
 use std::marker::Model;
@@ -14,9 +15,9 @@ use std::marker::Model;
 /// history goes on. A rotation hands one out.
 #[derive(Drop)]
 pub struct Part {
-    start: Origin,
+    start: Boxed<Origin>,
     entries: Reserved<Entry>,
-    end: Origin,
+    end: Boxed<Origin>,
 }
 
 impl Model for Part {
@@ -62,7 +63,7 @@ impl JoinFault {
 
 impl Part {
     /// A part of what it begins from, its entries, and what follows from both.
-    pub fn new(start: Origin, entries: Reserved<Entry>, end: Origin) -> Part
+    pub fn new(start: Boxed<Origin>, entries: Reserved<Entry>, end: Boxed<Origin>) -> Part
         ensures { result ≡ record { start = start; entries = entries.items; end = end } }
     {
         Part {
@@ -76,7 +77,7 @@ impl Part {
     pub fn start(&self) -> &Origin
         ensures { result.now ≡ self.now.start }
     {
-        &self.start
+        self.start.as_ref()
     }
 
     /// Its entries, in order.
@@ -90,7 +91,7 @@ impl Part {
     pub fn end(&self) -> &Origin
         ensures { result.now ≡ self.now.end }
     {
-        &self.end
+        self.end.as_ref()
     }
 
     /// Whether another part begins from what this one ends in. It takes no memory.

@@ -8,11 +8,11 @@ use aql_packet::{
     PacketId, QueueId, RegionHandle, Scope, SignalHandle, encode,
 };
 use bitflags::Flags;
-use core_model::{Answer, Event, Outcome, Query, Refusal, Reply, Request, Taken, Worked};
+use core_model::{Answer, Outcome, Query, Refusal, Reply, Request, Taken, Worked};
 use policy::{Object, Policy, Rights};
 use queue_error::{QueueError, Rule};
-use sequences::{Reserved, Sequence};
-use std::alloc::{AllocError, Global};
+use sequences::Sequence;
+use std::alloc::Global;
 use std::test::*;
 
 const NORA: ClientId = ClientId(1);
@@ -247,71 +247,52 @@ fn a_packet_is_handed_over_once(rt: HostRuntime) -> Result<(), Fail> {
 }
 
 fn hand_over() -> Request {
-    Request::Event(Event::Take {
+    Request::Take {
         queue: QUEUE,
         packet: PacketId(0),
         bytes: encode(&FILL),
-    })
-}
-
-fn push(requests: &mut Vec<Request>, request: Request) -> Result<(), Fail> {
-    Ok(requests.push(request)?)
-}
-
-/// Asks for the hand-over of a packet, and two queries.
-fn push_three(requests: &mut Vec<Request>) -> Result<(), Fail> {
-    push(requests, hand_over())?;
-    push(requests, Request::Query(Query::Errors { queue: QUEUE }))?;
-    push(requests, Request::Query(Query::Audit))
-}
-
-/// The hand-over of a packet, and two queries.
-fn three_requests(alloc: Global) -> Result<Vec<Request>, Fail> {
-    let mut requests = Vec::new(alloc);
-    push_three(&mut requests)?;
-    Ok(requests)
-}
-
-/// Whether these replies tell of a launch, of no error, and of so many entries.
-fn tell(replies: &[Reply], entries: usize) -> bool {
-    let [
-        Ok(Answer::Outcome(first)),
-        Ok(Answer::Errors(errors)),
-        Ok(Answer::Audit { entries: audit, .. }),
-    ] = replies
-    else {
-        return false;
-    };
-    *first == Outcome::Taken(Taken::Launched) && errors.is_empty() && audit.len() == entries
-}
-
-fn served(
-    alloc: Global,
-    core: &mut AccessCore,
-    requests: Vec<Request>,
-) -> Result<Reserved<Reply>, AllocError> {
-    core.serve_all(alloc, requests)
-}
-
-/// Whether three requests are replied to.
-fn tells_three(alloc: Global, core: &mut AccessCore) -> Result<bool, Fail> {
-    let requests = three_requests(alloc)?;
-    let replies = served(alloc, core, requests)?;
-    Ok(tell(replies.as_slice(), 7))
-}
-
-/// Whether three requests on a queue of Nora's are replied to.
-fn serves_three(alloc: Global, mut core: AccessCore) -> Result<bool, Fail> {
-    if grants_all(&mut core) && opens_queue(alloc, &mut core) {
-        tells_three(alloc, &mut core)
-    } else {
-        Ok(false)
     }
 }
 
+/// Whether a reply tells of a launch.
+fn tells_launch(reply: Reply) -> bool {
+    match reply {
+        Ok(Answer::Outcome(outcome)) => outcome == Outcome::Taken(Taken::Launched),
+        _other => false,
+    }
+}
+
+/// Whether a reply lists no error.
+fn tells_no_error(reply: Reply) -> bool {
+    match reply {
+        Ok(Answer::Errors(errors)) => errors.is_empty(),
+        _other => false,
+    }
+}
+
+/// Whether a reply has so many entries.
+fn tells_entries(reply: Reply, count: usize) -> bool {
+    match reply {
+        Ok(Answer::Audit { entries, .. }) => entries.len() == count,
+        _other => false,
+    }
+}
+
+/// Whether the hand-over of a packet and two queries are replied to.
+fn tells_three(alloc: Global, core: &mut AccessCore) -> bool {
+    tells_launch(core.serve(alloc, hand_over()))
+        && tells_no_error(core.serve(alloc, Request::Query(Query::Errors { queue: QUEUE })))
+        && tells_entries(core.serve(alloc, Request::Query(Query::Audit)), 7)
+}
+
+/// Whether three requests on a queue of Nora's are replied to.
+fn serves_three(alloc: Global, mut core: AccessCore) -> bool {
+    grants_all(&mut core) && opens_queue(alloc, &mut core) && tells_three(alloc, &mut core)
+}
+
 #[test]
-fn requests_are_served_in_turn(rt: HostRuntime) -> Result<(), Fail> {
-    assert!(rt; serves_three(rt.alloc(), fresh(rt.alloc())?)?);
+fn requests_are_served(rt: HostRuntime) -> Result<(), Fail> {
+    assert!(rt; serves_three(rt.alloc(), fresh(rt.alloc())?));
     Ok(())
 }
 

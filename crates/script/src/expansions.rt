@@ -1,6 +1,6 @@
 //! Lines are done: each makes a request of the world, or has a packet go its way through a ring, and its value is told.
 
-ghost use Rattle.std.specs.Prelude.{◌≡◌};
+ghost use Rattle.std.specs.Prelude.{◌≡◌, IfOk};
 ghost use Rattle.std.specs.Option.{option_copied};
 ghost use Rattle.policy.specs.Policy.{numbered};
 ghost use Rattle.world.specs.Actions.{asks};
@@ -8,11 +8,12 @@ ghost use Rattle.script.specs.Expansions.{ask, IsCopied, does, meaning_of, meani
 
 use crate::command::{Command, LineAnswer, LineReply, NumberMeaning};
 use aql_packet::{PacketId, QueueId};
+use boxed::Boxed;
 use core_model::Call;
 use policy::Policy;
 use ring_core::{Access, Seen};
 use signals::SignalOp;
-use std::alloc::Global;
+use std::alloc::{AllocError, Global};
 use world::{Answer, Refusal, Reply, Request, Served, Shown, World};
 
 // Whether an operation's old value is told.
@@ -167,16 +168,24 @@ fn serve_line(alloc: Global, world: &mut World, queue: QueueId) -> LineReply
 }
 
 // A copy of the further policy of a number, from 1, if there is one.
-fn copied(alloc: Global, later: &[Policy], number: u64) -> Result<Policy, Refusal>
+fn copied(alloc: Global, later: &[Policy], number: u64) -> Result<Boxed<Policy>, Refusal>
     ensures { IsCopied (numbered later.now number) result }
 {
     match named(later, number) {
-        Some(policy) => match policy.copy(alloc) {
+        Some(policy) => match boxed_copy(alloc, policy) {
             Ok(copy) => Ok(copy),
             Err(_) => Err(Refusal::Core(core_model::Refusal::OutOfMemory)),
         },
         None => Err(Refusal::NotAStep),
     }
+}
+
+// A copy of a policy, in memory of its own.
+fn boxed_copy(alloc: Global, policy: &Policy) -> Result<Boxed<Policy>, AllocError>
+    ensures { IfOk result (λ copy. copy ≡ policy.now) }
+{
+    let copy = policy.copy(alloc)?;
+    Ok(Boxed::new(alloc, copy)?)
 }
 
 // The further policy of a number, from 1, if there is one.

@@ -265,10 +265,10 @@ module _ (core core' : History) (rings new : List QueueRing) (first : Declared) 
       by_due (inl m) queue = ap (λ (x : History). next_id (beginning x) x.entries queue) m.history_is ∙ opening_next core client agent (asked_size size producers) (due core (Open client agent (asked_size size producers))) queue
       by_due (inr l) queue = ap (λ (x : History). next_id (beginning x) x.entries queue) l.history_is
 
-  call_decided : (call : Call) → Asks (asked.Event (event.Call call)) core reply core' × (new ≡ rings) → AreDecided core' new
+  call_decided : (call : Call) → Asks (asked.Call call) core reply core' × (new ≡ rings) → AreDecided core' new
   call_decided call ((replied, served, told), same) = subst (AreDecided core') (sym same) (decided_along core core' rings (by_served served) d)
     where
-      by_served : cores_law.IsServed core (asked.Event (event.Call call)) replied core' → (queue : QueueId) → next_id (beginning core') core'.entries queue ≡ next_id (beginning core) core.entries queue
+      by_served : cores_law.IsServed core (asked.Call call) replied core' → (queue : QueueId) → next_id (beginning core') core'.entries queue ≡ next_id (beginning core) core.entries queue
       by_served (made, is, inl m) queue = ap (λ (x : History). next_id (beginning x) x.entries queue) m.history_is ∙ aside_next core (event.Call call) (call_aside call) (due core (event.Call call)) queue
       by_served (made, is, inr l) queue = ap (λ (x : History). next_id (beginning x) x.entries queue) l.history_is
 

@@ -110,7 +110,7 @@ kernels-on : (old mid : Joined) (reply : Reply) → HandsOn old reply mid → mi
 kernels-on old mid reply (stays none same) = same.kernels_are
 kernels-on old mid reply (parts part some starts ends kernels) = kernels
 
-kernels-stay : (old new : Joined) (requests : List Request) (replies : List Reply) → AreReplies old requests replies new → new.core.kernels ≡ old.core.kernels
+pub kernels-stay : (old new : Joined) (requests : List Request) (replies : List Reply) → AreReplies old requests replies new → new.core.kernels ≡ old.core.kernels
 kernels-stay old new [] [] are = ap (λ (world : Joined). world.core.kernels) are
 kernels-stay old new (asked ∷ requests) (reply ∷ replies) are =
     kernels-stay are.0 new requests replies are.2 ∙ kernels-on old are.0 reply (hands-on old are.0 asked reply are.1)

@@ -155,7 +155,7 @@ pub unparted_query : (world : Joined) (asked : Query) → IsUnparted world (due_
 unparted_query world asked = record { no_part = no_part_of_core (query_answer (beginning world.core) world.core.entries asked); begins = begins_self world.core }
 
 -- without a part no entry is handed out
-handed_none : (reply : Reply) → part_of reply ≡ None → handed reply ≡ []
+pub handed_none : (reply : Reply) → part_of reply ≡ None → handed reply ≡ []
 handed_none reply none = ap (λ (o : Option Handed). elim o [ None ↦ [] | Some part ↦ part.entries ]) none
 
 module _ (first : Declared) (prior : List Entry) (world : Joined) (h : IsJoinedBehind first prior world) where

@@ -5,6 +5,7 @@ pub mod Taking
 pub mod OpeningKept
 pub mod Kept
 pub mod GoingOn
+pub mod Asking
 pub mod Refusing
 pub mod Obeyed
 pub mod Deciding

@@ -132,10 +132,10 @@ module _ (core core' : History) (old new : List QueueRing) (decided : AreDecided
 
   -- ---- calls and queries
 
-  call_served : (call : Call) → Asks (asked.Event (event.Call call)) core reply core' × (new ≡ old) → IsServed (World core old) (request.Call call) reply (World core' new)
+  call_served : (call : Call) → Asks (asked.Call call) core reply core' × (new ≡ old) → IsServed (World core old) (request.Call call) reply (World core' new)
   call_served call ((replied, served, told), same) = by_served served
     where
-      by_served : cores_law.IsServed core (asked.Event (event.Call call)) replied core' → IsServed (World core old) (request.Call call) reply (World core' new)
+      by_served : cores_law.IsServed core (asked.Call call) replied core' → IsServed (World core old) (request.Call call) reply (World core' new)
       by_served (made, is, inl m) = inl (told ∙ ap of_core (is ∙ ap as_reply m.reply_is), λ i. joined (m.history_is i) (rings_of (same i)))
       by_served (made, is, inr l) = inr (l.may, told ∙ ap of_core (is ∙ ap as_reply l.reply_is), λ i. joined (l.history_is i) (rings_of (same i)))
 

@@ -1,5 +1,6 @@
 pub mod States
 pub mod Dues
+pub mod Asked
 pub mod InStep
 pub mod Making
 pub mod Headline

@@ -116,7 +116,7 @@ abbrev pub Obeys : Request → History → List QueueRing → Reply → History 
 Obeys (request.Step queue step) core old reply core' new = MakesAt (numbered old queue.0) queue step old reply new × (core' ≡ core)
 Obeys (request.Take queue) core old reply core' new = TakesAt (numbered old queue.0) queue core old reply core' new
 Obeys (request.OpenQueue client agent size producers) core old reply core' new = Opens client agent size producers core old reply core' new
-Obeys (request.Call call) core old reply core' new = Asks (asked.Event (event.Call call)) core reply core' × (new ≡ old)
+Obeys (request.Call call) core old reply core' new = Asks (asked.Call call) core reply core' × (new ≡ old)
 Obeys (request.Query query) core old reply core' new = Asks (asked.Query query) core reply core' × (new ≡ old)
 Obeys (request.Reload policy) core old reply core' new = Asks (asked.Reload policy) core reply core' × (new ≡ old)
 Obeys request.Rotate core old reply core' new = HandsOut core reply core' × (new ≡ old)

@@ -15,6 +15,7 @@ ghost use Rattle.world.specs.declared.lane.Shown.{Shown};
 ghost use Rattle.world.specs.declared.reply.Refusal.{Refusal};
 ghost use Rattle.world.specs.declared.request.Request.{Request};
 ghost use Rattle.world.specs.Actions.{Reaches};
+ghost use Rattle.world.specs.Asked.{GoesOnAsAsked, IsAsAsked};
 ghost use Rattle.world.specs.Dues.{AreReplies, IsServed, Reply, handed_out, parts_out};
 ghost use Rattle.world.specs.Headline.{Headline, IsBegun};
 ghost use Rattle.world.specs.Lanes.{peek, publish, retire, serve_next, submit};
@@ -36,10 +37,13 @@ use policy::{Kind, Policy};
 /// packet; each denial changes nothing and names the packet and the first rule that failed; a group that
 /// faults leaves nothing; and what was launched or denied of each queue is a beginning of what was published in
 /// its ring, whole, each once, in order. The history is that of all parts that replies handed out, in order, and
-/// then of the audit.
+/// then of the audit. The world has the kernels and the audit's room that it was opened with, and each entry is of one
+/// of the requests, in their order, with one entry a request at most.
 pub fn the_headline(policy: &Policy)
-    ensures { (kernels : List Program) (capacity : ℕ) (requests : List Request) (replies : List Reply) (opened world : Joined) →
+    ensures headline { (kernels : List Program) (capacity : ℕ) (requests : List Request) (replies : List Reply) (opened world : Joined) →
         IsBegun opened policy.now kernels capacity → AreReplies opened requests replies world → Headline policy.now (handed_out replies) world }
+    ensures asked { (kernels : List Program) (capacity : ℕ) (requests : List Request) (replies : List Reply) (opened world : Joined) →
+        IsBegun opened policy.now kernels capacity → AreReplies opened requests replies world → IsAsAsked kernels capacity requests (handed_out replies) world }
 {
     headline_of(policy);
 }
@@ -65,8 +69,14 @@ pub(crate) fn headline_of(policy: &Policy)
 /// Whatever came before, a list of requests goes on from it. The entries that its replies hand out, in order, and
 /// then those of the audit at its end are a legal history from where the audit began; the parts begin each where the
 /// one before it ends, and the audit where the last of them does. Behind all that was handed out, before and now,
-/// the world is in step, and so the headline holds of it (`World::headline`).
+/// the world is in step, and so the headline holds of it (`World::headline`). A world that was just opened
+/// (`World::open`) is in step, with no entry before. Over the list the kernels and the audit's room stay, and each entry
+/// more is of one of the requests, in their order.
 pub fn each_run_goes_on()
+    ensures opening { (policy : Declared) (kernels : List Program) (capacity : ℕ) (opened : Joined) →
+        IsBegun opened policy kernels capacity → IsJoinedBehind policy [] opened }
+    ensures asked { (requests : List Request) (replies : List Reply) (old new : Joined) →
+        AreReplies old requests replies new → GoesOnAsAsked old requests (handed_out replies) new }
     ensures joined { (first : Declared) (prior : List Entry) (requests : List Request) (replies : List Reply) (old new : Joined) →
         IsJoinedBehind first prior old → AreReplies old requests replies new → IsJoinedBehind first (prior ++ handed_out replies) new }
     ensures legal { (first : Declared) (prior : List Entry) (requests : List Request) (replies : List Reply) (old new : Joined) →

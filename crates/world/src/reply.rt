@@ -3,6 +3,7 @@
 use aql_packet::PacketId;
 use core_model::{Part, Taken};
 use ring_core::Seen;
+use std::mem::size_of;
 
 /// What a request that isn't refused is answered.
 #[derive(Drop)]
@@ -33,3 +34,6 @@ pub enum Refusal {
 
 /// The reply to a request.
 pub type Reply = Result<Answer, Refusal>;
+
+// A reply is small, since each hand moves the whole value.
+const _: () = prove!(size_of::<Reply>() <= 128);

@@ -1,9 +1,11 @@
 //! What can be asked of the world.
 
 use aql_packet::{AgentHandle, ClientId, QueueId};
+use boxed::Boxed;
 use core_model::{Call, Query};
 use policy::Policy;
 use ring_core::Step;
+use std::mem::size_of;
 
 /// What can be asked of the world: one step, or a query.
 #[derive(Drop)]
@@ -29,7 +31,10 @@ pub enum Request {
     /// A call of the core that changes nothing.
     Query(Query),
     /// An administrator hands in a policy, whose rows on rights are to be in force from then on.
-    Reload(Policy),
+    Reload(Boxed<Policy>),
     /// The audit so far is to be handed out, as a part, and another begun.
     Rotate,
 }
+
+// A request is small, since each hand moves the whole value.
+const _: () = prove!(size_of::<Request>() <= 128);

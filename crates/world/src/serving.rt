@@ -16,7 +16,7 @@ use crate::request::Request;
 use crate::rings::{make_step, next_packet, note_taken};
 use access_core::AccessCore;
 use aql_packet::{AgentHandle, ClientId, QueueId, bytes_of};
-use core_model::{Event, Outcome};
+use core_model::Outcome;
 use ring_core::{RingState, is_producer_count};
 use std::alloc::{AllocError, Global};
 
@@ -55,7 +55,7 @@ pub(crate) fn serve_request(
             };
             open(alloc, core, rings, opening)
         }
-        Request::Call(call) => ask(alloc, core, core_model::Request::Event(Event::Call(call))),
+        Request::Call(call) => ask(alloc, core, core_model::Request::Call(call)),
         Request::Query(query) => ask(alloc, core, core_model::Request::Query(query)),
         Request::Reload(policy) => ask(alloc, core, core_model::Request::Reload(policy)),
         Request::Rotate => rotate(alloc, core),

@@ -17,10 +17,9 @@ pub record IsFirst (policy : Declared) (state : State) : Type 0 where
   pub memory : state.memory ≡ zeros (region_lengths policy)
   pub signals : state.signals ≡ initial_values policy
 
--- what a core begins with: that state, once to be changed and once as what its history begins from; the kernels' segments, and an empty
--- audit with room for its entries
+-- what a core begins with beside what its history begins from: that state, to be changed; the kernels' segments, and an empty audit with
+-- room for its entries
 pub record IsUntouched (policy : Declared) (kernels : List Kernel) (capacity : ℕ) (parts : Parts) : Type 0 where
-  pub start : IsFirst policy parts.start
   pub state : IsFirst policy parts.state
   pub segments : parts.segments.items ≡ map segments_of (map program_of kernels)
   pub empty : parts.audit.items ≡ []

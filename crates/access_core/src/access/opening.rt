@@ -14,6 +14,7 @@ use crate::access::{AccessCore, OpenFault};
 use crate::argument_blocks::ArgumentBlocks;
 use crate::kernel::Kernel;
 use aql_packet::{KernelObject, RegionHandle, SignalHandle};
+use boxed::Boxed;
 use core_model::{Entry, KernelSegments, MOST_ENTRIES, Origin};
 use grants::Grants;
 use policy::{Kind, Policy};
@@ -30,13 +31,10 @@ struct State {
     signals: Signals,
 }
 
-/// What a core gets memory for when it is opened.
+/// What a core gets memory for when it is opened, beside what its history begins from.
 #[derive(Drop)]
 struct Parts {
     segments: Vec<KernelSegments>,
-    /// What its history begins from.
-    start: State,
-    /// The same, to be changed.
     state: State,
     audit: Reserved<Entry>,
 }
@@ -59,7 +57,10 @@ impl AccessCore {
             return Err(fault);
         }
         match get_parts(alloc, &policy, kernels.as_slice(), capacity) {
-            Ok(parts) => Ok(blank(alloc, policy, kernels, capacity, parts)),
+            Ok(parts) => match opening_origin(alloc, policy) {
+                Ok(start) => Ok(blank(alloc, start, kernels, capacity, parts)),
+                Err(_) => Err(OpenFault::OutOfMemory),
+            },
             Err(_) => Err(OpenFault::OutOfMemory),
         }
     }
@@ -104,12 +105,10 @@ fn get_parts(
     ensures { IfOk result (IsUntouched policy.now kernels.now capacity) }
 {
     let segments = segments(alloc, kernels)?;
-    let start = first_state(alloc, policy)?;
     let state = first_state(alloc, policy)?;
     let audit = Reserved::with_room(alloc, capacity)?;
     Ok(Parts {
         segments,
-        start,
         state,
         audit,
     })
@@ -220,8 +219,25 @@ fn value_at(policy: &Policy, before: usize) -> i64
         .unwrap_or(0)
 }
 
+// What a history begins from in which nothing has happened, in memory of its own.
+fn opening_origin(alloc: Global, policy: Policy) -> Result<Boxed<Origin>, AllocError>
+    ensures { IfOk result (IsOpeningOrigin policy) }
+{
+    match first_state(alloc, &policy) {
+        Ok(state) => boxed(alloc, first_origin(alloc, policy, state)),
+        Err(want) => Err(want),
+    }
+}
+
+// What a history begins from, in memory of its own.
+fn boxed(alloc: Global, origin: Origin) -> Result<Boxed<Origin>, AllocError>
+    ensures { IfOk result (λ kept. kept ≡ origin) }
+{
+    Ok(Boxed::new(alloc, origin)?)
+}
+
 // What a history begins from in which nothing has happened.
-fn opening_origin(alloc: Global, policy: Policy, state: State) -> Origin
+fn first_origin(alloc: Global, policy: Policy, state: State) -> Origin
     requires { IsFirst policy state }
     ensures { IsOpeningOrigin policy result }
 {
@@ -245,19 +261,19 @@ fn opening_origin(alloc: Global, policy: Policy, state: State) -> Origin
 #[tactic(none)]
 fn blank(
     alloc: Global,
-    policy: Policy,
+    start: Boxed<Origin>,
     kernels: Vec<Kernel>,
     capacity: usize,
     parts: Parts,
 ) -> AccessCore
-    requires untouched { IsUntouched policy kernels.items capacity parts }
+    requires begins { IsOpeningOrigin start.policy start }
+    requires untouched { IsUntouched start.policy kernels.items capacity parts }
     requires entries { All (λ kernel. has_entry kernel ≡ true) kernels.items }
     requires few { is_capacity capacity ≡ true }
-    ensures { IsOpening result.history policy (map program_of kernels.items) capacity }
+    ensures { IsOpening result.history start.policy (map program_of kernels.items) capacity }
 {
     let Parts {
         segments,
-        start,
         state,
         audit,
     } = parts;
@@ -267,7 +283,7 @@ fn blank(
         signals,
     } = state;
     AccessCore {
-        start: opening_origin(alloc, policy, start),
+        start,
         kernels,
         segments,
         grants,

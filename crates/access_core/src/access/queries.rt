@@ -27,14 +27,14 @@ impl AccessCore {
     pub fn policy(&self) -> &Policy
         ensures { result.now ≡ self.now.history.origin.policy }
     {
-        &self.start.policy
+        &self.start.as_ref().policy
     }
 
     /// What its history began from: the opening, or where the last rotation left off.
     pub fn start(&self) -> &Origin
         ensures { result.now ≡ self.now.history.origin }
     {
-        &self.start
+        self.start.as_ref()
     }
 
     /// The rows on rights in force: those of the policy that was put in force last.
@@ -66,7 +66,7 @@ impl AccessCore {
         ensures before { result ≡ (beginning self.now.history).before }
         ensures few { result ≤ MOST_BEFORE }
     {
-        self.start.before
+        self.start.as_ref().before
     }
 
     /// How long these tables of the core are, as its history says: calls that take no memory make none of them

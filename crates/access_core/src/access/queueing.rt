@@ -85,7 +85,7 @@ impl AccessCore {
         ensures few { OnOk result (length (openings (beginning self.now.history) self.now.history.entries) < QUEUES) }
         ensures why { IfErr result (λ why. due self.now.history (Event.Open client agent size) ≡ refuses why) }
     {
-        if !self.start.policy.declares_client(client) {
+        if !self.policy().declares_client(client) {
             return Err(Refusal::UnknownClient);
         }
         if !self.is_in_force(client, Object::Agent(agent), Right::Use) {

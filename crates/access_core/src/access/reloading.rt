@@ -43,18 +43,7 @@ impl AccessCore {
     fn declares_as(&self, policy: &Policy) -> bool
         ensures { result ≡ true ↔ DeclaresAs (beginning self.now.history).policy policy.now }
     {
-        self.start.policy.declares_as(policy)
-    }
-
-    // The same by the rows alone.
-    pub(crate) fn reload_rows(&mut self, alloc: Global, rows: PolicyRows) -> Result<(), Refusal>
-        ensures met { MeetsOrLacks (Event.Reload rows) self.old.history self.new.history (as_accepted result) }
-        ensures places { self.new.places ≡ self.old.places }
-    {
-        self.may_reload(&rows)?;
-        let told = rows.copy(alloc)?;
-        self.put_rows(rows, told);
-        Ok(())
+        self.policy().declares_as(policy)
     }
 
     // Whether rows may be put in force: no packet in flight holds a right that they don't allow, and the audit

@@ -7,7 +7,7 @@ ghost use Rattle.policy.specs.Policy.{numbered};
 ghost use Rattle.core_model.specs.History.{begin, beginning};
 ghost use Rattle.policy.specs.Policy.{region_lengths};
 ghost use Rattle.regions.specs.Memory.{lengths_of};
-ghost use Rattle.core_model.specs.Legal.{IsLegalPart};
+ghost use Rattle.core_model.specs.Legal.{IsLegalPart, SameOrigin};
 ghost use Rattle.core_model.specs.Rotation.{Rotates, lies_too_far};
 ghost use Rattle.core_model.specs.States.{state_after};
 ghost use Rattle.access_core.specs.inner.Origins.{packet_origin, queue_origin, sought_in, told_origin};
@@ -17,6 +17,7 @@ use crate::access::lookups::queue_of;
 use crate::argument_blocks::ArgumentBlock;
 use crate::queue::Queue;
 use aql_packet::{PacketId, QueueId};
+use boxed::Boxed;
 use core_model::{
     InFlight, MOST_BEFORE, Opening, Origin, PacketOrigin, Part, QueueOrigin, Refusal,
 };
@@ -38,8 +39,8 @@ impl AccessCore {
         if self.lies_too_far() {
             return Err(Refusal::AuditFull);
         }
-        let end = self.origin_behind(alloc)?;
-        let next = end.copy(alloc)?;
+        let end = self.boxed_origin(alloc)?;
+        let next = boxed_copy(alloc, end.as_ref())?;
         let empty = Reserved::with_room(alloc, self.capacity)?;
         let start = replace(&mut self.start, next);
         let entries = replace(&mut self.audit, empty);
@@ -50,7 +51,19 @@ impl AccessCore {
     fn lies_too_far(&self) -> bool
         ensures { result ≡ lies_too_far self.now.history }
     {
-        self.start.before + self.audit.len() as u64 > MOST_BEFORE
+        self.entries_before() + self.audit.len() as u64 > MOST_BEFORE
+    }
+
+    // What the history goes on from behind the audit, in memory of its own.
+    fn boxed_origin(&self, alloc: Global) -> Result<Boxed<Origin>, AllocError>
+        requires { lies_too_far self.now.history ≡ false }
+        ensures begins { IfOk result (λ origin.
+            begin self.now.history.kernels origin ≡ state_after (beginning self.now.history) self.now.history.entries) }
+        ensures policy { IfOk result (λ origin. origin.policy ≡ self.now.history.origin.policy) }
+        ensures lengths { IfOk result (λ origin. lengths_of origin.memory ≡ region_lengths self.now.history.origin.policy) }
+    {
+        let origin = self.origin_behind(alloc)?;
+        Ok(Boxed::new(alloc, origin)?)
     }
 
     // What the history goes on from behind the audit, as data.
@@ -63,15 +76,24 @@ impl AccessCore {
     {
         self.regions_fit();
         Ok(Origin {
-            policy: self.start.policy.copy(alloc)?,
+            policy: self.policy().copy(alloc)?,
             grants: self.grants.copy(alloc)?,
             memory: self.memory.copy(alloc)?,
             signals: self.signals.copy(alloc)?,
             queues: queue_origins(alloc, self.queues.as_slice())?,
             packets: packet_origins(alloc, self.queues.as_slice(), self.blocks.as_slice())?,
-            before: self.start.before + self.audit.len() as u64,
+            before: self.entries_before() + self.audit.len() as u64,
         })
     }
+}
+
+// The same to begin from once more, in memory of its own.
+fn boxed_copy(alloc: Global, origin: &Origin) -> Result<Boxed<Origin>, AllocError>
+    ensures same { IfOk result (λ copy. SameOrigin copy origin.now) }
+    ensures policy { IfOk result (λ copy. copy.policy ≡ origin.now.policy) }
+{
+    let copy = origin.copy(alloc)?;
+    Ok(Boxed::new(alloc, copy)?)
 }
 
 // What is kept of a queue, as data.

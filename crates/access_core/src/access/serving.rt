@@ -1,15 +1,15 @@
-//! Requests are served, one or many: each call by its name.
+//! Requests are served: each call by its name.
 
 ghost use Rattle.core_model.specs.History.{beginning};
-ghost use Rattle.std.specs.Prelude.{◌≡◌, ◌≤◌, [], IfOk, OnErr, length};
-ghost use Rattle.core_model.specs.Legal.{AreReplies, IsLegal, IsServed, MeetsOrLacks, RepliesOrLacks, as_reply};
-ghost use Rattle.access_core.specs.Keeping.{MadeInPlace, ServedInPlace};
+ghost use Rattle.std.specs.Prelude.{◌≡◌, IfOk};
+ghost use Rattle.core_model.specs.Legal.{IsLegal, IsServed, MeetsOrLacks, RepliesOrLacks, as_reply};
+ghost use Rattle.access_core.specs.Keeping.{ServedInPlace};
 ghost use Rattle.access_core.specs.Reloads.{as_reloaded};
 
 use crate::access::AccessCore;
-use core_model::{Answer, Call, Entry, Event, Outcome, Query, Refusal, Reply, Request};
+use core_model::{Answer, Call, Entry, Outcome, Query, Refusal, Reply, Request};
 use policy::Policy;
-use sequences::{Reserved, Sequence};
+use sequences::Sequence;
 use std::alloc::{AllocError, Global};
 
 impl AccessCore {
@@ -25,47 +25,6 @@ impl AccessCore {
         reply
     }
 
-    /// Serves requests in turn, and tells the reply to each. Want of memory for the list of replies
-    /// is told before any is served.
-    pub fn serve_all(
-        &mut self,
-        alloc: Global,
-        requests: Vec<Request>,
-    ) -> Result<Reserved<Reply>, AllocError>
-        ensures replies { IfOk result (λ replies. AreReplies self.old.history requests.items replies.items self.new.history) }
-        ensures legal { IsLegal (beginning self.new.history) self.new.history.entries }
-        ensures err { OnErr result (self.new ≡ self.old) }
-    {
-        match Reserved::with_room(alloc, requests.len()) {
-            Ok(replies) => Ok(self.serve_each(alloc, requests, replies)),
-            Err(want) => {
-                self.law_of_legality();
-                Err(want)
-            }
-        }
-    }
-
-    /// Serves requests in turn, and puts the replies in a list with room for them. It takes no memory
-    /// but what the calls themselves take.
-    pub fn serve_each(
-        &mut self,
-        alloc: Global,
-        requests: Vec<Request>,
-        mut replies: Reserved<Reply>,
-    ) -> Reserved<Reply>
-        requires room { length requests.items ≤ replies.room }
-        requires empty { replies.items ≡ [] }
-        ensures replies { AreReplies self.old.history requests.items result.items self.new.history }
-        ensures legal { IsLegal (beginning self.new.history) self.new.history.entries }
-    {
-        for request in requests {
-            let reply = self.dispatch(alloc, request);
-            replies.push(reply);
-        }
-        self.law_of_legality();
-        replies
-    }
-
     // Does nothing but say to callers what holds of each core: its audit is a legal history.
     fn law_of_legality(&self)
         ensures { IsLegal (beginning self.now.history) self.now.history.entries }
@@ -79,32 +38,24 @@ impl AccessCore {
         ensures places { ServedInPlace request self.old self.new }
     {
         match request {
-            Request::Event(event) => as_reply(self.make(alloc, event)),
-            Request::Query(query) => self.answer(alloc, query),
-            Request::Reload(policy) => as_reply(as_reloaded(self.reload(alloc, policy))),
-        }
-    }
-
-    // Makes what an event tells of.
-    fn make(&mut self, alloc: Global, event: Event) -> Result<Outcome, Refusal>
-        ensures met { MeetsOrLacks event self.old.history self.new.history result }
-        ensures places { MadeInPlace event self.old self.new }
-    {
-        match event {
-            Event::Open {
+            Request::Open {
                 client,
                 agent,
                 size,
-            } => self
-                .open_queue(alloc, client, agent, size)
-                .map(Outcome::Opened),
-            Event::Take {
+            } => as_reply(
+                self.open_queue(alloc, client, agent, size)
+                    .map(Outcome::Opened),
+            ),
+            Request::Take {
                 queue,
                 packet,
                 bytes,
-            } => self.take(alloc, queue, packet, &bytes).map(Outcome::Taken),
-            Event::Call(call) => self.make_call(alloc, call),
-            Event::Reload { rows } => self.reload_rows(alloc, rows).map(|()| Outcome::Accepted),
+            } => as_reply(self.take(alloc, queue, packet, &bytes).map(Outcome::Taken)),
+            Request::Call(call) => as_reply(self.make_call(alloc, call)),
+            Request::Query(query) => self.answer(alloc, query),
+            Request::Reload(policy) => as_reply(as_reloaded(
+                self.reload(alloc, policy.into_inner()),
+            )),
         }
     }
 

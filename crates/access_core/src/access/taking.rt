@@ -95,7 +95,7 @@ impl AccessCore {
         Facts {
             client,
             agent,
-            takes: self.start.policy.takes(agent).unwrap_or(TAKES_NOTHING),
+            takes: self.policy().takes(agent).unwrap_or(TAKES_NOTHING),
             grants: &self.grants,
             regions: &self.memory,
             kernels: self.segments.as_slice(),

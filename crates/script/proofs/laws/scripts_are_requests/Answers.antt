@@ -7,4 +7,4 @@ returns-clause-line c = λ later asked old told new done. line_reaches later ask
 pub returns-clause-headline : goal.returns-clause-headline
 returns-clause-headline c = λ later kernels capacity lines text opened world begun ran.
     let reached = runs_reach later opened world lines text ran in
-    (reached.0, reached.1, reached.2, c.the_headline.ensures kernels capacity reached.0 reached.1 opened world begun reached.2)
+    (reached.0, reached.1, reached.2, c.the_headline.ensures.headline kernels capacity reached.0 reached.1 opened world begun reached.2)
