@@ -7,6 +7,7 @@ use grants::Grants;
 use policy::Takes;
 use queue_error::Rule;
 use regions::Regions;
+use std::mem::size_of;
 
 /// What a packet is judged by: its queue's client and agent, and what is in force at that moment.
 #[derive(Drop)]
@@ -33,3 +34,6 @@ pub enum Verdict {
     /// This is the first launch rule that fails.
     Deny(Rule),
 }
+
+// A verdict is small, since each hand moves the whole value.
+const _: () = prove!(size_of::<Verdict>() <= 128);

@@ -12,12 +12,12 @@ ghost use Rattle.packet_processor.specs.inner.RightsPassing.{rights_passing};
 
 use crate::facts::Facts;
 use crate::judging::object_of;
+use crate::need_table::{agent_needs, completion_needs, kernel_needs, memory_needs, wait_needs};
 use crate::packet_needs::PacketNeeds;
 use aql_packet::Address;
 use byteorder::{ByteOrder, LittleEndian};
 use core_model::Need;
 use policy::{Object, Right, Rights};
-use queue_error::Rule;
 use sequences::Sequence;
 use std::alloc::{AllocError, Global};
 
@@ -30,11 +30,12 @@ pub fn held_by_needs(alloc: Global, asked: &PacketNeeds) -> Result<Sequence<Held
         ≡ map as_rights (held_by_needs (record { client = client; agent = asked.now.agent }) asked.now.packet)) }
 {
     let mut held = Sequence::new(alloc);
-    hold_all(&mut held, asked.of_rule(Rule::L4))?;
-    hold_all(&mut held, asked.of_rule(Rule::L6))?;
-    hold_all(&mut held, asked.of_rule(Rule::L8))?;
-    hold_all(&mut held, asked.of_rule(Rule::L9))?;
-    hold_all(&mut held, asked.of_rule(Rule::L10))?;
+    let packet = asked.packet();
+    hold_all(&mut held, &agent_needs(asked.agent()))?;
+    hold_all(&mut held, &kernel_needs(packet))?;
+    hold_all(&mut held, &memory_needs(packet))?;
+    hold_all(&mut held, &wait_needs(packet))?;
+    hold_all(&mut held, &completion_needs(packet))?;
     Ok(held)
 }
 

@@ -3,6 +3,7 @@
 ghost use Rattle.std.specs.Prelude.{◌≡◌, find, option_to_list};
 ghost use Rattle.std.specs.List.{flat_map, list_all};
 ghost use Rattle.core_model.specs.LaunchRules as rules;
+ghost use Rattle.core_model.specs.Needs as model;
 ghost use Rattle.core_model.specs.Needs.{object_of};
 ghost use Rattle.regions.specs.Memory.{lengths_of};
 ghost use Rattle.packet_processor.specs.Judged.{facts_seen, Judges};
@@ -10,11 +11,13 @@ ghost use Rattle.packet_processor.specs.inner.FieldRules.{later_failing, verdict
 
 use crate::dispatch_rules::{has_arguments, has_segments, has_sizes};
 use crate::facts::{Facts, Verdict};
-use crate::need_table::function_of;
+use crate::need_table::{
+    agent_needs, completion_needs, function_of, kernel_needs, memory_needs, wait_needs,
+};
 use crate::packet_needs::PacketNeeds;
 use aql_packet::{Packet, decode};
 use core_model::{Need, Subject};
-use policy::{Object, Takes};
+use policy::{Object, Right, Takes};
 use queue_error::Rule;
 use regions::{Regions, region_of};
 
@@ -67,7 +70,7 @@ fn meets_rule(facts: &Facts, asked: &PacketNeeds, rule: Rule) -> bool
     requires { asked.now.agent ≡ facts.now.agent }
     ensures { result ≡ rules.meets_rule (facts_seen facts.now) asked.now.packet rule }
 {
-    has_form(facts, asked.packet(), rule) && are_met(facts, asked.of_rule(rule))
+    has_form(facts, asked.packet(), rule) && has_rights(facts, asked, rule)
 }
 
 // Whether a packet is as a rule asks, beside the rights that it then holds.
@@ -101,6 +104,41 @@ fn asks_for_known_work(packet: &Packet) -> bool
     match packet {
         Packet::Kernel(dispatch) => has_sizes(dispatch),
         Packet::Agent(dispatch) => function_of(dispatch).is_some(),
+        _ => true,
+    }
+}
+
+// Whether the rights that a rule asks for are in force. What most packets don't need is not even looked for.
+fn has_rights(facts: &Facts, asked: &PacketNeeds, rule: Rule) -> bool
+    ensures { result ≡ list_all (rules.need_is_met (facts_seen facts.now)) (model.needs rule asked.now.agent asked.now.packet) }
+{
+    let packet = asked.packet();
+    match rule {
+        Rule::L4 => are_met(facts, &agent_needs(asked.agent())),
+        Rule::L6 => are_met(facts, &kernel_needs(packet)),
+        Rule::L8 => has_memory_rights(facts, packet),
+        Rule::L9 => has_wait_rights(facts, packet),
+        Rule::L10 => are_met(facts, &completion_needs(packet)),
+        _ => true,
+    }
+}
+
+// Whether the rights on ranges of memory are in force.
+fn has_memory_rights(facts: &Facts, packet: &Packet) -> bool
+    ensures { result ≡ list_all (rules.need_is_met (facts_seen facts.now)) (model.memory_needs packet.now) }
+{
+    match packet {
+        Packet::Agent(_) => are_met(facts, &memory_needs(packet)),
+        _ => true,
+    }
+}
+
+// Whether the rights to wait on dependencies are in force.
+fn has_wait_rights(facts: &Facts, packet: &Packet) -> bool
+    ensures { result ≡ list_all (rules.need_is_met (facts_seen facts.now)) (flat_map (model.signal_need Right.Wait) (model.dependencies packet.now)) }
+{
+    match packet {
+        Packet::BarrierAnd(_) | Packet::BarrierOr(_) => are_met(facts, &wait_needs(packet)),
         _ => true,
     }
 }

@@ -18,7 +18,7 @@ pub use facts::{Facts, Verdict};
 pub use holding::{held_by_arguments, held_by_needs};
 pub use judging::verdict;
 pub use need_table::{function_of, result_range};
-pub use packet_needs::PacketNeeds;
+pub use packet_needs::{MOST_NEEDS, PacketNeeds};
 pub use packets::{completion_signal, is_barrier, is_ready};
 pub use places::{FoundPacket, Place, Places};
 pub use queue_state::{MayLaunch, QueueState, State};

@@ -6,8 +6,8 @@ pub returns : goal.returns
 returns c = λ client.
     held_by_rule (record { client = client; agent = c.args.asked.now.agent }) c.args.asked.now.packet _ _ _ _ _ _
     c.new-held.ensures
-    (rw c.of_rule.ensures at c.in_ok-hold_all.ensures)
-    (rw c.of_rule-2.ensures at c.in_ok-hold_all-2.ensures)
-    (rw c.of_rule-3.ensures at c.in_ok-hold_all-3.ensures)
-    (rw c.of_rule-4.ensures at c.in_ok-hold_all-4.ensures)
-    (rw c.of_rule-5.ensures at c.in_ok-hold_all-5.ensures)
+    (rw c.agent.ensures at (rw c.agent_needs.ensures at c.in_ok-hold_all.ensures))
+    (rw c.packet-packet.ensures at (rw c.kernel_needs.ensures at c.in_ok-hold_all-2.ensures))
+    (rw c.packet-packet.ensures at (rw c.memory_needs.ensures at c.in_ok-hold_all-3.ensures))
+    (rw c.packet-packet.ensures at (rw c.wait_needs.ensures at c.in_ok-hold_all-4.ensures))
+    (rw c.packet-packet.ensures at (rw c.completion_needs.ensures at c.in_ok-hold_all-5.ensures))
