@@ -62,7 +62,7 @@ fn line_of(program: &Program, step: usize) -> u32
 }
 
 /// One turn of an item that has not used up its budget.
-#[inline(never)]
+#[inline(always)]
 fn turn(
     alloc: Global,
     context: &ItemContext<'_>,
