@@ -1,6 +1,7 @@
 //! Requests are served: each call by its name.
 
 ghost use Rattle.core_model.specs.History.{beginning};
+ghost use Rattle.core_model.specs.declared.event.Event.TheVariants as event;
 ghost use Rattle.std.specs.Prelude.{◌≡◌, IfOk};
 ghost use Rattle.core_model.specs.Legal.{IsLegal, IsServed, MeetsOrLacks, RepliesOrLacks, as_reply};
 ghost use Rattle.access_core.specs.Keeping.{ServedInPlace};
@@ -61,7 +62,7 @@ impl AccessCore {
 
     // Makes a call.
     fn make_call(&mut self, alloc: Global, call: Call) -> Result<Outcome, Refusal>
-        ensures met { MeetsOrLacks (Event.Call call) self.old.history self.new.history result }
+        ensures met { MeetsOrLacks (event.Call call) self.old.history self.new.history result }
         ensures places { self.new.places ≡ self.old.places }
     {
         match call {
