@@ -1,4 +1,4 @@
--- Why a list of steps leads nowhere.
+-- Why a step is not made and a list of steps leads nowhere, and the numbers of these faults.
 use Rattle.std.specs.Prelude.{ℕ, List, ⊤}
 use Rattle.ring_core.specs.declared.access.Step.{Step}
 use Rattle.ring_core.specs.declared.state.ReplayFault.{ReplayFault}
@@ -16,3 +16,13 @@ IsReplayFault size producers steps (NotAStep index) = StopsAt (opened size produ
 abbrev pub fault_at : ℕ → StepFault → ReplayFault
 fault_at index step.OutOfMemory = OutOfMemory
 fault_at index step.NotAStep = NotAStep index
+
+-- the number of a step's fault (own)
+abbrev pub number_of_step_fault : StepFault → ℕ
+number_of_step_fault step.OutOfMemory = 0
+number_of_step_fault step.NotAStep = 1
+
+-- the number of a replay's fault (own)
+abbrev pub number_of_replay_fault : ReplayFault → ℕ
+number_of_replay_fault OutOfMemory = 0
+number_of_replay_fault (NotAStep index) = 1

@@ -2,9 +2,9 @@
 use Rattle.std.specs.Prelude.{◌≡◌, ℕ, ◌+◌, ◌*◌, ◌%◌, ◌-◌, ◌<◌, length, zero, suc, Bool, ◌&&◌, nat_le, true, false, List, [], ◌∷◌, get_or, slice_index, slice_set, replicate, ◌^◌, ⊤}
 use Rattle.ring_core.specs.declared.access.Access.{Access}
 use Rattle.ring_core.specs.declared.access.Access.TheVariants.{Reserve, LoadReadIndex, StoreBody, StoreHeader, LoadHeader, LoadBody, ClearHeader, RaiseReadIndex}
-use Rattle.aql_packet.specs.declared.ring.TheConstants.{INVALID}
+use Rattle.aql_packet.specs.Kinds.{invalid_type}
 use Rattle.ring_core.specs.declared.access.TheConstants.{FIRST_SLOT, READ_PLACE, WRITE_PLACE}
-use Rattle.ring_core.specs.declared.state.TheConstants.{MOST_PRODUCERS}
+use Rattle.ring_core.specs.Limits.{most_producers}
 use Rattle.ring_core.specs.declared.access.Step.{Step}
 use Rattle.ring_core.specs.declared.access.Seen.{Seen}
 use Rattle.ring_core.specs.declared.part.Part.{Part}
@@ -51,7 +51,7 @@ abbrev pub word_after : Access → ℕ → ℕ
 word_after Reserve old = old + 1
 word_after (StoreBody ticket place word) old = word
 word_after (StoreHeader ticket word) old = word
-word_after ClearHeader old = INVALID
+word_after ClearHeader old = invalid_type
 word_after RaiseReadIndex old = old + 1
 word_after _ old = old
 
@@ -96,11 +96,11 @@ pub record Makes (machine : Machine) (step : Step) (seen : Seen) (next : Machine
 -- the words of so many free slots: word 0 has the type INVALID
 abbrev pub free_slots : ℕ → List ℕ
 free_slots zero = []
-free_slots (suc n) = INVALID ∷ 0 ∷ 0 ∷ 0 ∷ 0 ∷ 0 ∷ 0 ∷ 0 ∷ free_slots n
+free_slots (suc n) = invalid_type ∷ 0 ∷ 0 ∷ 0 ∷ 0 ∷ 0 ∷ 0 ∷ 0 ∷ free_slots n
 
 -- how many producers a ring may have (own)
 abbrev pub is_producer_count : ℕ → Bool
-is_producer_count producers = nat_le 1 producers && nat_le producers MOST_PRODUCERS
+is_producer_count producers = nat_le 1 producers && nat_le producers most_producers
 
 -- a ring as it opens: both indices 0, each slot free
 abbrev pub opened : ℕ → ℕ → Machine

@@ -11,7 +11,7 @@ use Rattle.ring_core.specs.declared.access.Seen.TheVariants.{Read, Stored}
 use Rattle.ring_core.specs.declared.access.Made.{Made}
 use Rattle.ring_core.specs.declared.part.ProducerPart.{ProducerPart}
 use Rattle.ring_core.specs.declared.part.ProcessorPart.{ProcessorPart}
-use Rattle.ring_core.specs.declared.part.TheConstants.{ALLOWANCE}
+use Rattle.ring_core.specs.Limits.{most_reservations}
 use Rattle.ring_core.specs.declared.part.Part.{Part}
 use Rattle.ring_core.specs.declared.part.Part.TheVariants.{Producer, Processor}
 use Rattle.ring_core.specs.Words.{word, no_words, is_body, has_body, packet_of, is_invalid}
@@ -133,7 +133,7 @@ SuitsPart (Processor p) access old = ⊤
 
 -- the parts at the opening: the whole allowance of ids to reserve, no ticket, nothing retired or collected, no step made
 abbrev pub new_producer : Part
-new_producer = Producer record { allowance = ALLOWANCE; tickets = []; steps = [] }
+new_producer = Producer record { allowance = most_reservations; tickets = []; steps = [] }
 
 abbrev pub new_processor : Part
 new_processor = Processor record { retired = []; collected = no_words; raising = false; steps = [] }

@@ -9,9 +9,9 @@ use Rattle.ring_core.specs.declared.part.Part.TheVariants.{Producer, Processor}
 use Rattle.ring_core.specs.Words.{word, no_words, is_invalid}
 use Rattle.ring_core.specs.Tickets.{blank, is_published, shows_room, held}
 use Rattle.aql_packet.specs.Ring.{is_ring_size}
-use Rattle.aql_packet.specs.declared.ring.TheConstants.{INVALID}
-use Rattle.ring_core.specs.declared.part.TheConstants.{ALLOWANCE}
-use Rattle.ring_core.specs.declared.state.TheConstants.{MOST_PRODUCERS}
+use Rattle.aql_packet.specs.Kinds.{invalid_type}
+use Rattle.ring_core.specs.Limits.{most_reservations}
+use Rattle.ring_core.specs.Limits.{most_producers}
 use Rattle.ring_core.specs.Machine.{Machine, word_count, write_index, read_index, slot_word, producers_of}
 
 -- the tickets that a part has, and those of all parts
@@ -57,7 +57,7 @@ pub record IsShared (producers write_index : ℕ) (parts : List Part) : Type 0 w
   -- one part for each producer and one processor part
   pub seats : AreSeats producers parts
   -- the write index and all allowances are together producers times 2^40
-  pub allowances : write_index + sum_by allowance_of parts ≡ producers * ALLOWANCE
+  pub allowances : write_index + sum_by allowance_of parts ≡ producers * most_reservations
   -- the ids below the write index are each in one part, once, and no other is
   pub named : (id : ℕ) → times id (all_tickets parts) ≡ (if nat_lt id write_index then 1 else 0)
 
@@ -82,7 +82,7 @@ pub record IsTied (size read_index : ℕ) (slot : ℕ → ℕ → ℕ) (ticket :
   pub header : (id : ℕ) → read_index ≤ id → id < read_index + size
       → (raising ≡ true → id ≢ read_index)
       → is_invalid (slot id 0) ≡ not (is_published (ticket id))
-  pub cleared : raising ≡ true → slot read_index 0 ≡ INVALID
+  pub cleared : raising ≡ true → slot read_index 0 ≡ invalid_type
   -- a word written for an id not below the read index is the slot's word, with the same exception
   pub live : (id k w : ℕ) → read_index ≤ id → word (ticket id).words k ≡ Some w
       → (raising ≡ true → id ≡ read_index → k ≢ 0)
@@ -116,5 +116,5 @@ pub record IsRule (producers : ℕ) (machine : Machine) : Type 0 where
 -- what is kept of a ring state: the ring rule, and the bounds of its opening
 pub record IsRing (machine : Machine) : Type 0 where
   pub rule : IsRule (producers_of machine) machine
-  pub few_producers : producers_of machine ≤ MOST_PRODUCERS
+  pub few_producers : producers_of machine ≤ most_producers
   pub ring_size : is_ring_size machine.size ≡ true

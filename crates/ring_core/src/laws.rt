@@ -3,6 +3,9 @@
 ghost use Rattle.std.specs.Prelude.{ℕ, ◌<◌, ◌≤◌, ◌≡◌, List, length, true};
 ghost use Rattle.ring_core.specs.declared.access.Step.{Step};
 ghost use Rattle.ring_core.specs.declared.access.Seen.{Seen};
+ghost use Rattle.ring_core.specs.declared.part.TheConstants.{ALLOWANCE};
+ghost use Rattle.ring_core.specs.declared.state.TheConstants.{MOST_PRODUCERS};
+ghost use Rattle.ring_core.specs.Limits.{most_producers, most_reservations};
 ghost use Rattle.aql_packet.specs.Ring.{is_ring_size};
 ghost use Rattle.ring_core.specs.Machine.{Machine, Makes, Replays, read_index};
 ghost use Rattle.ring_core.specs.Rule.{IsRule};
@@ -41,4 +44,10 @@ pub fn each_retired_packet_is_its_tickets()
 pub fn ring_sizes_are_bounded()
     ensures least { (size : ℕ) → is_ring_size size ≡ true → 2 ≤ size }
     ensures most { (size : ℕ) → is_ring_size size ≡ true → size ≤ 4096 }
+{}
+
+/// The code's limits of a ring are those of the rules.
+pub fn numbers_are_those_of_the_rules()
+    ensures producers { MOST_PRODUCERS ≡ most_producers }
+    ensures reservations { ALLOWANCE ≡ most_reservations }
 {}

@@ -17,7 +17,8 @@ pub use aql_packet::is_invalid;
 pub use calls::{has_room, retire_steps, show_steps, store_steps};
 pub use laws::{
     each_part_follows_from_its_own_steps, each_retired_packet_is_its_tickets,
-    each_step_keeps_the_rule, every_run_meets_the_rule, ring_sizes_are_bounded,
+    each_step_keeps_the_rule, every_run_meets_the_rule, numbers_are_those_of_the_rules,
+    ring_sizes_are_bounded,
 };
 pub use log::Log;
 pub use part::{ALLOWANCE, Part, ProcessorPart, ProducerPart};

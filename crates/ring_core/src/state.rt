@@ -35,12 +35,29 @@ impl Model for RingState {
 }
 
 /// Why a step was not made. Nothing has changed.
-#[derive(Clone, Copy, Debug, PartialEq, Eq)]
+#[derive(Clone, Copy, Debug, PartialEq, Eq, thiserror::Error)]
 pub enum StepFault {
     /// There was no memory to note the step.
+    #[error("out of memory")]
     OutOfMemory,
     /// The step is not allowed.
+    #[error("the step is not allowed")]
     NotAStep,
+}
+
+impl StepFault {
+    ghost use Rattle.std.specs.Prelude.{◌≡◌};
+    ghost use Rattle.ring_core.specs.Faults.{number_of_step_fault};
+
+    /// The fault's number (own).
+    pub fn number(&self) -> u8
+        ensures { result ≡ number_of_step_fault self.now }
+    {
+        match self {
+            StepFault::OutOfMemory => 0,
+            StepFault::NotAStep => 1,
+        }
+    }
 }
 
 impl From<AllocError> for StepFault {
@@ -159,12 +176,29 @@ impl RingState {
 }
 
 /// Why there is no state after a list of steps.
-#[derive(Clone, Copy, Debug, PartialEq, Eq)]
+#[derive(Clone, Copy, Debug, PartialEq, Eq, thiserror::Error)]
 pub enum ReplayFault {
     /// There was no memory for the ring or for noting a step.
+    #[error("out of memory")]
     OutOfMemory,
     /// The step at this index, from 0, is the first that is not allowed.
+    #[error("step {0} is not allowed")]
     NotAStep(usize),
+}
+
+impl ReplayFault {
+    ghost use Rattle.std.specs.Prelude.{◌≡◌};
+    ghost use Rattle.ring_core.specs.Faults.{number_of_replay_fault};
+
+    /// The fault's number (own).
+    pub fn number(&self) -> u8
+        ensures { result ≡ number_of_replay_fault self.now }
+    {
+        match self {
+            ReplayFault::OutOfMemory => 0,
+            ReplayFault::NotAStep(_) => 1,
+        }
+    }
 }
 
 impl From<AllocError> for ReplayFault {
