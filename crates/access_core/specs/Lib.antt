@@ -3,4 +3,5 @@ pub mod Keeping
 pub mod Opening
 pub mod Reloads
 pub mod Tables
+pub mod Faults
 pub mod inner

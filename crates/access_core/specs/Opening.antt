@@ -3,7 +3,7 @@ use Rattle.std.specs.Prelude.{ℕ, ◌+◌, ◌==◌, ◌≡◌, ◌&&◌, Bool,
 use Rattle.std.specs.Option.{unwrap_or}
 use Rattle.kernel_check.specs.Programs.{Program}
 use Rattle.policy.specs.Policy.{Declared, numbered}
-use Rattle.core_model.specs.declared.limits.TheConstants.{MOST_ENTRIES}
+use Rattle.core_model.specs.Limits.{most_entries}
 use Rattle.core_model.specs.Kernels.{no_kernel}
 use Rattle.core_model.specs.Legal.{IsOpening}
 use Rattle.access_core.specs.Cores.{Core}
@@ -39,7 +39,7 @@ first_missing kernels = position (λ kernel. not (has_entry kernel)) kernels
 
 -- how many entries an audit may have place for: at least 1 (own)
 abbrev pub is_capacity : ℕ → Bool
-is_capacity capacity = nat_le 1 capacity && nat_le capacity MOST_ENTRIES
+is_capacity capacity = nat_le 1 capacity && nat_le capacity most_entries
 
 -- what else is wrong, once the kernels are there
 abbrev pub fault_behind : ℕ → Option ℕ → Option OpenFault

@@ -39,16 +39,37 @@ use std::alloc::AllocError;
 use std::marker::Model;
 
 /// Why a core can't be opened.
-#[derive(Clone, Copy, Debug, PartialEq, Eq)]
+#[derive(Clone, Copy, Debug, PartialEq, Eq, thiserror::Error)]
 pub enum OpenFault {
     /// Memory was wanted and not to be had.
+    #[error("out of memory")]
     OutOfMemory,
     /// There isn't one kernel for each kernel of the policy.
+    #[error("not one kernel for each of the policy")]
     KernelCount,
     /// This kernel, the least such, has no index, or one that is none of its checked kernels'.
+    #[error("kernel {} has no entry", .0.0)]
     NoEntry(KernelObject),
     /// The audit's capacity isn't 1 to 2^20 entries.
+    #[error("the audit has 1 to 1048576 entries")]
     BadCapacity,
+}
+
+impl OpenFault {
+    ghost use Rattle.std.specs.Prelude.{◌≡◌};
+    ghost use Rattle.access_core.specs.Faults.{number_of_fault};
+
+    /// The fault's number (own).
+    pub fn number(&self) -> u8
+        ensures { result ≡ number_of_fault self.now }
+    {
+        match self {
+            OpenFault::OutOfMemory => 0,
+            OpenFault::KernelCount => 1,
+            OpenFault::NoEntry(_) => 2,
+            OpenFault::BadCapacity => 3,
+        }
+    }
 }
 
 impl From<AllocError> for OpenFault {

@@ -30,11 +30,13 @@ pub struct Book {
 }
 
 /// Why there is no book of a policy (own).
-#[derive(Clone, Copy, Debug, PartialEq, Eq)]
+#[derive(Clone, Copy, Debug, PartialEq, Eq, thiserror::Error)]
 pub enum BookError {
     /// Memory was wanted and not to be had.
+    #[error("out of memory")]
     OutOfMemory,
     /// The policy, or one of its kernels, has a fault.
+    #[error("the policy or one of its kernels has a fault")]
     Refused,
 }
 

@@ -109,18 +109,21 @@ impl fmt::Display for Want {
 
 /// A word of a line at which the line goes on in no form: how many bytes there are from that word to
 /// the end of the line, 0 at its end, and what is wanted there.
-#[derive(Clone, Copy, Debug, PartialEq, Eq)]
+#[derive(Clone, Copy, Debug, PartialEq, Eq, thiserror::Error)]
+#[error("wanted: {want}")]
 pub struct Fault {
     pub left: usize,
     pub want: Want,
 }
 
 /// Why a line isn't assembled (own).
-#[derive(Clone, Copy, Debug, PartialEq, Eq)]
+#[derive(Clone, Copy, Debug, PartialEq, Eq, thiserror::Error)]
 pub enum LineError {
     /// Memory was wanted and not to be had.
+    #[error("out of memory")]
     OutOfMemory,
     /// The line is of no form.
+    #[error("{0}")]
     Fault(Fault),
 }
 

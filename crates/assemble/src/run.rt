@@ -17,15 +17,19 @@ const MOST_CALLS: u64 = 1 << 40;
 const BLOCK: usize = 4096;
 
 /// Why a script isn't assembled to its end (own).
-#[derive(Debug, Drop)]
+#[derive(Debug, Drop, thiserror::Error)]
 pub enum AssembleError {
     /// Memory was wanted and not to be had.
+    #[error("out of memory")]
     OutOfMemory,
     /// A line is of no form: this text says which, and the word at which it isn't.
+    #[error("{0}")]
     Refused(String),
     /// The script can't be read.
+    #[error("reading failed")]
     Read,
     /// What was assembled can't be written.
+    #[error("writing failed")]
     Write,
 }
 

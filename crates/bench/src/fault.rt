@@ -6,12 +6,11 @@ use kernel_check::CheckError;
 use policy::ReadPolicyError;
 use ring::{RingFault, Spent};
 use std::alloc::AllocError;
-use std::error::Error;
 use std::{fmt, io};
 use threads_load::LoadFault;
 
 /// Why a measurement told no figure.
-#[derive(Clone, Copy, Debug, PartialEq, Eq)]
+#[derive(Clone, Copy, Debug, PartialEq, Eq, thiserror::Error)]
 pub enum Fault {
     /// There was no memory.
     OutOfMemory,
@@ -61,8 +60,6 @@ impl fmt::Display for Fault {
         f.write_str(self.text())
     }
 }
-
-impl Error for Fault {}
 
 impl From<AllocError> for Fault {
     fn from(_: AllocError) -> Fault {

@@ -2,7 +2,7 @@
 use Rattle.std.specs.Prelude.{◌≡◌, false, ℕ, suc, ◌<◌, ◌≤◌, List, [], ◌∷◌, length, map, All, ⊤}
 use Rattle.aql_packet.specs.declared.ids.QueueId.{QueueId}
 use Rattle.aql_packet.specs.declared.ids.PacketId.{PacketId}
-use Rattle.core_model.specs.declared.limits.TheConstants.{QUEUES}
+use Rattle.core_model.specs.Limits.{most_queues}
 use Rattle.ring.specs.Bytes.{words_of}
 use Rattle.ring.specs.Passes.{ProcessorSeen}
 use Rattle.core_model.specs.declared.served.Served.{Served}
@@ -26,7 +26,7 @@ words_served one = words_of one.bytes
 -- what a lane served is what its pass retired, from id 0 on; what is pending it served
 pub record IsLane (lane : LaneSeen) : Type 0 where
   -- its queue is one of the few that a core opens
-  pub few : lane.queue.0 ≤ QUEUES
+  pub few : lane.queue.0 ≤ most_queues
   pub numbered : AreNumbered 0 lane.served
   pub retired : map words_served lane.served ≡ lane.pass.part.retired
   pub pending : All (λ id. id.0 < length lane.served) lane.pending

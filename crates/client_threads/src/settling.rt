@@ -50,13 +50,16 @@ pub enum Settlement {
 }
 
 /// Why a broker was not settled.
-#[derive(Clone, Copy, Debug, PartialEq, Eq)]
+#[derive(Clone, Copy, Debug, PartialEq, Eq, thiserror::Error)]
 pub enum SettleAllFault {
     /// Memory was wanted and not to be had.
+    #[error("out of memory")]
     OutOfMemory,
     /// The end of a producer or the lane of a queue is not there.
+    #[error("the end of a producer or the lane of a queue is missing")]
     MissingPass,
     /// The parts that were handed out don't follow each other from nothing on to the audit.
+    #[error("the parts that were handed out do not follow each other")]
     NotNext,
 }
 

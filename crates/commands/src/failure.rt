@@ -14,7 +14,7 @@ use std::alloc::{AllocError, Global};
 use std::{fmt, io};
 
 /// Why a command doesn't do what was asked (own).
-#[derive(Clone, Copy, Debug, PartialEq, Eq)]
+#[derive(Clone, Copy, Debug, PartialEq, Eq, thiserror::Error)]
 pub enum Failure {
     /// Memory was wanted and not to be had.
     OutOfMemory,

@@ -23,7 +23,7 @@ pub enum KernelCause {
 }
 
 /// A kernel of a policy that is refused, by its number from 1.
-#[derive(Clone, Copy, Debug, PartialEq, Eq)]
+#[derive(Clone, Copy, Debug, PartialEq, Eq, thiserror::Error)]
 pub struct KernelFault {
     pub kernel: u32,
     pub cause: KernelCause,
@@ -58,11 +58,13 @@ impl fmt::Display for KernelFault {
 }
 
 /// Why a policy's kernels can't be used.
-#[derive(Clone, Copy, Debug, PartialEq, Eq)]
+#[derive(Clone, Copy, Debug, PartialEq, Eq, thiserror::Error)]
 pub enum KernelError {
     /// Memory was wanted and not to be had.
+    #[error("out of memory")]
     OutOfMemory,
     /// A kernel is refused.
+    #[error("{0}")]
     Fault(KernelFault),
 }
 

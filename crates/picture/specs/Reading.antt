@@ -9,7 +9,7 @@ use Rattle.aql_packet.specs.declared.packet.Packet.{Packet}
 use Rattle.aql_packet.specs.declared.packet.Packet.TheVariants as packet
 use Rattle.aql_packet.specs.Reading.{decoded}
 use Rattle.aql_packet.specs.Ids.{same_packet}
-use Rattle.core_model.specs.declared.limits.TheConstants.{QUEUES, MOST_IN_FLIGHT}
+use Rattle.core_model.specs.Limits.{most_queues, most_in_flight}
 use Rattle.core_model.specs.declared.event.Event.{Event}
 use Rattle.core_model.specs.declared.event.Event.TheVariants as event
 use Rattle.core_model.specs.declared.call.Call.{Call}
@@ -37,7 +37,7 @@ use Rattle.picture.specs.declared.reading.End.{End}
 
 -- the lane of a queue: its number, of which there are no more than queues
 abbrev pub lane_of_queue : QueueId → ℕ
-lane_of_queue queue = if nat_lt QUEUES queue.0 then QUEUES else queue.0
+lane_of_queue queue = if nat_lt most_queues queue.0 then most_queues else queue.0
 
 -- in the lane of a queue, in its first row
 abbrev pub in_lane : ℕ → QueueId → Spot
@@ -45,7 +45,7 @@ in_lane at queue = record { at = at; lane = lane_of_queue queue; row = 0 }
 
 -- in the lane of a packet's queue; of its rows, one for as many packets as may be in flight, the packets take the next in turn
 abbrev pub at_packet : ℕ → QueueId → PacketId → Spot
-at_packet at queue id = record { at = at; lane = lane_of_queue queue; row = id.0 % MOST_IN_FLIGHT }
+at_packet at queue id = record { at = at; lane = lane_of_queue queue; row = id.0 % most_in_flight }
 
 -- in the lane of the administrator and of clients
 abbrev pub at_hosts : ℕ → Spot

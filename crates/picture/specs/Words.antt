@@ -4,7 +4,7 @@ use Rattle.std.specs.Option.{option_map_or}
 use Rattle.aql_packet.specs.declared.ids.ClientId.{ClientId}
 use Rattle.aql_packet.specs.declared.ids.PacketId.{PacketId}
 use Rattle.core_model.specs.declared.outcome.Satisfied.{Satisfied}
-use Rattle.core_model.specs.declared.need.TheConstants.{FILL, COPY, ADD64}
+use Rattle.core_model.specs.Limits.{fill_number, copy_number, add64_number}
 use Rattle.policy.specs.declared.object.Object.{Object}
 use Rattle.policy.specs.declared.object.Object.TheVariants as object
 use Rattle.policy.specs.declared.rights.Right.{Right}
@@ -42,9 +42,9 @@ words_of_rights policy client object rights =
 -- the name of an agent's function
 abbrev pub words_of_function : ℕ → List ℕ
 words_of_function function =
-    if function == FILL then codes "FILL"
-    else if function == COPY then codes "COPY"
-    else if function == ADD64 then codes "ADD64"
+    if function == fill_number then codes "FILL"
+    else if function == copy_number then codes "COPY"
+    else if function == add64_number then codes "ADD64"
     else codes "agent"
 
 -- what a packet is

@@ -9,4 +9,5 @@ pub mod Publishing
 pub mod Showing
 pub mod Dealt
 pub mod Settling
+pub mod Faults
 pub mod inner

@@ -26,12 +26,29 @@ pub struct Settled {
 }
 
 /// Why a ring was not settled.
-#[derive(Clone, Copy, Debug, PartialEq, Eq)]
+#[derive(Clone, Copy, Debug, PartialEq, Eq, thiserror::Error)]
 pub enum SettleFault {
     /// There was no memory for the words of the slots.
+    #[error("out of memory")]
     OutOfMemory,
     /// The pass of one of the producers is not there.
+    #[error("the pass of a producer is missing")]
     MissingPass,
+}
+
+impl SettleFault {
+    ghost use Rattle.std.specs.Prelude.{◌≡◌};
+    ghost use Rattle.ring.specs.Faults.{number_of_settle_fault};
+
+    /// The fault's number (own).
+    pub fn number(&self) -> u8
+        ensures { result ≡ number_of_settle_fault self.now }
+    {
+        match self {
+            SettleFault::OutOfMemory => 0,
+            SettleFault::MissingPass => 3,
+        }
+    }
 }
 
 /// A ring that was not settled, with all that was handed in.

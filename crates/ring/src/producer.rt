@@ -51,7 +51,8 @@ impl Model for ProducerPass {
 }
 
 /// A producer has reserved 2^40 ids, and may reserve no more.
-#[derive(Clone, Copy, Debug, PartialEq, Eq)]
+#[derive(Clone, Copy, Debug, PartialEq, Eq, thiserror::Error)]
+#[error("the producer has reserved all ids that it may")]
 pub struct Spent;
 
 /// What became of a packet that was to be published.

@@ -38,14 +38,33 @@ impl Model for Ring {
 }
 
 /// Why a ring was not made.
-#[derive(Clone, Copy, Debug, PartialEq, Eq)]
+#[derive(Clone, Copy, Debug, PartialEq, Eq, thiserror::Error)]
 pub enum RingFault {
     /// There was no memory for the words or the passes.
+    #[error("out of memory")]
     OutOfMemory,
     /// The number of slots is not a power of two from 2 to 4,096.
+    #[error("the number of slots is no power of two from 2 to 4096")]
     BadSize,
     /// The number of producers is not from 1 to 16.
+    #[error("the number of producers is not from 1 to 16")]
     BadProducers,
+}
+
+impl RingFault {
+    ghost use Rattle.std.specs.Prelude.{◌≡◌};
+    ghost use Rattle.ring.specs.Faults.{number_of_ring_fault};
+
+    /// The fault's number (own).
+    pub fn number(&self) -> u8
+        ensures { result ≡ number_of_ring_fault self.now }
+    {
+        match self {
+            RingFault::OutOfMemory => 0,
+            RingFault::BadSize => 1,
+            RingFault::BadProducers => 2,
+        }
+    }
 }
 
 impl From<AllocError> for RingFault {

@@ -1,6 +1,7 @@
 -- What the reader and the writer of a run answered, and what that left of their bytes (own).
 use Rattle.std.specs.Prelude.{ℕ, ◌≡◌, ◌+◌, ◌≤◌, ◌^◌, ◌⊎◌, true, false, List, [], ◌++◌, length, take, Option, Some, None, Result, Ok, Err, ⊤}
 use Rattle.std.specs.Io.KnownBytes.{Appends, Consumes, Keeps, IsAtEnd}
+use Rattle.script.specs.Limits.{most_reads}
 use Rattle.script.specs.declared.io_log.IoLog.{IoLog}
 use Rattle.script.specs.declared.io_log.ReadAnswer.{ReadAnswer}
 use Rattle.script.specs.declared.io_log.ReadAnswer.TheVariants as read
@@ -48,7 +49,7 @@ NoneFailed answers = (answers.read_failed ≡ false) × (answers.write_failed �
 
 -- a fault has its cause: Read that the reader failed or that 2^40 reads were made, Write that the writer failed
 abbrev pub IsCaused : IoLog → ScriptFault → Type 0
-IsCaused answers Read = (answers.read_failed ≡ true) ⊎ (answers.reads ≡ 2 ^ 40)
+IsCaused answers Read = (answers.read_failed ≡ true) ⊎ (answers.reads ≡ most_reads)
 IsCaused answers Write = answers.write_failed ≡ true
 IsCaused answers OutOfMemory = ⊤
 IsCaused answers (BadLine number) = ⊤

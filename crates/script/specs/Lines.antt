@@ -22,6 +22,7 @@ use Rattle.ring_core.specs.declared.access.Access.TheVariants.{Reserve, LoadRead
 use Rattle.core_model.specs.declared.call.Call.{Call}
 use Rattle.core_model.specs.declared.call.Call.TheVariants as call
 use Rattle.world.specs.declared.request.Request.TheVariants as request
+use Rattle.script.specs.Limits.{longest_line}
 use Rattle.script.specs.declared.command.Command.{Command}
 use Rattle.script.specs.declared.command.Command.TheVariants as command
 use Rattle.script.specs.declared.lines.Line.{Line}
@@ -282,7 +283,7 @@ is_comment (byte ∷ bytes) = byte == 35
 -- what a line stands for, if it has at most 16,384 bytes and a form: names go by a policy, and there are so many further policies
 abbrev pub line_of : Declared → ℕ → List ℕ → Option Line
 line_of policy later bytes =
-    if nat_lt 16384 (length bytes) then None
+    if nat_lt longest_line (length bytes) then None
     else if is_comment bytes then Some line.Quiet
     else asked_by policy later (words bytes)
 

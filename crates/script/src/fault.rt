@@ -3,15 +3,19 @@
 use std::alloc::{AllocError, AllocFailed};
 
 /// Why a run of a script ended early.
-#[derive(Clone, Copy, Debug, PartialEq, Eq)]
+#[derive(Clone, Copy, Debug, PartialEq, Eq, thiserror::Error)]
 pub enum ScriptFault {
     /// The engine wanted memory, and none was to be had.
+    #[error("out of memory")]
     OutOfMemory,
     /// The line of this number, from 1, is too long or of no form.
+    #[error("line {0} is no request")]
     BadLine(u64),
     /// The reader failed, or 2^40 reads were made.
+    #[error("reading failed")]
     Read,
     /// The writer failed.
+    #[error("writing failed")]
     Write,
 }
 

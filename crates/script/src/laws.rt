@@ -10,7 +10,10 @@ ghost use Rattle.world.specs.Dues.{AreReplies, Reply, handed_out};
 ghost use Rattle.world.specs.Headline.{Headline, IsBegun};
 ghost use Rattle.world.specs.States.{Joined};
 ghost use Rattle.script.specs.declared.command.Command.{Command};
+ghost use Rattle.script.specs.declared.lines.TheConstants.{LONGEST_LINE};
+ghost use Rattle.script.specs.declared.run.TheConstants.{MOST_READS};
 ghost use Rattle.script.specs.Expansions.{does};
+ghost use Rattle.script.specs.Limits.{longest_line, most_reads};
 ghost use Rattle.script.specs.Runs.{Runs, Told, lines_of, worlds};
 ghost use Rattle.script.specs.Splitting.{digits_of, ended, is_line, joined, sum_of_digits};
 ghost use Rattle.script.specs.Words.{address_word, decimal_word};
@@ -41,3 +44,9 @@ pub fn scripts_are_requests(policy: &Policy)
 {
     the_headline(policy);
 }
+
+/// The code's limits of a line and of a run's reads are those of the rules.
+pub fn numbers_are_those_of_the_rules()
+    ensures line { LONGEST_LINE ≡ longest_line }
+    ensures reads { MOST_READS ≡ most_reads }
+{}

@@ -25,7 +25,8 @@ pub use expansions::perform;
 pub use fault::ScriptFault;
 pub use io_log::{IoLog, flush_once};
 pub use laws::{
-    lines_give_their_text_back, numbers_are_sums_of_their_digits, scripts_are_requests,
+    lines_give_their_text_back, numbers_are_sums_of_their_digits, numbers_are_those_of_the_rules,
+    scripts_are_requests,
 };
 pub use lines::{LONGEST_LINE, Line, read_line};
 pub use replies::write_line;

@@ -9,7 +9,7 @@ use Rattle.policy.specs.declared.rights.TheConstants.Rights.{USE, READ, WRITE}
 use Rattle.policy.specs.declared.row.Takes.{Takes}
 use Rattle.policy.specs.Policy.{Declared, row_of, rules_of}
 use Rattle.policy.specs.Rules.{are_allowed}
-use Rattle.core_model.specs.declared.limits.TheConstants.{QUEUES}
+use Rattle.core_model.specs.Limits.{most_queues}
 use Rattle.threads_load.specs.declared.plan.TheConstants.{COUNTED_BYTES}
 use Rattle.threads_load.specs.declared.plan.PlannedQueue.{PlannedQueue}
 
@@ -61,4 +61,4 @@ all_queues policy = flat_map (client_queues policy) (range_with_len 1 (length po
 
 -- the queues that the load opens: as many of these as a core opens at the most (own)
 abbrev pub planned : Declared → List PlannedQueue
-planned policy = take QUEUES (all_queues policy)
+planned policy = take most_queues (all_queues policy)

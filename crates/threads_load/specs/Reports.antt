@@ -4,7 +4,7 @@ use Rattle.std.specs.Fmt.{decimal}
 use Rattle.std.specs.List.{find, range_with_len}
 use Rattle.std.specs.Option.{unwrap_or}
 use Rattle.aql_packet.specs.declared.ids.ClientId.{ClientId}
-use Rattle.aql_packet.specs.declared.memory.TheConstants.{REGION_SPAN}
+use Rattle.aql_packet.specs.Memory.{region_span}
 use Rattle.policy.specs.declared.object.Object.{Object}
 use Rattle.policy.specs.declared.object.Object.TheVariants as object
 use Rattle.policy.specs.Policy.{Declared, name_in, numbered}
@@ -56,7 +56,7 @@ text_of_bytes bytes = flat_map text_of_byte bytes
 
 -- the bytes of a region that the load counts in, after these entries (own)
 abbrev pub counted_bytes : Start → List Entry → ℕ → List ℕ
-counted_bytes start entries region = memory_from start entries (region * REGION_SPAN) COUNTED_BYTES
+counted_bytes start entries region = memory_from start entries (region * region_span) COUNTED_BYTES
 
 -- a region's line, with these bytes (own)
 abbrev pub text_of_region : Declared → ℕ → List ℕ → List ℕ

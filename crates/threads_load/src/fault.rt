@@ -5,17 +5,22 @@ use core_model::Refusal;
 use std::alloc::{AllocError, AllocFailed};
 
 /// Why a load isn't run to its report (own).
-#[derive(Clone, Copy, Debug, PartialEq, Eq)]
+#[derive(Clone, Copy, Debug, PartialEq, Eq, thiserror::Error)]
 pub enum LoadFault {
     /// Memory was wanted and not to be had.
+    #[error("out of memory")]
     OutOfMemory,
     /// No core is opened over the policy and its kernels.
+    #[error("{0}")]
     Opening(OpenFault),
     /// The core refused a call: a grant, an opening, or the read of a region.
+    #[error("{0}")]
     Refused(Refusal),
     /// A pass didn't come back from its thread.
+    #[error("a pass is missing")]
     MissingPass,
     /// The part that was handed out doesn't lead to the audit.
+    #[error("the part that was handed out does not lead to the audit")]
     NotNext,
 }
 

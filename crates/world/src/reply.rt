@@ -21,14 +21,17 @@ pub enum Answer {
 }
 
 /// Why a request was refused. After every refusal all is as before.
-#[derive(Clone, Copy, PartialEq, Eq)]
+#[derive(Clone, Copy, Debug, PartialEq, Eq, thiserror::Error)]
 pub enum Refusal {
     /// The core's refusal, or that a queue isn't open.
+    #[error("{0}")]
     Core(core_model::Refusal),
     /// The step is none that the seat may make now, the header would be cleared of a packet that is
     /// neither launched nor denied, or no packet is collected whole.
+    #[error("the step is not allowed")]
     NotAStep,
     /// The producer has reserved as many ids as it may.
+    #[error("the producer has reserved all ids that it may")]
     Spent,
 }
 

@@ -2,7 +2,7 @@
 
 ghost use Rattle.core_model.specs.History.{beginning};
 ghost use Rattle.std.specs.Prelude.{◌≡◌, ◌≤◌, length};
-ghost use Rattle.core_model.specs.declared.limits.TheConstants.{MOST_BEFORE, MOST_ENTRIES};
+ghost use Rattle.core_model.specs.Limits.{most_before, most_entries};
 ghost use Rattle.core_model.specs.declared.answer.Answer.TheVariants as answer;
 ghost use Rattle.policy.specs.Results.{map_ok};
 ghost use Rattle.core_model.specs.Legal.{IsLegal, Replies, RepliesOrLacks};
@@ -55,7 +55,7 @@ impl AccessCore {
     /// The audit's entries, in order, 2^20 at most: a legal history, of which the laws of `core_model` speak.
     pub fn audit(&self) -> &[Entry]
         ensures entries { result.now ≡ self.now.history.entries }
-        ensures few { length result.now ≤ MOST_ENTRIES }
+        ensures few { length result.now ≤ most_entries }
         ensures legal { IsLegal (beginning self.now.history) self.now.history.entries }
     {
         self.audit.as_slice()
@@ -64,7 +64,7 @@ impl AccessCore {
     /// How many entries came before the audit's, 2^62 at the most: rotations handed them out.
     pub fn entries_before(&self) -> u64
         ensures before { result ≡ (beginning self.now.history).before }
-        ensures few { result ≤ MOST_BEFORE }
+        ensures few { result ≤ most_before }
     {
         self.start.as_ref().before
     }

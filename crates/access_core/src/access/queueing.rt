@@ -2,7 +2,7 @@
 
 ghost use Rattle.core_model.specs.History.{beginning};
 ghost use Rattle.std.specs.Prelude.{◌≡◌, ◌<◌, [], OnOk, IfErr, IfOk, length};
-ghost use Rattle.core_model.specs.declared.limits.TheConstants.{QUEUES};
+ghost use Rattle.core_model.specs.Limits.{most_queues};
 ghost use Rattle.core_model.specs.Queues.{openings};
 ghost use Rattle.core_model.specs.Owed.{enters, refuses};
 ghost use Rattle.policy.specs.Results.{map_ok};
@@ -82,7 +82,7 @@ impl AccessCore {
         size: u64,
     ) -> Result<QueueId, Refusal>
         ensures may { IfOk result (λ queue. due self.now.history (Event.Open client agent size) ≡ enters (Outcome.Opened queue) []) }
-        ensures few { OnOk result (length (openings (beginning self.now.history) self.now.history.entries) < QUEUES) }
+        ensures few { OnOk result (length (openings (beginning self.now.history) self.now.history.entries) < most_queues) }
         ensures why { IfErr result (λ why. due self.now.history (Event.Open client agent size) ≡ refuses why) }
     {
         if !self.policy().declares_client(client) {
