@@ -26,7 +26,7 @@ use Rattle.ring_core.proofs.Seats.{times_changed, times_append, seat_held, ticke
 use Rattle.ring_core.proofs.Tied.{with_at, no_word, tied_seeing, tied_body, tied_header, tied_header_read, tied_body_read, tied_clearing, tied_raising, some_of, body_known}
 
 -- an open ticket is held, and open
-open_held : (o : Option Ticket) → (t : Ticket) → only_open o ≡ Some t → (o ≡ Some t) × (is_published t ≡ false)
+pub open_held : (o : Option Ticket) → (t : Ticket) → only_open o ≡ Some t → (o ≡ Some t) × (is_published t ≡ false)
 open_held None t e = absurd (cc)
 open_held (Some u) t e =
     elim (is_published u) as (λ b. is_published u ≡ b → (Some u ≡ Some t) × (is_published t ≡ false)) [
@@ -34,7 +34,7 @@ open_held (Some u) t e =
       | false ↦ λ p. let f : only_open (Some u) ≡ Some u = rw p refl in let g : u ≡ t = cc in (ap Some g, ap is_published (sym g) ∙ p)
     ] refl
 
-some_ticket : (o : Option Ticket) → is_some o ≡ true → (t : Ticket) × (o ≡ Some t)
+pub some_ticket : (o : Option Ticket) → is_some o ≡ true → (t : Ticket) × (o ≡ Some t)
 some_ticket None h = absurd (cc)
 some_ticket (Some t) h = (t, refl)
 
@@ -312,7 +312,7 @@ and_false true = refl
 and_false false = refl
 
 -- a seat that the ring doesn't have may do nothing
-nobody_may : (size : ℕ) (access : Access) → may_make size nobody access ≡ false
+pub nobody_may : (size : ℕ) (access : Access) → may_make size nobody access ≡ false
 nobody_may size Reserve = refl
 nobody_may size (LoadReadIndex ticket) = refl
 nobody_may size (StoreBody ticket place word) = and_false (is_body place)

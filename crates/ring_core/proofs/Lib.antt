@@ -8,4 +8,6 @@ pub mod States
 pub mod Own
 pub mod Publication
 pub mod Opened
+pub mod Gathering
+pub mod Turning
 mod Walks

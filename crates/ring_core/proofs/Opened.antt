@@ -1,6 +1,7 @@
 -- The open ones among a producer's tickets, and what a change of the tickets does to them.
-use Rattle.std.proofs.Common.{◌≡◌, ◌≢◌, ℕ, zero, suc, ◌+◌, ◌<◌, Bool, true, false, List, [], ◌∷◌, ◌++◌, length, get_or, set, refl, ap, ◌∙◌, sym, subst, arith, inl, inr, get_or-set_same, get_or-set_other, length-append}
-use Rattle.std.specs.Prelude.{Option, Some, None, is_some, ◌⊎◌}
+use Rattle.std.proofs.Common.{◌≡◌, ◌≢◌, ℕ, zero, suc, ◌+◌, ◌<◌, Bool, true, false, List, [], ◌∷◌, ◌++◌, length, get_or, set, refl, ap, ◌∙◌, sym, subst, arith, inl, inr, get_or-set_same, get_or-set_other, length-append, length-set, map, append_assoc}
+use Rattle.std.specs.Prelude.{Option, Some, None, is_some, slice_index, ◌⊎◌, ◌&&◌}
+use Rattle.std.specs.List.{fold, list_all}
 use Rattle.std.proofs.lemmas.Bool.Decides.{nat_tests, eqb_tells, leb_tells}
 use Rattle.std.proofs.lemmas.List.{get_or_append_left}
 use Rattle.std.proofs.lemmas.List.Sums.{fold-append}
@@ -12,11 +13,17 @@ use Rattle.ring_core.specs.declared.ticket.TicketChange.{TicketChange}
 use Rattle.ring_core.specs.declared.ticket.TicketChange.TheVariants.{Opened, Saw, Wrote}
 use Rattle.ring_core.specs.Words.{word, is_body}
 use Rattle.ring_core.specs.Tickets.{blank, held, changed, seeing, writing, is_published, only_open, open_ticket, open_ones, without, after_change, after_changes, unnamed, IsAscending, IsAbove, HasEightWords}
+use Rattle.ring_core.specs.Calls.{body_places}
+use Rattle.ring_core.specs.inner.Together.{publication_changes}
 use Rattle.ring_core.proofs.Entries.{held_none}
 
 tells : (b : Bool) → (b ≡ true) ⊎ (b ≡ false)
 tells true = inl refl
 tells false = inr refl
+
+both : (a b : Bool) → (a && b) ≡ true → (a ≡ true) × (b ≡ true)
+both true b h = (refl, h)
+both false b h = absurd (cc)
 
 -- ---- ids that rise
 
@@ -258,3 +265,125 @@ push_keeps id ones ones' value log log' more kept view above pushes =
 
 pub push_shows : (id : PacketId) (value : List HeldTicket) (log log' : List TicketChange) → log' ≡ log ++ Opened id ∷ [] → after_changes log ≡ value → after_changes log' ≡ value ++ record { id = id; ticket = blank } ∷ []
 push_shows id value log log' more view = after_more log log' (Opened id) more ∙ ap (λ xs. xs ++ record { id = id; ticket = blank } ∷ []) view
+
+-- ---- a ticket that is looked up and changed, or published whole
+
+-- what isn't held isn't changed
+unheld_changed : (id : ℕ) (change : Ticket → Ticket) (xs : List HeldTicket) → is_some (held id xs) ≡ false → changed id change xs ≡ xs
+unheld_changed id change [] none = refl
+unheld_changed id change (x ∷ xs) none =
+    elim (eqb_tells x.id.0 id) [
+      | inl h ↦ let some : true ≡ false = rw h.0 at none in absurd (cc)
+      | inr h ↦ rw h.0 (ap (λ ys. x ∷ ys) (unheld_changed id change xs (rw h.0 at none)))
+    ]
+
+unheld_without : (id : ℕ) (xs : List HeldTicket) → is_some (held id xs) ≡ false → without id xs ≡ xs
+unheld_without id [] none = refl
+unheld_without id (x ∷ xs) none =
+    elim (eqb_tells x.id.0 id) [
+      | inl h ↦ let some : true ≡ false = rw h.0 at none in absurd (cc)
+      | inr h ↦ rw h.0 (ap (λ ys. x ∷ ys) (unheld_without id xs (rw h.0 at none)))
+    ]
+
+-- a change leaves the others
+without_changed : (id : ℕ) (change : Ticket → Ticket) (xs : List HeldTicket) → without id (changed id change xs) ≡ without id xs
+without_changed id change [] = refl
+without_changed id change (x ∷ xs) =
+    elim (eqb_tells x.id.0 id) [
+      | inl h ↦ rw (h.0, h.0) refl
+      | inr h ↦ rw (h.0, h.0) (ap (λ ys. x ∷ ys) (without_changed id change xs))
+    ]
+
+held_change : (id : ℕ) (change : Ticket → Ticket) (xs : List HeldTicket) (t : Ticket) → held id (changed id change xs) ≡ Some t → (u : Ticket) × (held id xs ≡ Some u) × (t ≡ change u)
+held_change id change [] t e = absurd (cc)
+held_change id change (x ∷ xs) t e =
+    elim (eqb_tells x.id.0 id) [
+      | inl h ↦ let is : Some (change x.ticket) ≡ Some t = rw (h.0, h.0) at e in (x.ticket, rw h.0 refl, cc)
+      | inr h ↦ let r = held_change id change xs t (rw (h.0, h.0) at e) in (r.0, rw h.0 r.1, r.2)
+    ]
+
+eight_changed : (id : ℕ) (change : Ticket → Ticket) (xs : List HeldTicket) → ((t : Ticket) → length (change t).words ≡ length t.words) → HasEightWords id xs → HasEightWords id (changed id change xs)
+eight_changed id change xs same eight t e =
+    let r = held_change id change xs t e in
+    ap (λ (u : Ticket). length u.words) r.2 ∙ same r.0 ∙ eight r.0 r.1
+
+-- what is kept of the ticket that is being published: it is open, and has its eight words
+abbrev pub IsWriting : PacketId → List HeldTicket → List TicketChange → Type 0
+IsWriting id ones log = IsKept ones log × (is_some (open_ticket id.0 (after_changes log)) ≡ true) × HasEightWords id.0 ones
+
+held_still : (id : ℕ) (change : Ticket → Ticket) (xs : List HeldTicket) → is_some (held id xs) ≡ true → is_some (held id (changed id change xs)) ≡ true
+held_still id change [] has = has
+held_still id change (x ∷ xs) has =
+    elim (eqb_tells x.id.0 id) [
+      | inl h ↦ rw (h.0, h.0) refl
+      | inr h ↦ rw (h.0, h.0) (held_still id change xs (rw h.0 at has))
+    ]
+
+-- among the open ones a ticket is held just if it is open
+has_open : (id : ℕ) (ones : List HeldTicket) (log : List TicketChange) → IsKept ones log → is_some (held id ones) ≡ is_some (open_ticket id (after_changes log))
+has_open id ones log kept = ap is_some (found_open id ones (after_changes log) log kept refl)
+
+still_writing : (id : PacketId) (f : Ticket → Ticket) (ones : List HeldTicket) (log log' : List TicketChange) → ((t : Ticket) → length (f t).words ≡ length t.words)
+    → IsWriting id ones log → IsKept (changed id.0 f ones) log' → IsWriting id (changed id.0 f ones) log'
+still_writing id f ones log log' same w kept = (
+  kept,
+  sym (has_open id.0 (changed id.0 f ones) log' kept) ∙ held_still id.0 f ones (has_open id.0 ones log w.0 ∙ w.1),
+  eight_changed id.0 f ones same w.2,
+)
+
+look_writes : (id : PacketId) (r : ℕ) (ones : List HeldTicket) (log : List TicketChange) → IsWriting id ones log → IsWriting id (changed id.0 (seeing r) ones) (log ++ Saw id r ∷ [])
+look_writes id r ones log w =
+    still_writing id (seeing r) ones log (log ++ Saw id r ∷ []) (λ t. refl) w
+    (saw_keeps id r ones (changed id.0 (seeing r) ones) (after_changes log) log (log ++ Saw id r ∷ []) refl w.0 refl w.1 refl)
+
+body_writes : (id : PacketId) (k w : ℕ) (ones : List HeldTicket) (log : List TicketChange) → is_body k ≡ true → IsWriting id ones log → IsWriting id (changed id.0 (writing k w) ones) (log ++ Wrote id k w ∷ [])
+body_writes id k w ones log body h =
+    still_writing id (writing k w) ones log (log ++ Wrote id k w ∷ []) (λ t. length-set t.words k (Some w)) h
+    (wrote_keeps id k w ones (changed id.0 (writing k w) ones) (after_changes log) log (log ++ Wrote id k w ∷ []) body refl h.0 refl h.1 refl)
+
+-- body words, and then the header
+body_whole : (id : PacketId) (words : List ℕ) (places : List ℕ) (ones : List HeldTicket) (log : List TicketChange) → list_all is_body places ≡ true → IsWriting id ones log
+    → IsKept (without id.0 ones) (log ++ (map (λ k. Wrote id k (slice_index words k)) places ++ Wrote id 0 (slice_index words 0) ∷ []))
+body_whole id words [] ones log body h =
+    publish_keeps id (slice_index words 0) ones (without id.0 ones) (after_changes log) log (log ++ Wrote id 0 (slice_index words 0) ∷ []) refl h.0 refl h.1 refl h.2
+body_whole id words (k ∷ places) ones log body h =
+    let b = both (is_body k) (list_all is_body places) body in
+    let w : ℕ = slice_index words k in
+    let rest : List TicketChange = map (λ j. Wrote id j (slice_index words j)) places ++ Wrote id 0 (slice_index words 0) ∷ [] in
+    let more : IsKept (without id.0 (changed id.0 (writing k w) ones)) ((log ++ Wrote id k w ∷ []) ++ rest) =
+    body_whole id words places (changed id.0 (writing k w) ones) (log ++ Wrote id k w ∷ []) b.1 (body_writes id k w ones log b.0 h) in
+    subst (λ (l : List TicketChange). IsKept (without id.0 ones) l) (append_assoc log (Wrote id k w ∷ []) rest)
+    (subst (λ (xs : List HeldTicket). IsKept xs ((log ++ Wrote id k w ∷ []) ++ rest)) (without_changed id.0 (writing k w) ones) more)
+
+whole_keeps : (id : PacketId) (r : ℕ) (words : List ℕ) (ones : List HeldTicket) (log : List TicketChange) → IsWriting id ones log → IsKept (without id.0 ones) (log ++ publication_changes id r words)
+whole_keeps id r words ones log h =
+    let rest : List TicketChange = map (λ j. Wrote id j (slice_index words j)) body_places ++ Wrote id 0 (slice_index words 0) ∷ [] in
+    subst (λ (l : List TicketChange). IsKept (without id.0 ones) l) (append_assoc log (Saw id r ∷ []) rest)
+    (subst (λ (xs : List HeldTicket). IsKept xs ((log ++ Saw id r ∷ []) ++ rest)) (without_changed id.0 (seeing r) ones)
+    (body_whole id words body_places (changed id.0 (seeing r) ones) (log ++ Saw id r ∷ []) refl (look_writes id r ones log h)))
+
+-- what the code knows: whether the ticket was found, and the open ones after it was changed or taken off
+module _ (id : PacketId) (ones value : List HeldTicket) (log : List TicketChange) (found : Bool) (kept : IsKept ones log) (view : after_changes log ≡ value) (finds : found ≡ is_some (held id.0 ones)) where
+  pub told_open : found ≡ is_some (open_ticket id.0 value)
+  told_open = finds ∙ ap is_some (found_open id.0 ones value log kept view)
+
+  pub look_keeps : (r : ℕ) (ones' : List HeldTicket) (log' : List TicketChange) → found ≡ true → ones' ≡ changed id.0 (seeing r) ones → log' ≡ log ++ Saw id r ∷ [] → IsKept ones' log'
+  look_keeps r ones' log' is changes more = saw_keeps id r ones ones' value log log' more kept view (sym told_open ∙ is) changes
+
+  pub look_missed : (r : ℕ) (ones' : List HeldTicket) → found ≡ false → ones' ≡ changed id.0 (seeing r) ones → IsKept ones' log
+  look_missed r ones' none changes = subst (λ (xs : List HeldTicket). IsKept xs log) (sym (changes ∙ unheld_changed id.0 (seeing r) ones (sym finds ∙ none))) kept
+
+  pub published_missed : (ones' : List HeldTicket) → found ≡ false → ones' ≡ without id.0 ones → IsKept ones' log
+  published_missed ones' none rests = subst (λ (xs : List HeldTicket). IsKept xs log) (sym (rests ∙ unheld_without id.0 ones (sym finds ∙ none))) kept
+
+  pub published_keeps : (r : ℕ) (words : List ℕ) (changes : List TicketChange) (ones' : List HeldTicket) (log' : List TicketChange) → found ≡ true → ones' ≡ without id.0 ones → HasEightWords id.0 ones
+      → changes ≡ publication_changes id r words → log' ≡ log ++ changes → IsKept ones' log'
+  published_keeps r words changes ones' log' is rests eight are more =
+      subst (λ (l : List TicketChange). IsKept ones' l) (sym (more ∙ ap (λ cs. log ++ cs) are))
+      (subst (λ (xs : List HeldTicket). IsKept xs (log ++ publication_changes id r words)) (sym rests)
+      (whole_keeps id r words ones log (kept, (sym (has_open id.0 ones log kept) ∙ sym finds ∙ is), eight)))
+
+  -- the tickets after some changes
+  pub changes_show : (changes log' : List TicketChange) → log' ≡ log ++ changes → after_changes log' ≡ fold after_change value changes
+  changes_show changes log' more =
+      ap after_changes more ∙ fold-append after_change [] log changes ∙ ap (λ (xs : List HeldTicket). fold after_change xs changes) view

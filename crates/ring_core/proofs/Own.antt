@@ -27,7 +27,7 @@ fold_more part [] made = refl
 fold_more part (first ∷ steps) made = fold_more (after_own part first) steps made
 
 -- a store's word is looked at by nobody
-after_seen : (part : Part) (access : Access) (old : ℕ) → part_after part access (word_read (seen_by access old)) ≡ part_after part access old
+pub after_seen : (part : Part) (access : Access) (old : ℕ) → part_after part access (word_read (seen_by access old)) ≡ part_after part access old
 after_seen (Producer p) Reserve old = refl
 after_seen (Producer p) (LoadReadIndex ticket) old = refl
 after_seen (Producer p) (StoreBody ticket place word) old = refl

@@ -46,7 +46,7 @@ known_place ws k w eight e =
       | inr h ↦ h.1
     ]
 
-body_place : (k : ℕ) → is_body k ≡ true → (1 ≤ k) × (k < 8)
+pub body_place : (k : ℕ) → is_body k ≡ true → (1 ≤ k) × (k < 8)
 body_place k h = grind (arith, nat_tests)
 
 pub body_known : (ws : List (Option ℕ)) (k : ℕ) → length ws ≡ 8 → has_body ws ≡ true → 1 ≤ k → k < 8 → is_some (word ws k) ≡ true

@@ -7,3 +7,5 @@ pub mod Rule
 pub mod Faults
 pub mod Runs
 pub mod Calls
+pub mod InTurn
+pub mod inner

@@ -35,6 +35,15 @@ impl<T: Drop> Log<T> {
     {
         self.past = self.past.with(item);
     }
+
+    /// Several things more were, in this order.
+    pub(crate) fn push_all(&mut self, items: &[T])
+        ensures { self.new ≡ self.old ++ items.now }
+    {
+        for item in items {
+            self.push(item);
+        }
+    }
 }
 
 impl<T> Debug for Log<T> {

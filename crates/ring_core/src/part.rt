@@ -1,14 +1,22 @@
 //! What each seat of a ring knows: the parts that the steps of its own seat alone change.
 
-ghost use Rattle.std.specs.Prelude.{◌≡◌, OnOk, OnErr};
+ghost use Rattle.std.specs.Prelude.{◌≡◌, ◌∷◌, [], ℕ, OnOk, OnErr, false, is_some, not, slice_index};
+ghost use Rattle.std.specs.List.{fold};
 ghost use Rattle.ring_core.specs.declared.access.Access.{Access};
 ghost use Rattle.ring_core.specs.Parts.{producer_may, processor_may, may_make, part_after, new_producer, new_processor, after_producing, after_processing, passes, collected_packet, Suits, SuitsPart};
-ghost use Rattle.ring_core.specs.Words.{has_body};
-ghost use Rattle.ring_core.specs.Tickets.{shows_room};
+ghost use Rattle.ring_core.specs.Words.{has_body, is_invalid};
+ghost use Rattle.ring_core.specs.Tickets.{open_ticket, shows_room};
+ghost use Rattle.ring_core.specs.declared.access.Access.TheVariants.{LoadReadIndex};
+ghost use Rattle.ring_core.specs.declared.part.Part.TheVariants.{Processor, Producer};
+ghost use Rattle.ring_core.specs.Calls.{made_of, publication, retiring, showing};
+ghost use Rattle.ring_core.specs.InTurn.{collecting, publishing};
+ghost use Rattle.ring_core.specs.Runs.{after_own};
+ghost use Rattle.ring_core.specs.inner.Together.{after_all};
 
 use crate::access::{Access, Made};
+use crate::calls::{has_room, publication, showing};
 use crate::log::Log;
-use crate::ticket::{Ticket, has_body, is_body, packet_of, whole, with_word};
+use crate::ticket::{Ticket, has_body, is_body, known, packet_of, whole, with_word};
 use crate::tickets::Tickets;
 use aql_packet::{PacketId, is_invalid};
 use std::alloc::{AllocError, Global};
@@ -90,6 +98,50 @@ impl ProducerPart {
         self.steps.push(&access.made(old));
         Ok(())
     }
+
+    /// Notes a publication whose look saw this read index: the look, and, where that shows room, the stores.
+    /// Without an open ticket of this id nothing changes: whether there is one.
+    pub(crate) fn publish(
+        &mut self,
+        size: u64,
+        ticket: PacketId,
+        seen: u64,
+        words: &[u64; 8],
+    ) -> bool
+        ensures open { result ≡ is_some (open_ticket ticket.0 self.old.tickets) }
+        ensures noted { Producer self.new ≡ after_all result (Producer self.old) (publishing size ticket.0 seen words.now) }
+    {
+        if has_room(size, ticket, seen) {
+            self.store(ticket, seen, words)
+        } else {
+            self.look(ticket, seen)
+        }
+    }
+
+    // Notes a look for room that saw this read index.
+    fn look(&mut self, ticket: PacketId, seen: u64) -> bool
+        ensures open { result ≡ is_some (open_ticket ticket.0 self.old.tickets) }
+        ensures noted { Producer self.new ≡ after_all result (Producer self.old) (made_of (LoadReadIndex ticket) seen ∷ []) }
+    {
+        if !self.tickets.look(ticket, seen) {
+            return false;
+        }
+        self.steps
+            .push(&Access::LoadReadIndex { ticket }.made(seen));
+        true
+    }
+
+    // Notes a look that saw room at this read index, and the stores of a packet.
+    fn store(&mut self, ticket: PacketId, seen: u64, words: &[u64; 8]) -> bool
+        ensures open { result ≡ is_some (open_ticket ticket.0 self.old.tickets) }
+        ensures noted { Producer self.new ≡ after_all result (Producer self.old) (publication ticket.0 seen words.now) }
+    {
+        if !self.tickets.publish_whole(ticket, seen, words) {
+            return false;
+        }
+        self.steps.push_all(&publication(ticket, seen, words));
+        true
+    }
 }
 
 // Whether there is a ticket, and it saw room for its packet.
@@ -154,6 +206,46 @@ impl ProcessorPart {
         }
         self.steps.push(&access.made(old));
     }
+
+    /// Notes that a header was read, and, where its type is another than INVALID, the body. Between clearing a
+    /// header and raising the read index nothing changes: whether it is read.
+    pub(crate) fn collect(&mut self, words: &[u64; 8]) -> bool
+        ensures may { result ≡ not self.old.raising }
+        ensures noted { Processor self.new ≡ after_all result (Processor self.old) (collecting words.now) }
+    {
+        if self.raising {
+            return false;
+        }
+        if is_invalid(words[0]) {
+            self.steps.push(&Access::LoadHeader.made(words[0]));
+        } else {
+            self.gather(words);
+        }
+        true
+    }
+
+    // Notes that a whole packet was read.
+    fn gather(&mut self, words: &[u64; 8])
+        requires { is_invalid (slice_index words.now 0) ≡ false }
+        ensures { Processor self.new ≡ fold after_own (Processor self.old) (showing words.now) }
+    {
+        self.collected = known(words);
+        self.steps.push_all(&showing(words));
+    }
+
+    /// Notes that a packet was retired which had this read index. Unless it may be, nothing changes: whether it
+    /// may be.
+    pub(crate) fn retire(&mut self, index: u64) -> bool
+        ensures may { result ≡ processor_may self.old Access.ClearHeader }
+        ensures noted { Processor self.new ≡ after_all result (Processor self.old) (retiring index) }
+    {
+        if !self.may_make(Access::ClearHeader) {
+            return false;
+        }
+        self.record(Access::ClearHeader, index);
+        self.record(Access::RaiseReadIndex, index);
+        true
+    }
 }
 
 impl Part {
@@ -204,6 +296,46 @@ impl Part {
                 Ok(())
             }
             Part::Producer(part) => part.record(access, old),
+        }
+    }
+
+    /// Notes a publication whose look saw this read index, as far as that shows room, if the seat may look for it:
+    /// whether it may.
+    pub(crate) fn publish(
+        &mut self,
+        size: u64,
+        ticket: PacketId,
+        seen: u64,
+        words: &[u64; 8],
+    ) -> bool
+        ensures may { result ≡ may_make size self.old (LoadReadIndex ticket) }
+        ensures noted { self.new ≡ after_all result self.old (publishing size ticket.0 seen words.now) }
+    {
+        match self {
+            Part::Processor(_) => false,
+            Part::Producer(part) => part.publish(size, ticket, seen, words),
+        }
+    }
+
+    /// Notes that these words were found at the read index, if the seat may look there: whether it may.
+    pub(crate) fn collect(&mut self, words: &[u64; 8]) -> bool
+        ensures may { (size : ℕ) → result ≡ may_make size self.old Access.LoadHeader }
+        ensures noted { self.new ≡ after_all result self.old (collecting words.now) }
+    {
+        match self {
+            Part::Processor(part) => part.collect(words),
+            Part::Producer(_) => false,
+        }
+    }
+
+    /// Notes that a packet was retired which had this read index, if the seat may clear its header: whether it may.
+    pub(crate) fn retire(&mut self, index: u64) -> bool
+        ensures may { (size : ℕ) → result ≡ may_make size self.old Access.ClearHeader }
+        ensures noted { self.new ≡ after_all result self.old (retiring index) }
+    {
+        match self {
+            Part::Processor(part) => part.retire(index),
+            Part::Producer(_) => false,
         }
     }
 }

@@ -1,15 +1,19 @@
 //! The machine: a ring's words and the part of each seat.
 
-ghost use Rattle.std.specs.Prelude.{◌≡◌, ◌≤◌, ◌↔◌, IfOk, IfErr, OnErr, Err, true, false};
+ghost use Rattle.std.specs.Prelude.{◌≡◌, ◌≤◌, ◌↔◌, ◌+◌, IfOk, IfErr, OnErr, Err, length, slice_index, true, false};
 ghost use Rattle.aql_packet.specs.Ring.{is_ring_size};
 ghost use Rattle.ring_core.specs.declared.access.Access.{Access};
 ghost use Rattle.ring_core.specs.Machine.{Makes, is_allowed, opened, Replays, is_producer_count, producers_of, write_index, read_index};
 ghost use Rattle.ring_core.specs.Rule.{IsRule, processor_of};
 ghost use Rattle.ring_core.specs.Faults.{IsReplayFault, fault_at};
+ghost use Rattle.ring_core.specs.InTurn.{Collects, Publishes, Reserves, Retires, packet_among};
+ghost use Rattle.ring_core.specs.Words.{is_invalid};
+ghost use Rattle.ring_core.specs.inner.Together.{packet_in, packet_put};
 
-use crate::access::{READ_PLACE, Seen, Step, WRITE_PLACE};
+use crate::access::{Access, READ_PLACE, Seen, Step, WRITE_PLACE, word_place};
+use crate::calls::has_room;
 use crate::part::{Part, ProcessorPart};
-use aql_packet::INVALID;
+use aql_packet::{INVALID, PacketId, is_invalid};
 use std::alloc::{AllocError, Global};
 use std::marker::Model;
 
@@ -167,6 +171,73 @@ impl RingState {
         Ok(step.access.seen(old))
     }
 
+    /// A producer reserves the next id, which is its new ticket: one step. Refused as that step is.
+    pub fn reserve(&mut self, seat: u64) -> Result<u64, StepFault>
+        ensures { Reserves self.old seat result self.new }
+    {
+        let access = Access::Reserve;
+        match self.step(Step { seat, access })? {
+            Seen::Read(id) => Ok(id),
+            Seen::Stored => unreachable!(),
+        }
+    }
+
+    /// A producer publishes a packet under its ticket, and tells the read index that it saw: it looks for room, and,
+    /// where that index shows room, stores the body, and the header last. Refused where the ticket is none of its
+    /// open ones: no step is made then. Behind the look no step is refused.
+    pub fn publish(
+        &mut self,
+        seat: u64,
+        ticket: PacketId,
+        words: &[u64; 8],
+    ) -> Result<u64, StepFault>
+        requires { is_invalid (slice_index words.now 0) ≡ false }
+        ensures { Publishes self.old seat ticket.0 words.now result self.new }
+    {
+        if seat as usize >= self.parts.len() {
+            return Err(StepFault::NotAStep);
+        }
+        let seen = self.words[READ_PLACE];
+        if !self.parts[seat as usize].publish(self.size, ticket, seen, words) {
+            return Err(StepFault::NotAStep);
+        }
+        if !has_room(self.size, ticket, seen) {
+            return Ok(seen);
+        }
+        let slot = word_place(self.size, ticket.0, 0);
+        put_packet(&mut self.words, slot, words);
+        Ok(seen)
+    }
+
+    /// The processor collects the packet at the read index, header first; none where the header's type is INVALID.
+    /// Refused between clearing a header and raising the read index: no step is made then. Behind the look at the
+    /// header no step is refused.
+    pub fn collect(&mut self) -> Result<Option<[u64; 8]>, StepFault>
+        ensures { Collects self.old result self.new }
+    {
+        let slot = word_place(self.size, self.words[READ_PLACE], 0);
+        let words = packet_in(&self.words, slot);
+        if !self.parts[0].collect(&words) {
+            return Err(StepFault::NotAStep);
+        }
+        Ok(packet_among(words))
+    }
+
+    /// The processor retires the packet at the read index, and tells that index: it gives the slot the type INVALID,
+    /// and raises the index. Refused where it has not collected the packet whole, or has cleared its header before:
+    /// no step is made then. Once the header is cleared, raising is not refused.
+    pub fn retire(&mut self) -> Result<u64, StepFault>
+        ensures { Retires self.old result self.new }
+    {
+        let index = self.words[READ_PLACE];
+        if !self.parts[0].retire(index) {
+            return Err(StepFault::NotAStep);
+        }
+        self.words[word_place(self.size, index, 0)] = INVALID as u64;
+        self.words[READ_PLACE] = index + 1;
+        Ok(index)
+    }
+
     /// Every ring state meets the ring rule.
     pub fn keeps_rule(&self)
         ensures { IsRule (producers_of self.now) self.now }
@@ -257,6 +328,49 @@ pub fn opening_words(alloc: Global, size: u64) -> Result<Vec<u64>, AllocError>
         words.extend_from_slice(&[INVALID as u64, 0, 0, 0, 0, 0, 0, 0])?;
     }
     Ok(words)
+}
+
+// Puts a packet into a slot whose word 0 lies here.
+fn put_packet(words: &mut Vec<u64>, slot: usize, packet: &[u64; 8])
+    requires { slot + 8 ≤ length words.old.items }
+    ensures { words.new.items ≡ packet_put words.old.items slot packet.now }
+{
+    words[slot + 1] = packet[1];
+    words[slot + 2] = packet[2];
+    words[slot + 3] = packet[3];
+    words[slot + 4] = packet[4];
+    words[slot + 5] = packet[5];
+    words[slot + 6] = packet[6];
+    words[slot + 7] = packet[7];
+    words[slot] = packet[0];
+}
+
+// The packet in the slot whose word 0 lies here.
+fn packet_in(words: &Vec<u64>, slot: usize) -> [u64; 8]
+    requires { slot + 8 ≤ length words.now.items }
+    ensures { result ≡ packet_in words.now.items slot }
+{
+    [
+        words[slot],
+        words[slot + 1],
+        words[slot + 2],
+        words[slot + 3],
+        words[slot + 4],
+        words[slot + 5],
+        words[slot + 6],
+        words[slot + 7],
+    ]
+}
+
+// The packet among words that were found: none where the header's type is INVALID.
+fn packet_among(words: [u64; 8]) -> Option<[u64; 8]>
+    ensures { result ≡ packet_among words }
+{
+    if is_invalid(words[0]) {
+        None
+    } else {
+        Some(words)
+    }
 }
 
 // The parts of a ring as it opens.

@@ -3,6 +3,7 @@
 ghost use Rattle.std.specs.Prelude.{◌≡◌, None, length, slice_set, Some, is_some, if◌then◌else◌};
 ghost use Rattle.std.specs.List.{list_all};
 ghost use Rattle.ring_core.specs.Words.{is_body, has_body, packet_of};
+ghost use Rattle.ring_core.specs.Runs.{all_known};
 ghost use Rattle.ring_core.specs.Tickets.{blank, is_published, shows_room};
 
 use crate::calls::has_room;
@@ -122,6 +123,17 @@ pub(crate) fn with_word(words: [Option<u64>; 8], place: u64, word: u64) -> [Opti
         words[place as usize] = Some(word);
     }
     words
+}
+
+/// The words, all known.
+pub(crate) fn known(words: &[u64; 8]) -> [Option<u64>; 8]
+    ensures { result ≡ all_known words.now }
+{
+    let mut all = [None; 8];
+    for place in 0..8 {
+        all[place] = Some(words[place]);
+    }
+    all
 }
 
 /// The words themselves, once all are known.

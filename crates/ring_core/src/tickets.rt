@@ -1,7 +1,9 @@
 //! The tickets of one producer.
 
-ghost use Rattle.std.specs.Prelude.{◌≡◌, ◌++◌, ◌∷◌, [], is_some, true, OnOk, OnErr};
+ghost use Rattle.std.specs.Prelude.{◌≡◌, ◌<◌, ◌++◌, ◌∷◌, [], is_some, slice_index, true, OnOk, OnErr};
 ghost use Rattle.ring_core.specs.Words.{is_body};
+ghost use Rattle.ring_core.specs.declared.ticket.TicketChange.TheVariants.{Saw, Wrote};
+ghost use Rattle.ring_core.specs.inner.Together.{IsChanged, publication_changes};
 ghost use Rattle.ring_core.specs.Tickets.{blank, changed, seeing, writing, held, open_ticket, open_ones, without, HasEightWords, IsPlaceOf, IsAscending, IsAbove};
 
 use crate::log::Log;
@@ -95,6 +97,33 @@ impl Tickets {
         });
     }
 
+    /// Notes the read index that the ticket under an id saw, if it is one of these and open: whether it is.
+    pub(crate) fn look(&mut self, id: PacketId, read_index: u64) -> bool
+        ensures { IsChanged id (Saw id read_index ∷ []) self.old result self.new }
+    {
+        if !see(&mut self.open_tickets, id, read_index) {
+            return false;
+        }
+        self.changes.push(&TicketChange::Saw {
+            ticket: id,
+            read_index,
+        });
+        true
+    }
+
+    /// Notes that the ticket under an id, if it is one of these and open, saw the read index, and that its words
+    /// were written, the header last: whether it is.
+    pub(crate) fn publish_whole(&mut self, id: PacketId, read_index: u64, words: &[u64; 8]) -> bool
+        ensures { IsChanged id (publication_changes id read_index words.now) self.old result self.new }
+    {
+        if !close(&mut self.open_tickets, id) {
+            return false;
+        }
+        self.changes
+            .push_all(&publication_changes(id, read_index, words));
+        true
+    }
+
     /// Puts a new ticket, with an id above theirs, behind the others.
     pub(crate) fn push(&mut self, id: PacketId) -> Result<(), AllocError>
         requires { IsAbove id.0 self.old }
@@ -120,13 +149,50 @@ fn ticket_under(reserved: &[HeldTicket], id: PacketId) -> Option<Ticket>
     Some(reserved[index].ticket)
 }
 
-// The ticket under an id saw the read index.
-fn see(reserved: &mut Vec<HeldTicket>, id: PacketId, read_index: u64)
-    requires { IsAscending reserved.old.items }
-    ensures { reserved.new.items ≡ changed id.0 (seeing read_index) reserved.old.items }
+// What a publication changes of the ticket under an id.
+fn publication_changes(id: PacketId, read_index: u64, words: &[u64; 8]) -> [TicketChange; 9]
+    ensures { result ≡ publication_changes id read_index words.now }
 {
-    if let Some(index) = place_of(reserved.as_slice(), id) {
-        reserved[index].ticket.saw = Some(read_index);
+    [
+        TicketChange::Saw {
+            ticket: id,
+            read_index,
+        },
+        wrote(id, 1, words),
+        wrote(id, 2, words),
+        wrote(id, 3, words),
+        wrote(id, 4, words),
+        wrote(id, 5, words),
+        wrote(id, 6, words),
+        wrote(id, 7, words),
+        wrote(id, 0, words),
+    ]
+}
+
+// That a word of the packet under an id was written.
+fn wrote(id: PacketId, place: usize, words: &[u64; 8]) -> TicketChange
+    requires { place < 8 }
+    ensures { result ≡ Wrote id place (slice_index words.now place) }
+{
+    TicketChange::Wrote {
+        ticket: id,
+        place: place as u64,
+        word: words[place],
+    }
+}
+
+// The ticket under an id saw the read index, if it is one of these: whether it is.
+fn see(reserved: &mut Vec<HeldTicket>, id: PacketId, read_index: u64) -> bool
+    requires { IsAscending reserved.old.items }
+    ensures found { result ≡ is_some (held id.0 reserved.old.items) }
+    ensures saw { reserved.new.items ≡ changed id.0 (seeing read_index) reserved.old.items }
+{
+    match place_of(reserved.as_slice(), id) {
+        Some(index) => {
+            reserved[index].ticket.saw = Some(read_index);
+            true
+        }
+        None => false,
     }
 }
 
@@ -141,15 +207,20 @@ fn write(reserved: &mut Vec<HeldTicket>, id: PacketId, place: u64, word: u64)
     }
 }
 
-// Takes the ticket under an id off.
-fn close(reserved: &mut Vec<HeldTicket>, id: PacketId)
+// Takes the ticket under an id off, if it is one of these: whether it is.
+fn close(reserved: &mut Vec<HeldTicket>, id: PacketId) -> bool
     requires { IsAscending reserved.old.items }
+    ensures found { result ≡ is_some (held id.0 reserved.old.items) }
     ensures rest { reserved.new.items ≡ without id.0 reserved.old.items }
     ensures eight { HasEightWords id.0 reserved.old.items }
 {
-    if let Some(index) = place_of(reserved.as_slice(), id) {
-        let entry = reserved.remove(index);
-        law_eight_words(&entry.ticket.words);
+    match place_of(reserved.as_slice(), id) {
+        Some(index) => {
+            let entry = reserved.remove(index);
+            law_eight_words(&entry.ticket.words);
+            true
+        }
+        None => false,
     }
 }
 
