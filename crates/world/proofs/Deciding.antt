@@ -71,7 +71,7 @@ decided_along : (core core' : History) (rings : List QueueRing) → ((queue : Qu
 decided_along core core' rings next h queue r found = h queue r found ∙ ap (nat_lt (read_index r.ring)) (sym (next queue))
 
 -- another state of one queue's ring, where other queues' next ids stay
-decided_put : (core core' : History) (rings : List QueueRing) (queue : QueueId) (r after : QueueRing) → numbered rings queue.0 ≡ Some r → after.decided ≡ is_decided core' queue after.ring
+pub decided_put : (core core' : History) (rings : List QueueRing) (queue : QueueId) (r after : QueueRing) → numbered rings queue.0 ≡ Some r → after.decided ≡ is_decided core' queue after.ring
     → ((other : QueueId) → other.0 ≢ queue.0 → next_id (beginning core') core'.entries other ≡ next_id (beginning core) core.entries other) → AreDecided core rings → AreDecided core' (with_queue_ring rings queue after)
 decided_put core core' rings queue r after found here next h other x at =
     elim (eqb_tells other.0 queue.0) [

@@ -14,3 +14,5 @@ pub mod Replies
 pub mod Acting
 pub mod Requesting
 pub mod TakeReplies
+pub mod Calling
+pub mod Called

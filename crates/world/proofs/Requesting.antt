@@ -92,7 +92,7 @@ keeps_room queue producer ticket words index old result new done =
     keeps_if (shows_room (slots_of old queue) ticket.0 (Some index)) (stores queue producer ticket words) (returns (sent.Busy ticket index))
     (keeps_stores queue producer ticket words) (keeps_returns (sent.Busy ticket index)) old result new done
 
-keeps_where : (queue : QueueId) (producer : ℕ) (ticket : PacketId) (words : List ℕ) → Keeps (publish_where queue producer ticket words)
+pub keeps_where : (queue : QueueId) (producer : ℕ) (ticket : PacketId) (words : List ℕ) → Keeps (publish_where queue producer ticket words)
 keeps_where queue producer ticket words =
     keeps_then (reads queue producer (LoadReadIndex ticket)) _ (keeps_reads queue producer (LoadReadIndex ticket)) (λ index. keeps_room queue producer ticket words index)
 

@@ -8,3 +8,4 @@ pub mod Obeying
 pub mod Starting
 pub mod Actions
 pub mod Lanes
+pub mod inner

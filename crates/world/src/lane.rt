@@ -1,20 +1,18 @@
 //! A packet's way through a queue's ring, call by call: each makes its steps in turn, up to the first that is refused.
 
-ghost use Rattle.std.specs.Prelude.{◌≡◌, ◌∷◌, drop, replicate};
-ghost use Rattle.ring_core.specs.Tickets.{shows_room};
-ghost use Rattle.world.specs.Actions.{asks, makes, number_read, packet_read, reads, step};
-ghost use Rattle.world.specs.Lanes.{answer_of, collects, hands_over, leaves_ring, peek, publish, publish_where, retire, retire_decided, serve_next, serve_shown, shows, stores, stores_body, submit, TellsServed};
+ghost use Rattle.std.specs.Prelude.{◌≡◌, false, slice_index};
+ghost use Rattle.ring_core.specs.Words.{is_invalid};
+ghost use Rattle.world.specs.Actions.{asks, number_read, reads, step};
+ghost use Rattle.world.specs.Lanes.{answer_of, hands_over, leaves_ring, peek, publish, publish_where, retire, retire_decided, serve_next, serve_shown, submit, TellsServed};
 
 use crate::reply::{Answer, Refusal, Reply};
 use crate::request::Request;
+use crate::rings;
 use crate::world::World;
 use aql_packet::{PacketId, QueueId};
 use core_model::Taken;
 use ring_core::{Access, Seen, Step, is_invalid};
 use std::alloc::Global;
-
-// The seat of a queue's processor.
-const PROCESSOR: u64 = 0;
 
 /// What became of a packet that was to be published, no step of which was refused.
 #[derive(Clone, Copy)]
@@ -59,7 +57,7 @@ impl World {
         if is_invalid(words[0]) {
             Ok(Sent::NotPublishable(ticket))
         } else {
-            publish_valid(alloc, self, queue, producer, ticket, words)
+            publish_valid(self, queue, producer, ticket, words)
         }
     }
 
@@ -85,14 +83,7 @@ impl World {
     pub fn peek(&mut self, alloc: Global, queue: QueueId) -> Result<Option<Shown>, Refusal>
         ensures { peek queue self.old result self.new }
     {
-        let answer = ask_step(alloc, self, queue, PROCESSOR, Access::LoadHeader)?;
-        show(
-            alloc,
-            self,
-            queue,
-            packet_read(&answer),
-            number_read(&answer),
-        )
+        rings::collect(&mut self.rings, queue)
     }
 
     /// A queue's processor retires the packet at the read index: it gives the slot the type INVALID, and raises the
@@ -101,8 +92,7 @@ impl World {
     pub fn retire(&mut self, alloc: Global, queue: QueueId) -> Result<u64, Refusal>
         ensures { retire queue self.old result self.new }
     {
-        make(alloc, self, queue, PROCESSOR, Access::ClearHeader)?;
-        read(alloc, self, queue, PROCESSOR, Access::RaiseReadIndex)
+        rings::retire(&mut self.rings, queue)
     }
 
     /// A queue's processor collects the packet at the read index, hands it over, and retires it if it was launched or
@@ -125,16 +115,6 @@ fn number_read(answer: &Answer) -> u64
         Answer::Step(Seen::Read(number)) => *number,
         Answer::Header { word, .. } => *word,
         _ => 0,
-    }
-}
-
-// The id of the packet whose header was read.
-fn packet_read(answer: &Answer) -> PacketId
-    ensures { result ≡ packet_read answer.now }
-{
-    match answer {
-        Answer::Header { packet, .. } => *packet,
-        _ => PacketId(0),
     }
 }
 
@@ -179,120 +159,18 @@ fn read(
     Ok(number_read(&answer))
 }
 
-// A seat of a queue's ring makes a step, whatever it reads.
-fn make(
-    alloc: Global,
-    world: &mut World,
-    queue: QueueId,
-    seat: u64,
-    access: Access,
-) -> Result<(), Refusal>
-    ensures { makes queue seat access world.old result world.new }
-{
-    ask_step(alloc, world, queue, seat, access)?;
-    Ok(())
-}
-
-// A producer stores the body of a packet under its ticket.
-fn store_body(
-    alloc: Global,
-    world: &mut World,
-    queue: QueueId,
-    producer: u64,
-    ticket: PacketId,
-    words: &[u64; 8],
-) -> Result<(), Refusal>
-    ensures { stores_body queue producer ticket 1 (drop 1 words.now) world.old result world.new }
-{
-    for place in 1..8 {
-        let word = words[place as usize];
-        let access = Access::StoreBody {
-            ticket,
-            place,
-            word,
-        };
-        make(alloc, world, queue, producer, access)?;
-    }
-    Ok(())
-}
-
-// A producer stores a packet under its ticket, the header last.
-fn store(
-    alloc: Global,
-    world: &mut World,
-    queue: QueueId,
-    producer: u64,
-    ticket: PacketId,
-    words: &[u64; 8],
-) -> Result<Sent, Refusal>
-    ensures { stores queue producer ticket words.now world.old result world.new }
-{
-    store_body(alloc, world, queue, producer, ticket, words)?;
-    let word = words[0];
-    let header = Access::StoreHeader { ticket, word };
-    make(alloc, world, queue, producer, header)?;
-    Ok(Sent::Published(ticket))
-}
-
-// Whether a ring of so many slots has room for a ticket, at a read index.
-fn has_room(slots: u64, ticket: PacketId, read: u64) -> bool
-    ensures { result ≡ shows_room slots ticket.0 (Some read) }
-{
-    ticket.0 < read || ticket.0 - read < slots
-}
-
 // A producer publishes a packet, its type another than INVALID.
 fn publish_valid(
-    alloc: Global,
     world: &mut World,
     queue: QueueId,
     producer: u64,
     ticket: PacketId,
     words: &[u64; 8],
 ) -> Result<Sent, Refusal>
+    requires { is_invalid (slice_index words.now 0) ≡ false }
     ensures { publish_where queue producer ticket words.now world.old result world.new }
 {
-    let look = Access::LoadReadIndex { ticket };
-    let read = read(alloc, world, queue, producer, look)?;
-    if has_room(world.slots(queue), ticket, read) {
-        store(alloc, world, queue, producer, ticket, words)
-    } else {
-        Ok(Sent::Busy { ticket, read })
-    }
-}
-
-// A queue's processor collects the body of the packet whose header it has read.
-fn collect(
-    alloc: Global,
-    world: &mut World,
-    queue: QueueId,
-    header: u64,
-) -> Result<[u64; 8], Refusal>
-    ensures { collects queue 1 7 (header ∷ replicate 7 0) world.old result world.new }
-{
-    let mut words = [header, 0, 0, 0, 0, 0, 0, 0];
-    for place in 1..8 {
-        let access = Access::LoadBody { place };
-        words[place as usize] = read(alloc, world, queue, PROCESSOR, access)?;
-    }
-    Ok(words)
-}
-
-// A queue's processor collects the packet with this id, whose header it has read, if it is published.
-fn show(
-    alloc: Global,
-    world: &mut World,
-    queue: QueueId,
-    packet: PacketId,
-    header: u64,
-) -> Result<Option<Shown>, Refusal>
-    ensures { shows queue packet header world.old result world.new }
-{
-    if is_invalid(header) {
-        return Ok(None);
-    }
-    let words = collect(alloc, world, queue, header)?;
-    Ok(Some(Shown { packet, words }))
+    rings::publish(&mut world.rings, queue, producer, ticket, words)
 }
 
 // What became of a packet, as the answer to its take tells it.

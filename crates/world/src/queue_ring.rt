@@ -1,16 +1,20 @@
 //! The ring of one queue, beside what the core decided of the packet at its read index.
 
-ghost use Rattle.std.specs.Prelude.{◌≡◌, ◌&&◌, ℕ, slice_get};
+ghost use Rattle.std.specs.Prelude.{◌≡◌, ◌&&◌, ℕ, false, option_map, slice_get, slice_index};
 ghost use Rattle.std.specs.Option.{option_copied};
 ghost use Rattle.ring_core.specs.Machine.{is_allowed};
 ghost use Rattle.ring_core.specs.Parts.{seen_by};
 ghost use Rattle.world.specs.Dues.{answer_to, has_spent, may_follow, reserves};
 ghost use Rattle.world.specs.Making.{MakesOn, decided_after};
 ghost use Rattle.world.specs.Obeying.{next_of};
+ghost use Rattle.ring_core.specs.Words.{is_invalid};
+ghost use Rattle.world.specs.Lanes.{shown_as};
+ghost use Rattle.world.specs.inner.Calling.{CollectsOn, PublishesOn, RetiresOn, sent_as};
 
+use crate::lane::{Sent, Shown};
 use crate::reply::{Answer, Refusal, Reply};
 use aql_packet::PacketId;
-use ring_core::{Access, Part, RingState, Seen, Step, StepFault};
+use ring_core::{Access, Part, RingState, Seen, Step, StepFault, has_room};
 
 /// A queue's ring.
 #[derive(Drop)]
@@ -60,6 +64,51 @@ impl QueueRing {
         }
     }
 
+    /// The processor collects the packet at the read index, if one is published there.
+    pub(crate) fn collect(&mut self) -> Result<Option<Shown>, Refusal>
+        ensures { CollectsOn self.old result self.new }
+    {
+        let packet = PacketId(self.ring.read_index());
+        match self.ring.collect() {
+            Ok(words) => Ok(shown(packet, words)),
+            Err(_) => Err(Refusal::NotAStep),
+        }
+    }
+
+    /// The processor retires the packet at the read index, if that was launched or denied.
+    pub(crate) fn retire(&mut self) -> Result<u64, Refusal>
+        ensures { RetiresOn self.old result self.new }
+    {
+        if !self.decided {
+            return Err(Refusal::NotAStep);
+        }
+        match self.ring.retire() {
+            Ok(index) => {
+                self.decided = false;
+                Ok(index)
+            }
+            Err(_) => Err(Refusal::NotAStep),
+        }
+    }
+
+    /// A producer publishes a packet, its type another than INVALID, under a ticket of its own, if the read index
+    /// shows room for it.
+    pub(crate) fn publish(
+        &mut self,
+        producer: u64,
+        ticket: PacketId,
+        words: &[u64; 8],
+    ) -> Result<Sent, Refusal>
+        requires { is_invalid (slice_index words.now 0) ≡ false }
+        ensures { PublishesOn producer ticket words.now self.old result self.new }
+    {
+        let size = self.ring.size();
+        match self.ring.publish(producer, ticket, words) {
+            Ok(read) => Ok(sent(size, ticket, read)),
+            Err(_) => Err(Refusal::NotAStep),
+        }
+    }
+
     // Whether a step reserves an id for a producer that has reserved all that it may.
     fn is_spent(&self, step: Step) -> bool
         ensures { result ≡ (reserves step.access && has_spent (slice_get self.now.ring.parts step.seat)) }
@@ -72,6 +121,27 @@ impl QueueRing {
         ensures { result ≡ (is_allowed self.now.ring step && may_follow self.now.decided step.access) }
     {
         self.ring.allows(step) & may_follow(self.decided, step.access)
+    }
+}
+
+// A packet with its id, if there is one.
+fn shown(packet: PacketId, words: Option<[u64; 8]>) -> Option<Shown>
+    ensures { result ≡ option_map (shown_as packet) words }
+{
+    match words {
+        None => None,
+        Some(words) => Some(Shown { packet, words }),
+    }
+}
+
+// What became of a packet that was to be published, in a ring of so many slots, where its look saw this read index.
+fn sent(slots: u64, ticket: PacketId, read: u64) -> Sent
+    ensures { result ≡ sent_as slots ticket read }
+{
+    if has_room(slots, ticket, read) {
+        Sent::Published(ticket)
+    } else {
+        Sent::Busy { ticket, read }
     }
 }
 

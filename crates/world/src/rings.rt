@@ -1,14 +1,17 @@
 //! The rings of all queues, in the order in which the queues were opened.
 
-ghost use Rattle.std.specs.Prelude.{◌≡◌, option_map};
+ghost use Rattle.std.specs.Prelude.{◌≡◌, false, option_map, slice_index};
 ghost use Rattle.std.specs.Option.{option_copied};
 ghost use Rattle.policy.specs.Policy.{numbered};
 ghost use Rattle.world.specs.Making.{MakesAt};
 ghost use Rattle.world.specs.Obeying.{HasRing, RingFollows, next_of};
+ghost use Rattle.ring_core.specs.Words.{is_invalid};
+ghost use Rattle.world.specs.inner.Calling.{CallsAt, CollectsOn, PublishesOn, RetiresOn};
 
+use crate::lane::{Sent, Shown};
 use crate::queue_ring::{Next, QueueRing};
 use crate::reply::{Refusal, Reply};
-use aql_packet::QueueId;
+use aql_packet::{PacketId, QueueId};
 use core_model::Taken;
 use ring_core::Step;
 
@@ -40,6 +43,80 @@ fn make_at(rings: &mut Vec<QueueRing>, queue: QueueId, step: Step) -> Reply
     let place = queue.0 as usize - 1;
     let ring = &mut rings[place];
     ring.make(step)
+}
+
+/// A queue's processor collects the packet at the read index.
+pub(crate) fn collect(rings: &mut Vec<QueueRing>, queue: QueueId) -> Result<Option<Shown>, Refusal>
+    ensures { CallsAt CollectsOn (numbered rings.old.items queue.0) queue rings.old.items result rings.new.items }
+{
+    match ring_at(rings, queue) {
+        None => Err(Refusal::Core(core_model::Refusal::UnknownQueue)),
+        Some(_) => collect_at(rings, queue),
+    }
+}
+
+// The processor of a queue that is open collects the packet at the read index.
+fn collect_at(rings: &mut Vec<QueueRing>, queue: QueueId) -> Result<Option<Shown>, Refusal>
+    requires { HasRing rings.old.items queue }
+    ensures { CallsAt CollectsOn (numbered rings.old.items queue.0) queue rings.old.items result rings.new.items }
+{
+    let place = queue.0 as usize - 1;
+    let ring = &mut rings[place];
+    ring.collect()
+}
+
+/// A queue's processor retires the packet at the read index.
+pub(crate) fn retire(rings: &mut Vec<QueueRing>, queue: QueueId) -> Result<u64, Refusal>
+    ensures { CallsAt RetiresOn (numbered rings.old.items queue.0) queue rings.old.items result rings.new.items }
+{
+    match ring_at(rings, queue) {
+        None => Err(Refusal::Core(core_model::Refusal::UnknownQueue)),
+        Some(_) => retire_at(rings, queue),
+    }
+}
+
+// The processor of a queue that is open retires the packet at the read index.
+fn retire_at(rings: &mut Vec<QueueRing>, queue: QueueId) -> Result<u64, Refusal>
+    requires { HasRing rings.old.items queue }
+    ensures { CallsAt RetiresOn (numbered rings.old.items queue.0) queue rings.old.items result rings.new.items }
+{
+    let place = queue.0 as usize - 1;
+    let ring = &mut rings[place];
+    ring.retire()
+}
+
+/// A producer of a queue publishes a packet, its type another than INVALID, under a ticket of its own.
+pub(crate) fn publish(
+    rings: &mut Vec<QueueRing>,
+    queue: QueueId,
+    producer: u64,
+    ticket: PacketId,
+    words: &[u64; 8],
+) -> Result<Sent, Refusal>
+    requires { is_invalid (slice_index words.now 0) ≡ false }
+    ensures { CallsAt (PublishesOn producer ticket words.now) (numbered rings.old.items queue.0) queue rings.old.items result rings.new.items }
+{
+    match ring_at(rings, queue) {
+        None => Err(Refusal::Core(core_model::Refusal::UnknownQueue)),
+        Some(_) => publish_at(rings, queue, producer, ticket, words),
+    }
+}
+
+// A producer of a queue that is open publishes a packet.
+fn publish_at(
+    rings: &mut Vec<QueueRing>,
+    queue: QueueId,
+    producer: u64,
+    ticket: PacketId,
+    words: &[u64; 8],
+) -> Result<Sent, Refusal>
+    requires ring { HasRing rings.old.items queue }
+    requires valid { is_invalid (slice_index words.now 0) ≡ false }
+    ensures { CallsAt (PublishesOn producer ticket words.now) (numbered rings.old.items queue.0) queue rings.old.items result rings.new.items }
+{
+    let place = queue.0 as usize - 1;
+    let ring = &mut rings[place];
+    ring.publish(producer, ticket, words)
 }
 
 /// The packet that a queue's processor has collected, if the queue is open and it has one whole.

@@ -27,8 +27,8 @@ use std::marker::Model;
 /// The core, and the ring of each of its queues, in the order in which they were opened. A contract sees
 /// the core's history and each ring's machine.
 pub struct World {
-    core: AccessCore,
-    rings: Vec<QueueRing>,
+    pub(crate) core: AccessCore,
+    pub(crate) rings: Vec<QueueRing>,
 }
 
 // Written out, so that where a world ends stands one call, and not what ends each of its parts.
