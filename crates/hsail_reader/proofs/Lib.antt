@@ -1,3 +1,4 @@
+pub mod Fronts
 pub mod Options
 pub mod Runs
 pub mod Numbers

@@ -1,6 +1,6 @@
 -- The single tokens of which kernel text is made, and the flaw where another stands (PRM, HSAIL Syntax and
 -- Semantics; the flaws are (own)).
-use Rattle.std.specs.Prelude.{◌≡◌, ℕ, ◌<◌, List, Bool, true, false, ◌==◌, nat_lt, if◌then◌else◌, Option, Some, None}
+use Rattle.std.specs.Prelude.{◌≡◌, ℕ, ◌<◌, List, [], ◌∷◌, Bool, true, false, ◌==◌, nat_lt, if◌then◌else◌, Option, Some, None}
 use Rattle.std.specs.Option.{option_map}
 use Rattle.hsail_reader.specs.Grammars.{Grammar, give, token, behind, either}
 use Rattle.hsail_reader.specs.TextTokens.{PlacedToken}
@@ -175,6 +175,11 @@ word_kind _ text = None
 -- what a token is as a word, if it is one
 abbrev pub word_at : PlacedToken → Option Word
 word_at t = word_kind t.kind t.text
+
+-- what the first token is as a word, if it is one
+abbrev pub first_word : List PlacedToken → Option Word
+first_word [] = None
+first_word (t ∷ tokens) = word_at t
 
 abbrev pub picked : {X : Type 0} → (Word → Option X) → Option Word → Option X
 picked pick None = None

@@ -29,6 +29,16 @@ pub fn word_of_token(token: &Token<'_>) -> Option<Word>
     }
 }
 
+/// What the first token is as a word, if it is one.
+fn first_word(tokens: &[Token<'_>]) -> Option<Word>
+    ensures { result ≡ terminals.first_word (token_views tokens.now) }
+{
+    match tokens {
+        [] => None,
+        [first, ..] => word_of_token(first),
+    }
+}
+
 /// The flaw at a token that can't begin what is read: a word that no row has, or another.
 fn flaw_at_begin(word: Option<Word>) -> Flaw
     ensures { result ≡ terminals.flaw_at_begin word }
@@ -135,15 +145,20 @@ fn aligned<'a, 't>(
     declared(alloc, line, Some(align), kind, rest)
 }
 
-/// An instruction and `;`.
+/// An instruction and `;`, which begin with this word.
 #[tactic(auto, unfolding(crate::specs::Grammar::performed))]
-fn instruction<'a, 't>(alloc: Global, tokens: Tokens<'a, 't>) -> Read<'a, 't, Item>
+fn instruction<'a, 't>(
+    alloc: Global,
+    word: Option<Word>,
+    tokens: Tokens<'a, 't>,
+) -> Read<'a, 't, Item>
+    requires { word ≡ terminals.first_word (token_views tokens.now) }
     ensures { Gives (λ x. (x.0, token_views x.1.now)) result (read grammar.performed (token_views tokens.now)) }
 {
     let [first, rest @ ..] = tokens else {
         return Err(refused(tokens, Flaw::Syntax));
     };
-    match word_of_token(first) {
+    match word {
         Some(Word::Instruction(opcode)) => {
             let line = first.line;
             let (operation, rest) = operands(alloc, opcode, rest)?;
@@ -154,17 +169,18 @@ fn instruction<'a, 't>(alloc: Global, tokens: Tokens<'a, 't>) -> Read<'a, 't, It
     }
 }
 
-/// A variable of the group segment without `align(n)`, or an instruction.
+/// A variable of the group segment without `align(n)`, or an instruction; it begins with this word.
 #[tactic(auto, unfolding(crate::specs::Grammar::plain))]
-fn plain<'a, 't>(alloc: Global, tokens: Tokens<'a, 't>) -> Read<'a, 't, Item>
+fn plain<'a, 't>(alloc: Global, word: Option<Word>, tokens: Tokens<'a, 't>) -> Read<'a, 't, Item>
+    requires { word ≡ terminals.first_word (token_views tokens.now) }
     ensures { Gives (λ x. (x.0, token_views x.1.now)) result (read grammar.plain (token_views tokens.now)) }
 {
     if let [first, rest @ ..] = tokens {
-        if let Some(kind) = group_of(word_of_token(first)) {
+        if let Some(kind) = group_of(word) {
             return declared(alloc, first.line, None, kind, rest);
         }
     }
-    instruction(alloc, tokens)
+    instruction(alloc, word, tokens)
 }
 
 /// An item that begins with no label.
@@ -172,12 +188,13 @@ fn plain<'a, 't>(alloc: Global, tokens: Tokens<'a, 't>) -> Read<'a, 't, Item>
 fn unlabelled<'a, 't>(alloc: Global, tokens: Tokens<'a, 't>) -> Read<'a, 't, Item>
     ensures { Gives (λ x. (x.0, token_views x.1.now)) result (read grammar.unlabelled (token_views tokens.now)) }
 {
+    let word = first_word(tokens);
     if let [first, rest @ ..] = tokens {
-        if let Some(align) = align_of(word_of_token(first)) {
+        if let Some(align) = align_of(word) {
             return aligned(alloc, first.line, align, rest);
         }
     }
-    plain(alloc, tokens)
+    plain(alloc, word, tokens)
 }
 
 /// An item of a kernel's body.

@@ -130,7 +130,8 @@ fn modifier(bytes: &[u8]) -> usize
     }
 }
 
-/// How many bytes the next piece of a word takes, or 0 at its end.
+/// How many bytes the next piece of a word takes, or 0 at its end. A modifier begins with `_`.
+#[tactic(auto, using(crate::proofs::Fronts::plain_byte))]
 fn piece(bytes: &[u8]) -> usize
     ensures value { result ≡ piece_length bytes.now }
     ensures bound { result ≤ length bytes.now }
@@ -138,6 +139,9 @@ fn piece(bytes: &[u8]) -> usize
     let [first, ..] = bytes else {
         return 0;
     };
+    if *first != b'_' {
+        return usize::from(continues_name(*first));
+    }
     match modifier(bytes) {
         0 => usize::from(continues_name(*first)),
         length => length,

@@ -1,7 +1,8 @@
 //! What a word is: the rows' spellings, with types and modifiers.
 
-ghost use Rattle.std.specs.Prelude.{◌≡◌, ◌≤◌, IfSome, length, map};
-ghost use Rattle.std.specs.Option.{option_map};
+ghost use Rattle.std.specs.Prelude.{◌≡◌, ◌≤◌, IfSome, None, length, map, true};
+ghost use Rattle.std.specs.Option.{option_copied, option_map};
+ghost use Rattle.hsail_reader.specs.Bytes.{behind};
 ghost use Rattle.hsail_reader.specs.Rows.{modifier_view, row_view};
 ghost use Rattle.hsail_reader.specs.Words.{is_spelled, type_among, type_at, ended_at, modifier_among, modifiers_at, opcode_at, instruction_at, alignment_of, word_of};
 
@@ -137,6 +138,28 @@ fn finish(row: Row, rest: &[u8]) -> Option<Opcode>
     })
 }
 
+/// Whether the first bytes tell that this is no front of the text.
+#[tactic(auto, using(crate::proofs::Fronts::other_begin))]
+fn begins_otherwise(front: &[u8], text: &[u8]) -> bool
+    ensures { result ≡ true → behind front.now text.now ≡ None }
+{
+    match (front, text) {
+        ([wanted, ..], [first, ..]) => *first != *wanted,
+        _ => false,
+    }
+}
+
+/// What stands behind the stem of a row, if the text begins with it; most rows fall by their first letter.
+fn behind_stem<'a>(row: &Row, text: &'a [u8]) -> Option<&'a [u8]>
+    ensures { option_copied result ≡ behind row.now.0.now text.now }
+{
+    let stem = row.0.as_bytes();
+    if begins_otherwise(stem, text) {
+        return None;
+    }
+    strip(stem, text)
+}
+
 /// The word of an instruction, by the first row that spells it.
 #[tactic(auto, unfolding(crate::specs::Words::instruction_at))]
 fn instruction(text: &[u8]) -> Option<Opcode>
@@ -144,7 +167,7 @@ fn instruction(text: &[u8]) -> Option<Opcode>
 {
     let mut rows = table();
     while let [row, others @ ..] = rows {
-        if let Some(rest) = strip(row.0.as_bytes(), text) {
+        if let Some(rest) = behind_stem(row, text) {
             if let Some(opcode) = finish(*row, rest) {
                 return Some(opcode);
             }
