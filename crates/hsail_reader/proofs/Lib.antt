@@ -14,6 +14,7 @@ pub mod Decided
 pub mod Loop
 pub mod Located
 pub mod WordRows
+pub mod PlainWords
 pub mod WordSpellings
 pub mod LexemeFronts
 pub mod TextCut

@@ -120,12 +120,23 @@ fn modifiers(bytes: &[u8]) -> (Modifiers, &[u8])
     }
 }
 
+/// The modifiers behind the stem of a row with these types, and what stands behind them: none where a type follows at once.
+#[tactic(auto, using(crate::proofs::PlainWords::typed_at_once))]
+fn modifiers_before(types: TypeSet, rest: &[u8]) -> (Modifiers, &[u8])
+    ensures { (result.0, result.1.now) ≡ modifiers_at rest.now }
+{
+    match kind(types, rest) {
+        Some(_) => (Modifiers::Plain, rest),
+        None => modifiers(rest),
+    }
+}
+
 /// The rest of a word behind the stem of a row.
 fn finish(row: Row, rest: &[u8]) -> Option<Opcode>
     ensures { result ≡ opcode_at (row_view row) rest.now }
 {
     let Row(_, set, types, form, operands) = row;
-    let (modifiers, rest) = modifiers(rest);
+    let (modifiers, rest) = modifiers_before(types, rest);
     if !allowed(set, modifiers) {
         return None;
     }
