@@ -1,7 +1,6 @@
 -- Runs over lines and bytes, one more at a time.
-use Rattle.std.proofs.Common.{◌≡◌, ℕ, ◌+◌, ◌<◌, ◌≤◌, true, false, List, [], ◌∷◌, ◌++◌, length, get_or, take, drop, Some, None, refl, sym, ap, ◌∙◌, subst, inl, inr, ◌⊎◌, eqb, append_assoc, append-nil, length-append, arith}
+use Rattle.std.proofs.Common.{◌≡◌, ℕ, suc, ◌+◌, ◌<◌, ◌≤◌, true, false, List, [], ◌∷◌, ◌++◌, length, Some, None, refl, sym, ap, ◌∙◌, subst, inl, inr, ◌⊎◌, eqb, append_assoc, append-nil, length-append, arith}
 use Rattle.std.specs.Prelude.{◌==◌, nat_lt}
-use Rattle.std.proofs.lemmas.List.{take_more, take_all, take-append-drop}
 use Rattle.std.proofs.lemmas.Bool.Decides.{nat_tests, eqb_tells}
 use Rattle.script.specs.declared.fault.ScriptFault.{ScriptFault}
 use Rattle.script.specs.declared.fault.ScriptFault.TheVariants.{OutOfMemory, BadLine, Read, Write}
@@ -12,9 +11,9 @@ use Rattle.policy.specs.Policy.{Declared}
 use Rattle.script.specs.Words.{nonempty_before}
 use Rattle.script.specs.Lines.{line_of}
 use Rattle.script.specs.Replies.{text_of_line}
-use Rattle.script.specs.Runs.{Law, Told, Runs, Replied, RepliedAs, Wanted, lines_from}
-use Rattle.script.specs.Sessions.{Took, Failed, Ended, EndedLine, FailedLine, WhyLine, Why, at_end, begun, pending, with_further}
-use Rattle.script.proofs.Splitting.{kept_begun, left_at}
+use Rattle.script.specs.Runs.{Law, Told, Runs, Replied, RepliedAs, StopsAt, Wanted, lines_from}
+use Rattle.script.specs.Sessions.{Took, Failed, Ended, EndedLine, FailedLine, FailedPart, FeedBetween, HasNoFeed, TookPart, WhyLine, WhyPart, Why, at_end, begun, pending, with_further}
+use Rattle.script.proofs.Splitting.{kept_begun}
 
 pub lines_end : (line : List ℕ) → lines_from line [] ≡ nonempty_before line []
 unfolding lines_from
@@ -27,6 +26,19 @@ lines_feed line byte bytes e = rw e refl
 pub lines_byte : (line : List ℕ) (byte : ℕ) (bytes : List ℕ) → (byte ≡ 10 → ⊥) → lines_from line (byte ∷ bytes) ≡ lines_from (line ++ byte ∷ []) bytes
 unfolding lines_from
 lines_byte line byte bytes e = let other : (byte == 10) ≡ false = grind (arith, nat_tests) in rw other refl
+
+-- a part of a line goes to its begin
+pub lines_part : (line part bytes : List ℕ) → HasNoFeed part → lines_from line (part ++ bytes) ≡ lines_from (line ++ part) bytes
+lines_part line [] bytes plain = ap (λ begun. lines_from begun bytes) (sym (append-nil line))
+lines_part line (byte ∷ part) bytes plain =
+    lines_byte line byte (part ++ bytes) (plain 0 (omega arith))
+    ∙ lines_part (line ++ byte ∷ []) part bytes (λ place lt. plain (suc place) (omega (arith, lt)))
+    ∙ ap (λ begun. lines_from begun bytes) (append_assoc line (byte ∷ []) part)
+
+-- a part of a line, and the line feed behind it, end the line
+pub lines_line : (line part bytes : List ℕ) → HasNoFeed part → lines_from line ((part ++ 10 ∷ []) ++ bytes) ≡ (line ++ part) ∷ lines_from [] bytes
+lines_line line part bytes plain =
+    ap (lines_from line) (append_assoc part (10 ∷ []) bytes) ∙ lines_part line part (10 ∷ bytes) plain ∙ lines_feed (line ++ part) 10 bytes refl
 
 first_at : (line : List ℕ) (byte : ℕ) (bytes : List ℕ) → ((eqb byte 10 ≡ true) × (byte ≡ 10)) ⊎ ((eqb byte 10 ≡ false) × (byte ≡ 10 → ⊥)) →
     (whole : List ℕ) × (further : List (List ℕ)) × (lines_from (line ++ byte ∷ []) bytes ≡ whole ∷ further) × (length (line ++ byte ∷ []) ≤ length whole) →
@@ -67,41 +79,42 @@ runs_append law old mid new [] others text more r q =
 runs_append law old mid new (line ∷ lines) others text more r q =
     (r.0, r.1, r.2 ++ more, r.3, runs_append law r.0 mid new lines others r.2 more r.4 q, ap (λ front. front ++ more) r.5 ∙ append_assoc r.1 r.2 more)
 
--- a line feed ends the line that was begun
-pub took_line : {S : Type 0} (law : Law S) (old new : S) (before after : Session) (byte : ℕ) → byte ≡ 10 →
-    EndedLine law old new before after → Took law old new before after (byte ∷ [])
-took_line law old new before after byte e ended = record {
-  done = begun before ∷ [];
+-- a line feed ends a line that is begun, or one that lies whole in what was read
+pub took_line : {S : Type 0} (law : Law S) (old new : S) (before after : Session) (part : List ℕ) → HasNoFeed part →
+    EndedLine law old new (begun before ++ part) before after → Took law old new before after (part ++ 10 ∷ [])
+took_line law old new before after part plain ended = record {
+  done = (begun before ++ part) ∷ [];
   text = ended.reply;
-  lines = λ more. lines_feed (begun before) byte more e ∙ ap (λ line. begun before ∷ lines_from line more) (sym ended.line);
-  runs = runs_one law old new (begun before) ended.reply ended.replied;
+  lines = λ more. lines_line (begun before) part more plain ∙ ap (λ line. (begun before ++ part) ∷ lines_from line more) (sym ended.fresh);
+  runs = runs_one law old new (begun before ++ part) ended.reply ended.replied;
   out = ended.out;
   number = ended.number;
-  few = omega arith;
+  few = omega (arith, length-append part (10 ∷ []));
 }
 
-pub why_line : {S : Type 0} (law : Law S) (old new : S) (before : Session) (lines further : List (List ℕ)) (fault : ScriptFault) →
-    lines ≡ begun before ∷ further → WhyLine law old new before fault → Why law old new before.number [] lines fault
-why_line law old new before lines further (BadLine bad) e why =
-    (why.0 ∙ omega arith, why.1, (begun before, further, e, subst (λ broker. line_of (law.names broker) law.later (begun before) ≡ None) (sym why.1) why.2))
-why_line law old new before lines further OutOfMemory e why = (begun before ∷ further, e, why)
-why_line law old new before lines further Read e why = why
-why_line law old new before lines further Write e why = why
+pub why_line : {S : Type 0} (law : Law S) (old new : S) (line : List ℕ) (before : Session) (lines further : List (List ℕ)) (fault : ScriptFault) →
+    lines ≡ line ∷ further → WhyLine law old new line before fault → Why law old new before.number [] lines fault
+why_line law old new line before lines further (BadLine bad) e why =
+    (why.0 ∙ omega arith, why.1, (line, further, e, subst (λ broker. line_of (law.names broker) law.later line ≡ None) (sym why.1) why.2))
+why_line law old new line before lines further OutOfMemory e why = (line ∷ further, e, why)
+why_line law old new line before lines further Read e why = why
+why_line law old new line before lines further Write e why = why
 
-pub failed_line : {S : Type 0} (law : Law S) (old new : S) (before after : Session) (byte : ℕ) (fault : ScriptFault) → byte ≡ 10 →
-    FailedLine law old new before after fault → Failed law old new before after (with_further before (byte ∷ [])) fault
-failed_line law old new before after byte fault e failed = record {
+pub failed_line : {S : Type 0} (law : Law S) (old new : S) (before after : Session) (part : List ℕ) (fault : ScriptFault) → HasNoFeed part →
+    FailedLine law old new (begun before ++ part) before after fault → Failed law old new before after (with_further before (part ++ 10 ∷ [])) fault
+failed_line law old new before after part fault plain failed = record {
   done = [];
   text = [];
   mid = old;
   runs = (refl, refl);
   out = failed.0 ∙ sym (append-nil (pending before));
-  why = λ more. why_line law old new before (lines_from (begun before) (byte ∷ more)) (lines_from [] more) fault (lines_feed (begun before) byte more e) failed.1;
+  why = λ more. why_line law old new (begun before ++ part) before (lines_from (begun before) ((part ++ 10 ∷ []) ++ more)) (lines_from [] more) fault
+      (lines_line (begun before) part more plain) failed.1;
 }
 
 -- the end ends a line that has a byte
 pub ended_last : {S : Type 0} (law : Law S) (old new : S) (before after : Session) → 0 < length (begun before) →
-    EndedLine law old new before after → Ended law old new before after
+    EndedLine law old new (begun before) before after → Ended law old new before after
 ended_last law old new before after some ended = record {
   text = ended.reply;
   runs = subst (λ lines. Runs law old lines ended.reply new) (sym (kept_begun (begun before) [] some))
@@ -110,57 +123,84 @@ ended_last law old new before after some ended = record {
 }
 
 pub failed_last : {S : Type 0} (law : Law S) (old new : S) (before after : Session) (fault : ScriptFault) → 0 < length (begun before) →
-    FailedLine law old new before after fault → Failed law old new before after (at_end before) fault
+    FailedLine law old new (begun before) before after fault → Failed law old new before after (at_end before) fault
 failed_last law old new before after fault some failed = record {
   done = [];
   text = [];
   mid = old;
   runs = (refl, refl);
   out = failed.0 ∙ sym (append-nil (pending before));
-  why = λ more. why_line law old new before (at_end before more) [] fault (kept_begun (begun before) [] some) failed.1;
+  why = λ more. why_line law old new (begun before) before (at_end before more) [] fault (kept_begun (begun before) [] some) failed.1;
 }
 
--- a byte more makes the line too long
-pub failed_long : {S : Type 0} (law : Law S) (broker : S) (before after : Session) (byte : ℕ) → (byte ≡ 10 → ⊥) → 16384 ≤ length (begun before) → pending after ≡ pending before →
-    Failed law broker broker before after (with_further before (byte ∷ [])) (BadLine before.number)
-failed_long law broker before after byte e long out = record {
+-- a part that could not be taken: it makes the line too long, or finds no room
+why_part : {S : Type 0} (law : Law S) (broker : S) (before : Session) (part more : List ℕ) (fault : ScriptFault) → HasNoFeed part →
+    WhyPart before part fault → Why law broker broker before.number [] (with_further before part more) fault
+why_part law broker before part more (BadLine bad) plain why =
+    let longer : 16384 < length (begun before ++ part) = omega (arith, why.1, length-append (begun before) part) in
+    let first = first_line (begun before ++ part) more (omega (arith, longer)) in
+    (why.0 ∙ omega arith, refl, (first.0, first.1, lines_part (begun before) part more plain ∙ first.2, no_form (law.names broker) law.later first.0 (omega (arith, longer, first.3))))
+why_part law broker before part more OutOfMemory plain why =
+    let first = first_line (begun before ++ part) more (omega (arith, why, length-append (begun before) part)) in
+    (first.0 ∷ first.1, lines_part (begun before) part more plain ∙ first.2, inl refl)
+why_part law broker before part more Read plain why = why
+why_part law broker before part more Write plain why = why
+
+pub failed_part : {S : Type 0} (law : Law S) (broker : S) (before after : Session) (part : List ℕ) (fault : ScriptFault) → HasNoFeed part →
+    FailedPart before after part fault → Failed law broker broker before after (with_further before part) fault
+failed_part law broker before after part fault plain failed = record {
   done = [];
   text = [];
   mid = broker;
   runs = (refl, refl);
-  out = out ∙ sym (append-nil (pending before));
-  why = λ more.
-      let longer : 16384 < length (begun before ++ byte ∷ []) = omega (arith, length-append (begun before) (byte ∷ [])) in
-      let first = first_line (begun before ++ byte ∷ []) more (omega arith) in
-      (omega arith, refl, (first.0, first.1, lines_byte (begun before) byte more e ∙ first.2, no_form (law.names broker) law.later first.0 (omega (arith, first.3))));
+  out = failed.0 ∙ sym (append-nil (pending before));
+  why = λ more. why_part law broker before part more fault plain failed.1;
 }
 
--- a byte more finds no room
-pub failed_wanted : {S : Type 0} (law : Law S) (broker : S) (before after : Session) (byte : ℕ) → (byte ≡ 10 → ⊥) → pending after ≡ pending before →
-    Failed law broker broker before after (with_further before (byte ∷ [])) OutOfMemory
-failed_wanted law broker before after byte e out = record {
+-- a part was taken
+pub took_part : {S : Type 0} (law : Law S) (broker : S) (before after : Session) (part : List ℕ) → HasNoFeed part →
+    TookPart before after part → Took law broker broker before after part
+took_part law broker before after part plain took = record {
   done = [];
   text = [];
-  mid = broker;
+  lines = λ more. lines_part (begun before) part more plain ∙ ap (λ line. lines_from line more) (sym took.line);
   runs = (refl, refl);
-  out = out ∙ sym (append-nil (pending before));
-  why = λ more.
-      let first = first_line (begun before ++ byte ∷ []) more (omega (arith, length-append (begun before) (byte ∷ []))) in
-      (first.0 ∷ first.1, lines_byte (begun before) byte more e ∙ first.2, inl refl);
-}
-
--- a byte more belongs to the line that is begun
-pub took_byte : {S : Type 0} (law : Law S) (broker : S) (before after : Session) (byte : ℕ) → (byte ≡ 10 → ⊥) → begun after ≡ begun before ++ byte ∷ [] →
-    pending after ≡ pending before → after.number ≡ before.number → Took law broker broker before after (byte ∷ [])
-took_byte law broker before after byte e line out number = record {
-  done = [];
-  text = [];
-  lines = λ more. lines_byte (begun before) byte more e ∙ ap (λ line. lines_from line more) (sym line);
-  runs = (refl, refl);
-  out = out ∙ sym (append-nil (pending before));
-  number = number ∙ omega arith;
+  out = took.out ∙ sym (append-nil (pending before));
+  number = took.number ∙ omega arith;
   few = omega arith;
 }
+
+-- a line whose last part was taken just before it is served, or could not be
+pub ended_part : {S : Type 0} (law : Law S) (old new : S) (before between after : Session) (part : List ℕ) → TookPart before between part →
+    EndedLine law old new (begun between) between after → EndedLine law old new (begun before ++ part) before after
+ended_part law old new before between after part took ended = record {
+  reply = ended.reply;
+  replied = subst (λ line. Replied law old line ended.reply new) took.line ended.replied;
+  out = ended.out ∙ ap (λ front. front ++ ended.reply) took.out;
+  fresh = ended.fresh;
+  number = ended.number ∙ ap (λ number. number + 1) took.number;
+}
+
+why_ended : {S : Type 0} (law : Law S) (old new : S) (before between : Session) (part : List ℕ) (fault : ScriptFault) → TookPart before between part →
+    WhyLine law old new (begun between) between fault → WhyLine law old new (begun before ++ part) before fault
+why_ended law old new before between part (BadLine bad) took why =
+    (why.0 ∙ took.number, why.1, subst (λ line. line_of (law.names old) law.later line ≡ None) took.line why.2)
+why_ended law old new before between part OutOfMemory took why = subst (λ line. StopsAt law old new (line ∷ [])) took.line why
+why_ended law old new before between part Read took why = why
+why_ended law old new before between part Write took why = why
+
+pub failed_ended : {S : Type 0} (law : Law S) (old new : S) (before between after : Session) (part : List ℕ) (fault : ScriptFault) → TookPart before between part →
+    FailedLine law old new (begun between) between after fault → FailedLine law old new (begun before ++ part) before after fault
+failed_ended law old new before between after part fault took failed =
+    (failed.0 ∙ took.out, why_ended law old new before between part fault took failed.1)
+
+no_length : (bytes : List ℕ) → length bytes ≡ 0 → bytes ≡ []
+no_length [] none = refl
+no_length (byte ∷ bytes) none = absurd (omega (arith, none))
+
+-- where no line is begun, a part is the line's begin
+pub none_begun : (before : Session) (part : List ℕ) → length (begun before) ≡ 0 → part ≡ begun before ++ part
+none_begun before part none = ap (λ front. front ++ part) (sym (no_length (begun before) none))
 
 -- no byte
 pub took_none : {S : Type 0} (law : Law S) (broker : S) (session : Session) → Took law broker broker session session []
@@ -174,24 +214,20 @@ took_none law broker session = record {
   few = omega arith;
 }
 
--- bytes and a byte more
-pub took_more : {S : Type 0} (law : Law S) (old mid new : S) (before between after : Session) (bytes : List ℕ) (i : ℕ) → i < length bytes →
-    Took law old mid before between (take i bytes) → Took law mid new between after (get_or bytes i 0 ∷ []) → Took law old new before after (take (i + 1) bytes)
-took_more law old mid new before between after bytes i h a b =
-    let more_is : take (i + 1) bytes ≡ take i bytes ++ get_or bytes i 0 ∷ [] = take_more bytes i 0 h in
-    let few_is : length (take (i + 1) bytes) ≡ length (take i bytes) + 1 = ap length more_is ∙ length-append (take i bytes) (get_or bytes i 0 ∷ []) in
-    record {
-      done = a.done ++ b.done;
-      text = a.text ++ b.text;
-      lines = λ more.
-          ap (λ front. lines_from (begun before) (front ++ more)) more_is
-          ∙ ap (lines_from (begun before)) (append_assoc (take i bytes) (get_or bytes i 0 ∷ []) more)
-          ∙ a.lines (get_or bytes i 0 ∷ more) ∙ ap (λ further. a.done ++ further) (b.lines more) ∙ sym (append_assoc a.done b.done (lines_from (begun after) more));
-      runs = runs_append law old mid new a.done b.done a.text b.text a.runs b.runs;
-      out = b.out ∙ ap (λ front. front ++ b.text) a.out ∙ append_assoc (pending before) a.text b.text;
-      number = omega (arith, a.number, b.number, length-append a.done b.done);
-      few = omega (arith, a.few, b.few, few_is, length-append a.done b.done);
-    }
+-- bytes and further bytes
+pub took_behind : {S : Type 0} (law : Law S) (old mid new : S) (before between after : Session) (bytes further : List ℕ) →
+    Took law old mid before between bytes → Took law mid new between after further → Took law old new before after (bytes ++ further)
+took_behind law old mid new before between after bytes further a b = record {
+  done = a.done ++ b.done;
+  text = a.text ++ b.text;
+  lines = λ more.
+      ap (lines_from (begun before)) (append_assoc bytes further more)
+      ∙ a.lines (further ++ more) ∙ ap (λ lines. a.done ++ lines) (b.lines more) ∙ sym (append_assoc a.done b.done (lines_from (begun after) more));
+  runs = runs_append law old mid new a.done b.done a.text b.text a.runs b.runs;
+  out = b.out ∙ ap (λ front. front ++ b.text) a.out ∙ append_assoc (pending before) a.text b.text;
+  number = omega (arith, a.number, b.number, length-append a.done b.done);
+  few = omega (arith, a.few, b.few, length-append bytes further, length-append a.done b.done);
+}
 
 pub why_behind : {S : Type 0} (law : Law S) (mid new : S) (first number : ℕ) (before done lines all : List (List ℕ)) (fault : ScriptFault) →
     number ≡ first + length before → all ≡ before ++ lines → Why law mid new number done lines fault → Why law mid new first (before ++ done) all fault
@@ -205,26 +241,75 @@ why_behind law mid new first number before done lines all OutOfMemory n e why =
 why_behind law mid new first number before done lines all Read n e why = why
 why_behind law mid new first number before done lines all Write n e why = why
 
--- bytes, and a byte that could not be taken
-pub failed_more : {S : Type 0} (law : Law S) (old mid new : S) (before between after : Session) (bytes : List ℕ) (i : ℕ) (fault : ScriptFault) → i < length bytes →
-    Took law old mid before between (take i bytes) → Failed law mid new between after (with_further between (get_or bytes i 0 ∷ [])) fault →
-    Failed law old new before after (with_further before bytes) fault
-failed_more law old mid new before between after bytes i fault h a b = record {
+-- bytes, and further bytes that could not be taken
+pub failed_behind : {S : Type 0} (law : Law S) (old mid new : S) (before between after : Session) (bytes further : List ℕ) (fault : ScriptFault) →
+    Took law old mid before between bytes → Failed law mid new between after (with_further between further) fault →
+    Failed law old new before after (with_further before (bytes ++ further)) fault
+failed_behind law old mid new before between after bytes further fault a b = record {
   done = a.done ++ b.done;
   text = a.text ++ b.text;
   mid = b.mid;
   runs = runs_append law old mid b.mid a.done b.done a.text b.text a.runs b.runs;
   out = b.out ∙ ap (λ front. front ++ b.text) a.out ∙ append_assoc (pending before) a.text b.text;
   why = λ more.
-      let whole : bytes ++ more ≡ take i bytes ++ (get_or bytes i 0 ∷ (drop (i + 1) bytes ++ more)) =
-      ap (λ all. all ++ more) (sym (take-append-drop i bytes)) ∙ append_assoc (take i bytes) (drop i bytes) more
-      ∙ ap (λ rest. take i bytes ++ (rest ++ more)) (left_at bytes i h) in
-      why_behind law b.mid new before.number between.number a.done b.done (with_further between (get_or bytes i 0 ∷ []) (drop (i + 1) bytes ++ more))
-      (with_further before bytes more) fault a.number
-      (ap (lines_from (begun before)) whole ∙ a.lines (get_or bytes i 0 ∷ (drop (i + 1) bytes ++ more)))
-      (b.why (drop (i + 1) bytes ++ more));
+      why_behind law b.mid new before.number between.number a.done b.done (with_further between further more)
+      (with_further before (bytes ++ further) more) fault a.number
+      (ap (lines_from (begun before)) (append_assoc bytes further more) ∙ a.lines (further ++ more))
+      (b.why more);
 }
 
-pub took_all : {S : Type 0} (law : Law S) (old new : S) (before after : Session) (bytes : List ℕ) (i : ℕ) → length bytes ≤ i →
-    Took law old new before after (take i bytes) → Took law old new before after bytes
-took_all law old new before after bytes i h took = subst (λ all. Took law old new before after all) (take_all i bytes h) took
+-- bytes that could not be taken, and any behind them
+pub failed_front : {S : Type 0} (law : Law S) (old new : S) (before after : Session) (bytes further : List ℕ) (fault : ScriptFault) →
+    Failed law old new before after (with_further before bytes) fault → Failed law old new before after (with_further before (bytes ++ further)) fault
+failed_front law old new before after bytes further fault failed = record {
+  done = failed.done;
+  text = failed.text;
+  mid = failed.mid;
+  runs = failed.runs;
+  out = failed.out;
+  why = λ more. subst (λ lines. Why law failed.mid new before.number failed.done lines fault)
+      (ap (lines_from (begun before)) (sym (append_assoc bytes further more))) (failed.why (further ++ more));
+}
+
+-- the bytes before those that are left were taken
+pub record TookFront {S : Type 0} (law : Law S) (old new : S) (before after : Session) (bytes rest : List ℕ) : Type 0 where
+  pub front : List ℕ
+  pub parts : bytes ≡ front ++ rest
+  pub took : Took law old new before after front
+
+pub front_none : {S : Type 0} (law : Law S) (broker : S) (session : Session) (bytes : List ℕ) → TookFront law broker broker session session bytes bytes
+front_none law broker session bytes = record {
+  front = [];
+  parts = refl;
+  took = took_none law broker session;
+}
+
+pub front_line : {S : Type 0} (law : Law S) (old mid new : S) (before between after : Session) (bytes rest part behind : List ℕ) →
+    TookFront law old mid before between bytes rest → FeedBetween rest part behind → Took law mid new between after (part ++ 10 ∷ []) →
+    TookFront law old new before after bytes behind
+front_line law old mid new before between after bytes rest part behind so feed took = record {
+  front = so.front ++ (part ++ 10 ∷ []);
+  parts = so.parts ∙ ap (λ rest. so.front ++ rest) feed.parts ∙ sym (append_assoc so.front (part ++ 10 ∷ []) behind);
+  took = took_behind law old mid new before between after so.front (part ++ 10 ∷ []) so.took took;
+}
+
+pub front_failed : {S : Type 0} (law : Law S) (old mid new : S) (before between after : Session) (bytes rest part behind : List ℕ) (fault : ScriptFault) →
+    TookFront law old mid before between bytes rest → FeedBetween rest part behind → Failed law mid new between after (with_further between (part ++ 10 ∷ [])) fault →
+    Failed law old new before after (with_further before bytes) fault
+front_failed law old mid new before between after bytes rest part behind fault so feed failed =
+    subst (λ all. Failed law old new before after (with_further before all) fault) (sym (so.parts ∙ ap (λ rest. so.front ++ rest) feed.parts))
+    (failed_behind law old mid new before between after so.front ((part ++ 10 ∷ []) ++ behind) fault so.took
+    (failed_front law mid new between after (part ++ 10 ∷ []) behind fault failed))
+
+-- the bytes that are left have no line feed
+pub front_end : {S : Type 0} (law : Law S) (old new : S) (before between after : Session) (bytes rest : List ℕ) →
+    TookFront law old new before between bytes rest → HasNoFeed rest → TookPart between after rest → Took law old new before after bytes
+front_end law old new before between after bytes rest so plain took =
+    subst (λ all. Took law old new before after all) (sym so.parts)
+    (took_behind law old new new before between after so.front rest so.took (took_part law new between after rest plain took))
+
+pub front_stop : {S : Type 0} (law : Law S) (old new : S) (before between after : Session) (bytes rest : List ℕ) (fault : ScriptFault) →
+    TookFront law old new before between bytes rest → HasNoFeed rest → FailedPart between after rest fault → Failed law old new before after (with_further before bytes) fault
+front_stop law old new before between after bytes rest fault so plain failed =
+    subst (λ all. Failed law old new before after (with_further before all) fault) (sym so.parts)
+    (failed_behind law old new new before between after so.front rest fault so.took (failed_part law new between after rest fault plain failed))

@@ -1,5 +1,5 @@
 -- What a run in its course has done.
-use Rattle.std.specs.Prelude.{ℕ, ◌≡◌, ◌+◌, ◌≤◌, List, [], ◌∷◌, ◌++◌, length, None, string_bytes}
+use Rattle.std.specs.Prelude.{ℕ, ◌≡◌, ◌≢◌, ◌+◌, ◌<◌, ◌≤◌, List, [], ◌∷◌, ◌++◌, length, None, slice_index, string_bytes}
 use Rattle.script.specs.declared.fault.ScriptFault.{ScriptFault}
 use Rattle.script.specs.declared.fault.ScriptFault.TheVariants.{OutOfMemory, BadLine, Read, Write}
 use Rattle.script.specs.declared.session.Session.{Session}
@@ -62,20 +62,45 @@ pub record Ended {S : Type 0} (law : Law S) (old new : S) (before after : Sessio
   pub runs : Runs law old (nonempty_before (begun before) []) text new
   pub out : pending after ≡ pending before ++ text
 
--- the line that was begun is served, and the next one begins
-pub record EndedLine {S : Type 0} (law : Law S) (old new : S) (before after : Session) : Type 0 where
+-- no byte of a part of a line is a line feed
+abbrev pub HasNoFeed : List ℕ → Type 0
+HasNoFeed part = (place : ℕ) → place < length part → slice_index part place ≢ 10
+
+-- bytes are a part of a line, a line feed, and what stands behind it
+pub record FeedBetween (bytes part behind : List ℕ) : Type 0 where
+  pub plain : HasNoFeed part
+  pub parts : bytes ≡ (part ++ 10 ∷ []) ++ behind
+
+-- a part belongs to the line that is begun
+pub record TookPart (before after : Session) (part : List ℕ) : Type 0 where
+  pub line : begun after ≡ begun before ++ part
+  pub out : pending after ≡ pending before
+  pub number : after.number ≡ before.number
+
+-- a part makes the line too long, or finds no room
+abbrev pub WhyPart : Session → List ℕ → ScriptFault → Type 0
+WhyPart before part (BadLine bad) = (bad ≡ before.number) × (16384 < length (begun before) + length part)
+WhyPart before part OutOfMemory = 0 < length part
+WhyPart before part Read = ⊥
+WhyPart before part Write = ⊥
+
+abbrev pub FailedPart : Session → Session → List ℕ → ScriptFault → Type 0
+FailedPart before after part fault = (pending after ≡ pending before) × WhyPart before part fault
+
+-- a line is served, and the next one begins
+pub record EndedLine {S : Type 0} (law : Law S) (old new : S) (line : List ℕ) (before after : Session) : Type 0 where
   pub reply : List ℕ
-  pub replied : Replied law old (begun before) reply new
+  pub replied : Replied law old line reply new
   pub out : pending after ≡ pending before ++ reply
-  pub line : begun after ≡ []
+  pub fresh : begun after ≡ []
   pub number : after.number ≡ before.number + 1
 
--- the line that was begun could not be served
-abbrev pub WhyLine : {S : Type 0} → Law S → S → S → Session → ScriptFault → Type 0
-WhyLine law old new before (BadLine bad) = (bad ≡ before.number) × (new ≡ old) × (line_of (law.names old) law.later (begun before) ≡ None)
-WhyLine law old new before OutOfMemory = StopsAt law old new (begun before ∷ [])
-WhyLine law old new before Read = ⊥
-WhyLine law old new before Write = ⊥
+-- a line could not be served
+abbrev pub WhyLine : {S : Type 0} → Law S → S → S → List ℕ → Session → ScriptFault → Type 0
+WhyLine law old new line before (BadLine bad) = (bad ≡ before.number) × (new ≡ old) × (line_of (law.names old) law.later line ≡ None)
+WhyLine law old new line before OutOfMemory = StopsAt law old new (line ∷ [])
+WhyLine law old new line before Read = ⊥
+WhyLine law old new line before Write = ⊥
 
-abbrev pub FailedLine : {S : Type 0} → Law S → S → S → Session → Session → ScriptFault → Type 0
-FailedLine law old new before after fault = (pending after ≡ pending before) × WhyLine law old new before fault
+abbrev pub FailedLine : {S : Type 0} → Law S → S → S → List ℕ → Session → Session → ScriptFault → Type 0
+FailedLine law old new line before after fault = (pending after ≡ pending before) × WhyLine law old new line before fault

@@ -1,12 +1,13 @@
 //! A script in the course of its run: bytes are taken as they come, and each line that ends is served.
 
-ghost use Rattle.std.specs.Prelude.{◌∷◌, [], ◌+◌, ◌<◌, ◌^◌, MatchResult, length};
+ghost use Rattle.std.specs.Prelude.{◌≡◌, ◌∷◌, [], ◌++◌, ◌+◌, ◌<◌, ◌^◌, MatchOption, MatchResult, length};
 ghost use Rattle.script.specs.Runs.{worlds};
-ghost use Rattle.script.specs.Sessions.{Took, Failed, Ended, EndedLine, FailedLine, with_further, at_end};
+ghost use Rattle.script.specs.Sessions.{Took, Failed, Ended, EndedLine, FailedLine, FailedPart, FeedBetween, HasNoFeed, TookPart, begun, pending, with_further, at_end};
 
 use crate::engine::answer;
 use crate::fault::ScriptFault;
 use crate::lines::LONGEST_LINE;
+use memchr::memchr;
 use policy::Policy;
 use std::alloc::Global;
 use world::World;
@@ -22,7 +23,38 @@ pub struct Session {
     pub out: String,
 }
 
-// Serves the line that ends here.
+// Begins the next line.
+fn next_line(session: &mut Session)
+    requires { session.old.number + 1 < 2 ^ 64 }
+    ensures line { begun session.new ≡ [] }
+    ensures number { session.new.number ≡ session.old.number + 1 }
+    ensures out { pending session.new ≡ pending session.old }
+{
+    session.line.clear();
+    session.number += 1;
+}
+
+// Serves a line that lies whole in what was read.
+fn serve_line(
+    alloc: Global,
+    world: &mut World,
+    later: &[Policy],
+    session: &mut Session,
+    line: &[u8],
+) -> Result<(), ScriptFault>
+    requires { session.old.number + 1 < 2 ^ 64 }
+    ensures { MatchResult result
+        (λ _. EndedLine (worlds later.now) world.old world.new line.now session.old session.new)
+        (FailedLine (worlds later.now) world.old world.new line.now session.old session.new) }
+{
+    if !answer(alloc, world, later, line, &mut session.out)? {
+        return Err(ScriptFault::BadLine(session.number));
+    }
+    next_line(session);
+    Ok(())
+}
+
+// Serves the line that was begun, which ends here.
 fn end_line(
     alloc: Global,
     world: &mut World,
@@ -31,8 +63,8 @@ fn end_line(
 ) -> Result<(), ScriptFault>
     requires { session.old.number + 1 < 2 ^ 64 }
     ensures { MatchResult result
-        (λ _. EndedLine (worlds later.now) world.old world.new session.old session.new)
-        (FailedLine (worlds later.now) world.old world.new session.old session.new) }
+        (λ _. EndedLine (worlds later.now) world.old world.new (begun session.old) session.old session.new)
+        (FailedLine (worlds later.now) world.old world.new (begun session.old) session.old session.new) }
 {
     if !answer(
         alloc,
@@ -43,32 +75,54 @@ fn end_line(
     )? {
         return Err(ScriptFault::BadLine(session.number));
     }
-    session.line.clear();
-    session.number += 1;
+    next_line(session);
     Ok(())
 }
 
-// Takes a byte of the script.
-fn take_byte(
+// Takes a part of a line: it belongs to the line that is begun.
+fn take_part(session: &mut Session, part: &[u8]) -> Result<(), ScriptFault>
+    ensures { MatchResult result
+        (λ _. TookPart session.old session.new part.now)
+        (FailedPart session.old session.new part.now) }
+{
+    if part.is_empty() {
+        return Ok(());
+    }
+    if session.line.len() + part.len() > LONGEST_LINE {
+        return Err(ScriptFault::BadLine(session.number));
+    }
+    session.line.extend_from_slice(part)?;
+    Ok(())
+}
+
+// Takes the rest of a line, and the line feed behind it.
+fn take_line(
     alloc: Global,
     world: &mut World,
     later: &[Policy],
     session: &mut Session,
-    byte: u8,
+    part: &[u8],
 ) -> Result<(), ScriptFault>
-    requires { session.old.number + 1 < 2 ^ 64 }
+    requires number { session.old.number + 1 < 2 ^ 64 }
+    requires part { HasNoFeed part.now }
     ensures { MatchResult result
-        (λ _. Took (worlds later.now) world.old world.new session.old session.new (byte ∷ []))
-        (Failed (worlds later.now) world.old world.new session.old session.new (with_further session.old (byte ∷ []))) }
+        (λ _. Took (worlds later.now) world.old world.new session.old session.new (part.now ++ 10 ∷ []))
+        (Failed (worlds later.now) world.old world.new session.old session.new (with_further session.old (part.now ++ 10 ∷ []))) }
 {
-    if byte == b'\n' {
-        return end_line(alloc, world, later, session);
+    if session.line.is_empty() {
+        return serve_line(alloc, world, later, session, part);
     }
-    if session.line.len() >= LONGEST_LINE {
-        return Err(ScriptFault::BadLine(session.number));
-    }
-    session.line.push(byte)?;
-    Ok(())
+    take_part(session, part)?;
+    end_line(alloc, world, later, session)
+}
+
+// The bytes before the first line feed, and those behind it.
+fn split_line(bytes: &[u8]) -> Option<(&[u8], &[u8])>
+    ensures { MatchOption result (HasNoFeed bytes.now) (λ found. FeedBetween bytes.now found.0.now found.1.now) }
+{
+    let place = memchr(b'\n', bytes)?;
+    let (line, behind) = bytes.split_at(place);
+    Some((line, behind.split_at(1).1))
 }
 
 /// Takes further bytes of the script.
@@ -84,10 +138,12 @@ pub fn take_bytes(
         (λ _. Took (worlds later.now) world.old world.new session.old session.new bytes.now)
         (Failed (worlds later.now) world.old world.new session.old session.new (with_further session.old bytes.now)) }
 {
-    for byte in bytes {
-        take_byte(alloc, world, later, session, *byte)?;
+    let mut rest = bytes;
+    while let Some((line, further)) = split_line(rest) {
+        take_line(alloc, world, later, session, line)?;
+        rest = further;
     }
-    Ok(())
+    take_part(session, rest)
 }
 
 /// Takes the end of the script: a line that is begun ends there.

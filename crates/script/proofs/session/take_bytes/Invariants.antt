@@ -1,9 +1,12 @@
--- The bytes so far were taken.
-use Rattle.std.proofs.Common.{take}
+-- What stands before the bytes that are left was taken.
+use Rattle.std.proofs.Common.{length}
 use Rattle.script.specs.Runs.{worlds}
-use Rattle.script.specs.Sessions.{Took}
+use Rattle.script.proofs.Running.{TookFront}
 use Rattle.script.proofs.session.take_bytes.Given as goal
 
-abbrev pub invariant-loop-byte : goal.invariant-loop-byte
-invariant-loop-byte l =
-    Took (worlds l.later) l.initial.world l.world l.initial.session l.session (take l.byte-index l.bytes)
+abbrev pub invariant-loop-line : goal.invariant-loop-line
+invariant-loop-line l =
+    TookFront (worlds l.later) l.initial.world l.world l.initial.session l.session l.bytes l.rest
+
+abbrev pub decreases-loop-line : goal.decreases-loop-line
+decreases-loop-line l = length l.rest
