@@ -236,7 +236,7 @@ fn tell_rule(
     let asked = PacketNeeds::of(opening.agent, *packet);
     for need in asked.of_rule(rule) {
         if let Some(need) = need {
-            tell_need(out, scene, opening, rule, need)?;
+            tell_need(out, scene, opening, rule, &need)?;
         }
     }
     Ok(())
