@@ -3,7 +3,7 @@ use Rattle.std.proofs.Common.{◌≡◌, ℕ, ◌+◌, ◌≤◌, List, [], ◌�
 use Rattle.std.proofs.Common.{All}
 use Rattle.access_core.proofs.Terms.{AreBlocksOf, ArgumentBlock, ClientId, Effect, Event, History, InFlight, Inside, IsCached, IsEntered, IsSound, Ledger, Object, Outcome}
 use Rattle.access_core.proofs.Terms.{Owed}
-use Rattle.access_core.proofs.Terms.{PacketId, QUEUES, Queue, QueueId, Right, Start, block_of, byte_after, byte_at, cached_opening, cached_view, due, entered-owed}
+use Rattle.access_core.proofs.Terms.{PacketId, QUEUES, Queue, QueueId, Right, Start, block_of, is_given, byte_after, byte_at, cached_opening, cached_view, due, entered-owed}
 use Rattle.access_core.proofs.Terms.{enters, entry_of, flight, flight-more, history_of, in_force, in_force-more, in_force_after, lacks_room, launched_by, lengths_of}
 use Rattle.access_core.proofs.Terms.{lies_in_region, lies_in_regions, ltb-false, memory_at, memory_at-more, numbered, openings-more, owed, queue_at}
 use Rattle.access_core.proofs.Terms.{region_lengths, signals-more, signals_after, start_of, with_entry, with_some}
@@ -26,6 +26,8 @@ pub record GrantsAfter (a : Inside) (new : Ledger) (blocks : List ArgumentBlock)
       → ledger.holds new queue id client on right ≡ held (start_of a) (with_entry a.audit.items event outcome effects) queue id client on right
   pub blocks_are : AreBlocksOf (flight (start_of a) (with_entry a.audit.items event outcome effects)) blocks
   pub arguments : (queue : QueueId) (id : PacketId) → block_of blocks queue id ≡ arguments (start_of a) (with_entry a.audit.items event outcome effects) queue id
+  pub given : (queue : QueueId) (id : PacketId) (client : ClientId) (on : Object) (right : Right)
+      → is_given blocks queue id client on right ≡ ledger.holds new queue id client on right
 
 -- How the memory does.
 pub record MemoryAfter (old new : List (List ℕ)) (effects : List Effect) : Type 0 where
@@ -91,6 +93,7 @@ module _ (a b : Inside) (event : Event) (outcome : Outcome) (effects : List Effe
         held = λ queue id client on right. rw (after.same.0.0, after.same.0.1, after.audit.items) (after.grants.held queue id client on right);
         blocks_are = rw (after.same.0.0, after.same.0.1, after.audit.items) after.grants.blocks_are;
         arguments = λ queue id. rw (after.same.0.0, after.same.0.1, after.audit.items) (after.grants.arguments queue id);
+        given = after.grants.given;
         entries = rw after.same.0.1 was.entries;
         segments = rw (after.same.0.1, after.same.0.2) was.segments;
         lengths = rw after.same.0.0 (after.memory.lengths ∙ was.lengths);

@@ -3,7 +3,7 @@ use Rattle.core_model.specs.History.{beginning}
 use Rattle.std.proofs.Common.{◌≡◌, ℕ, ◌<◌, ◌≤◌, List, length, get_or, refl, sym, ◌∙◌, ap, subst, true, Option, Some, None, arith, All, map, option_map, slice_get}
 use Rattle.access_core.proofs.Terms.{All-weaker, AreLentAlike, Dispatch, FailsAs, FaultsAs, GroupInput, GroupResult, HeldRegion, History, Inside, IsCached}
 use Rattle.access_core.proofs.Terms.{IsInPlace}
-use Rattle.access_core.proofs.Terms.{IsLegal, IsNumber, IsRunnable, Kernel, KernelDispatch, LentRegion, PacketId, Place, Program, QueueId, WrittenRange, are_region_lengths, block_of}
+use Rattle.access_core.proofs.Terms.{IsLegal, IsNumber, IsRunnable, Kernel, KernelDispatch, LentRegion, PacketId, Place, Program, QueueId, WrittenRange, are_region_lengths}
 use Rattle.access_core.proofs.Terms.{granted-now, get_or_from_slice_get, given_at_launch, grid_size, group_bytes_of, group_count, group_input, group_result}
 use Rattle.access_core.proofs.Terms.{group_size}
 use Rattle.access_core.proofs.Terms.{has_entry, history_of, input_of, is_index, is_within, kernel_of, lent_region, ltb-true, no_kernel, numbered, numbered-map, own_rights}
@@ -77,10 +77,6 @@ module _ (a : Inside) (kept : IsCached a) (old : History) (seen_as : history_of 
       program-is p here =
           sym (ap (λ o. unwrap_or o no_kernel) (kernels-are d.kernel_object.0 ∙ ap (option_map program_of) at)
           ∙ ap (program_in k.checked) index_is ∙ ap (λ o. unwrap_or o no_kernel) here)
-
-  -- its argument block is as it was at its launch
-  pub block-is : block_of a.blocks.items queue id ≡ arguments (beginning old) old.entries queue id
-  block-is = kept.arguments queue id ∙ ap (λ (h : History). arguments (beginning h) h.entries queue id) seen_as
 
   module _ (asked : Dispatch) (asks : IsAsked asked d (arguments (beginning old) old.entries queue id)) (p : Program) (p_is : p ≡ kernel_of (beginning old) d) (group : ℕ) where
     -- the executor can run it

@@ -1,6 +1,7 @@
 -- What packets hold moves along with what is in flight.
 use Rattle.std.proofs.Common.{◌≡◌, List, [], ◌∷◌, ◌++◌, refl, sym, subst, ◌∙◌, ap, Bool, true, false, Some, None, arith, ℕ, ◌&&◌, ◌||◌, ◌==◌, not, map}
 use Rattle.std.proofs.Common.{filter, fold, if◌then◌else◌}
+use Rattle.access_core.proofs.Terms.{is_given, lists_right}
 use Rattle.access_core.proofs.Terms.{AreBlocksOf, ArgumentBlock, ClientId, Effect, Event, Holds, InFlight, Inside, IsCached, Ledger, Object, ObjectRight, Opening, Outcome}
 use Rattle.access_core.proofs.Terms.{Packet, PacketId, QueueId, Releases, Right, Rights, are_in_force, arguments-more, arguments_of, as_rights, block_behind, block_of, entry_of, flight}
 use Rattle.access_core.proofs.Terms.{fold-append, has, held, held-more, held_after, in_force, in_force_after, is_among, is_block, is_packet, launched_by, list_all, list_any, map-append}
@@ -58,13 +59,17 @@ blocks-dropped a kept event outcome effects launches q i drops queue id =
     none true = refl
     none false = refl
 
+-- the block of a packet that is launched
+abbrev pub block_laid : QueueId → PacketId → ClientId → List (Object × Rights) → List ℕ → ArgumentBlock
+block_laid q i client rights bytes = record { queue = q; packet = i; client = client; rights = rights; bytes = bytes }
+
 -- a packet that is launched has its block behind the others
-blocks-launched : (a : Inside) → IsCached a → (event : Event) (outcome : Outcome) (q : QueueId) (i : PacketId) (p : Packet) (bytes : List ℕ)
+blocks-launched : (a : Inside) → IsCached a → (event : Event) (outcome : Outcome) (q : QueueId) (i : PacketId) (p : Packet) (c : ClientId) (rights : List (Object × Rights)) (bytes : List ℕ)
     → launched_by event outcome ≡ Some (record { queue = q; id = i; packet = p }) → bytes ≡ arguments_of (start_of a) a.audit.items p
-    → (queue : QueueId) (id : PacketId) → block_of (a.blocks.items ++ record { queue = q; packet = i; bytes = bytes } ∷ []) queue id
+    → (queue : QueueId) (id : PacketId) → block_of (a.blocks.items ++ block_laid q i c rights bytes ∷ []) queue id
     ≡ arguments (start_of a) (with_entry a.audit.items event outcome []) queue id
-blocks-launched a kept event outcome q i p bytes launches is queue id =
-    fold-append (block_behind queue id) [] a.blocks.items (record { queue = q; packet = i; bytes = bytes } ∷ [])
+blocks-launched a kept event outcome q i p c rights bytes launches is queue id =
+    fold-append (block_behind queue id) [] a.blocks.items (block_laid q i c rights bytes ∷ [])
     ∙ (λ j. if same_packet q i queue id then is j else kept.arguments queue id j)
     ∙ sym (arguments-more (start_of a) a.audit.items (entry_of event outcome []) queue id ∙ (rw launches refl))
 
@@ -82,13 +87,32 @@ blocks-left q i fs bs are = map-left packet_of stays bs ∙ ap (filter stays) ar
     stays named = not (named.0.0 == q.0 && named.1.0 == i.0)
 
 -- and where one is launched, its block comes behind the others
-blocks-with : (q : QueueId) (i : PacketId) (p : Packet) (bytes : List ℕ) (fs : List InFlight) (bs : List ArgumentBlock) → AreBlocksOf fs bs
-    → AreBlocksOf (fs ++ record { queue = q; id = i; packet = p } ∷ []) (bs ++ record { queue = q; packet = i; bytes = bytes } ∷ [])
-blocks-with q i p bytes fs bs are = grind (
+blocks-with : (q : QueueId) (i : PacketId) (p : Packet) (c : ClientId) (rights : List (Object × Rights)) (bytes : List ℕ) (fs : List InFlight) (bs : List ArgumentBlock) → AreBlocksOf fs bs
+    → AreBlocksOf (fs ++ record { queue = q; id = i; packet = p } ∷ []) (bs ++ block_laid q i c rights bytes ∷ [])
+blocks-with q i p c rights bytes fs bs are = grind (
   arith,
-  map-append packet_of bs (record { queue = q; packet = i; bytes = bytes } ∷ []),
+  map-append packet_of bs (block_laid q i c rights bytes ∷ []),
   map-append name_of fs (record { queue = q; id = i; packet = p } ∷ []),
 )
+
+-- ---- the rights that blocks list
+
+-- of those that are left where a packet's are dropped, none lists a right of that packet
+any-left : (test : ArgumentBlock → Bool) (q : QueueId) (i : PacketId) (queue : QueueId) (id : PacketId) (bs : List ArgumentBlock)
+    → list_any (λ b. is_block queue id b && test b) (filter (λ b. not (is_block q i b)) bs) ≡ (list_any (λ b. is_block queue id b && test b) bs && not (same_packet queue id q i))
+any-left test q i queue id [] = refl
+any-left test q i queue id (b ∷ bs) = grind (arith, any-left test q i queue id bs)
+
+-- the one behind the others is asked last
+any-behind : (test : ArgumentBlock → Bool) (b : ArgumentBlock) (bs : List ArgumentBlock) → list_any test (bs ++ b ∷ []) ≡ (list_any test bs || test b)
+any-behind test b [] = or-none (test b)
+  where
+    or-none : (x : Bool) → (x || false) ≡ (false || x)
+    or-none x = grind arith
+any-behind test b (x ∷ xs) = grind (arith, any-behind test b xs)
+
+turned-name : (q : QueueId) (i : PacketId) (queue : QueueId) (id : PacketId) → same_packet q i queue id ≡ same_packet queue id q i
+turned-name q i queue id = grind arith
 
 -- the rules with the same rows are the same
 rows-still : (grants : Ledger) {rows : PolicyRows} → (ledger.rules_in grants).rows ≡ rows → ledger.rules_in grants ≡ record (ledger.rules_in grants) { rows = rows }
@@ -106,6 +130,7 @@ grants-still a kept event outcome effects launches stays same unchanged flying =
   held = held-still a kept event outcome effects launches stays;
   blocks_are = rw flying kept.blocks_are;
   arguments = blocks-still a kept event outcome effects launches stays;
+  given = kept.given;
 }
 
 -- ---- a packet that is launched
@@ -158,10 +183,20 @@ grants-released a kept event outcome effects launches same unchanged new blocks 
       ∙ (rw (launches, drops queue id) (plain (held (start_of a) a.audit.items queue id client on right) (same_packet queue id q i))));
   blocks_are = rw (flying, dropped) (blocks-left q i (flight (start_of a) a.audit.items) a.blocks.items kept.blocks_are);
   arguments = rw dropped (blocks-dropped a kept event outcome effects launches q i drops);
+  given = λ queue id client on right.
+      ap (λ bs. is_given bs queue id client on right) dropped
+      ∙ any-left (λ b. is_named b.rights b.client client on right) q i queue id a.blocks.items
+      ∙ ap (λ b. b && not (same_packet queue id q i)) (kept.given queue id client on right)
+      ∙ sym (releases_it.released queue id client on right);
 }
   where
     plain : (b c : Bool) → ((b || false) && not c) ≡ (b && not c)
     plain b c = grind arith
+
+-- rights that are held are held by another name
+pub held-as : (old new : Ledger) (client : ClientId) (q : QueueId) (i : PacketId) (rights same : List (Object × Rights)) → rights ≡ same
+    → Holds old new client q i rights → Holds old new client q i same
+held-as old new client q i rights same is holds = subst (Holds old new client q i) is holds
 
 -- a packet that is launched holds what its launch gives it
 pub grants-launched : (a : Inside) → IsCached a → (event : Event) (outcome : Outcome)
@@ -173,7 +208,7 @@ pub grants-launched : (a : Inside) → IsCached a → (event : Event) (outcome :
     → flight (start_of a) (with_entry a.audit.items event outcome []) ≡ flight (start_of a) a.audit.items ++ record { queue = q; id = i; packet = p } ∷ []
     → old ≡ record a.grants { room = old.room } → rights ≡ map as_rights (rights_at_launch (start_of a) a.audit.items opening p)
     → owner (start_of a) a.audit.items q ≡ Some opening → Holds old new opening.client q i rights
-    → bytes ≡ arguments_of (start_of a) a.audit.items p → blocks ≡ a.blocks.items ++ record { queue = q; packet = i; bytes = bytes } ∷ [] → GrantsAfter a new blocks event outcome []
+    → bytes ≡ arguments_of (start_of a) a.audit.items p → blocks ≡ a.blocks.items ++ block_laid q i opening.client rights bytes ∷ [] → GrantsAfter a new blocks event outcome []
 grants-launched a kept event outcome still unchanged old new blocks opening q i p rights bytes launches flying same are is holds block_is pushed = record {
   granted = λ client on right. holds.same_rights client on right ∙ ap (λ (g : Ledger). ledger.in_force g client on right) same ∙ sym (still client on right _);
   rules = holds.same_rules ∙ ap ledger.rules_in same ∙ rows-still a.grants (sym (unchanged (ledger.rules_in a.grants).rows));
@@ -183,8 +218,14 @@ grants-launched a kept event outcome still unchanged old new blocks opening q i 
       ∙ (λ j. kept.held queue id client on right j || (same_packet queue id q i && is_named (are j) opening.client client on right))
       ∙ by_packet queue id client on right (same_packet queue id q i) refl
       ∙ sym (held-more (start_of a) a.audit.items (entry_of event outcome []) queue id client on right);
-  blocks_are = rw (flying, pushed) (blocks-with q i p bytes (flight (start_of a) a.audit.items) a.blocks.items kept.blocks_are);
-  arguments = rw pushed (blocks-launched a kept event outcome q i p bytes launches block_is);
+  blocks_are = rw (flying, pushed) (blocks-with q i p opening.client rights bytes (flight (start_of a) a.audit.items) a.blocks.items kept.blocks_are);
+  arguments = rw pushed (blocks-launched a kept event outcome q i p opening.client rights bytes launches block_is);
+  given = λ queue id client on right.
+      ap (λ bs. is_given bs queue id client on right) pushed
+      ∙ any-behind (lists_right queue id client on right) (block_laid q i opening.client rights bytes) a.blocks.items
+      ∙ (λ j. kept.given queue id client on right j || (turned-name q i queue id j && is_named rights opening.client client on right))
+      ∙ ap (λ (g : Ledger). ledger.holds g queue id client on right || (same_packet queue id q i && is_named rights opening.client client on right)) (sym same)
+      ∙ sym (holds.held queue id client on right);
 }
   where
     hs : List ObjectRight

@@ -1,7 +1,7 @@
 -- The regions that a packet in flight holds, as they are lent one after another.
-use Rattle.std.proofs.Common.{◌≡◌, ℕ, zero, suc, ◌+◌, ◌*◌, ◌^◌, ◌<◌, List, [], ◌∷◌, ◌++◌, length, get_or, refl, sym, ◌∙◌, ap, subst, true, false, Option, Some, arith, append_assoc}
+use Rattle.std.proofs.Common.{◌≡◌, ℕ, zero, suc, ◌+◌, ◌*◌, ◌^◌, ◌<◌, List, [], ◌∷◌, ◌++◌, length, get_or, refl, sym, ◌∙◌, ap, subst, true, false, Option, Some, None, arith, append_assoc}
 use Rattle.std.proofs.Common.{All, map, filter, not, ◌==◌, cond, option_map, option_to_list}
-use Rattle.access_core.proofs.Terms.{All-filter, All-map, Entry, HeldRights, LentRegion, RegionRights, Rights, Start, filter_of_map_range_with_len_more}
+use Rattle.access_core.proofs.Terms.{All-filter, All-map, Entry, HeldRights, LentRegion, RegionRights, Right, Rights, Start, rights_that, filter_of_map_range_with_len_more}
 use Rattle.access_core.proofs.Terms.{get_or-range_with_len, held_region, is_within, length-range_with_len, lent_if_held, lent_region, lent_whole, map-append, memory_from}
 use Rattle.access_core.proofs.Terms.{range_with_len, region_length, region_lengths, region_numbered, rights_held, view_whole, zip}
 use Rattle.std.proofs.lemmas.List.{length-append}
@@ -60,6 +60,12 @@ module _ (start : Start) (es : List Entry) (all : HeldRights) where
       → bytes ≡ memory_from start es (number * 2 ^ 32) (region_length (region_lengths start.policy) number)
       → Some (record { number = number; rights = rights; bytes = bytes }) ≡ lent_if_held start es (region_numbered start all number)
   lent-held number rights bytes are some is = grind arith
+
+  -- one on which no right is held isn't lent
+  pub lent-none : (number : ℕ) → ((right : Right) → all (object.Region (record { 0 = number })) right ≡ false) → lent_if_held start es (region_numbered start all number) ≡ None
+  lent-none number none =
+      let empty : rights_held all (object.Region (record { 0 = number })) ≡ record { 0 = 0 } = (λ i. rights_that (λ right. none right i)) in
+      ap (λ (rights : Rights). lent_if_held start es (record { number = number; size = region_length (region_lengths start.policy) number; rights = rights })) empty
 
   -- those that were lent so far have the numbers up to theirs
   pub lent-below : (count : ℕ) (before : List Borrowed) → map lent_region before ≡ lent_so_far count → All (λ region. region.handle.0 < count + 1) before

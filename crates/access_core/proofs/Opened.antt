@@ -1,6 +1,6 @@
 -- What is kept of a core in which nothing has happened.
 use Rattle.access_core.proofs.Terms.{All-nil, AreBlocksOf, Declared, Entry, Inside, IsCached, IsLegal, IsNew, IsSound, Kernel, MOST_ENTRIES, Queue, Start, block_of, byte_at, byte_at-zeros, cached_opening}
-use Rattle.access_core.proofs.Terms.{cached_view, first_missing, has_entry, initial_values, lies_in_region, lies_in_regions, queue_at, start_of}
+use Rattle.access_core.proofs.Terms.{cached_view, first_missing, has_entry, initial_values, is_given, lies_in_region, lies_in_regions, queue_at, start_of}
 use Rattle.access_core.proofs.Terms.{is_capacity}
 use Rattle.access_core.proofs.Terms.{lengths_of-zeros, numbered, open_fault, program_of, region_lengths, rules_in, rules_of, segments_of, zeros}
 use Rattle.std.proofs.Common.{List, Some, ◌∷◌, ap, length, subst, sym}
@@ -43,6 +43,7 @@ IsCached-opened a policy opened fresh ruled memory values blocks queues flying e
       held = λ queue id client on right. empty (λ now es. ledger.holds a.grants queue id client on right ≡ held now es queue id client on right) (fresh.none_held queue id client on right);
       blocks_are = empty (λ now es. AreBlocksOf (flight now es) a.blocks.items) (rw blocks refl);
       arguments = λ queue id. empty (λ now es. block_of a.blocks.items queue id ≡ arguments now es queue id) (rw blocks refl);
+      given = λ queue id client on right. ap (λ bs. is_given bs queue id client on right) blocks ∙ sym (fresh.none_held queue id client on right);
       entries = kernels;
       segments = segments;
       lengths = rw (memory, lengths) (lengths_of-zeros (region_lengths policy));

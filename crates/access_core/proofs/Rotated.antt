@@ -155,7 +155,7 @@ module _ (a : Inside) (kept : IsCached a) where
             λ i. progress (start_of a) a.audit.items (same_queue i) (same_id i)
 
     -- its arguments: no other block has its name
-    none-behind : (fs : List InFlight) (blocks : List ArgumentBlock) (bytes : List ℕ) → map packet_of blocks ≡ map name_of fs → list_any (is_packet queue id) fs ≡ false → fold (block_behind queue id) bytes blocks ≡ bytes
+    pub none-behind : (fs : List InFlight) (blocks : List ArgumentBlock) (bytes : List ℕ) → map packet_of blocks ≡ map name_of fs → list_any (is_packet queue id) fs ≡ false → fold (block_behind queue id) bytes blocks ≡ bytes
     none-behind [] [] bytes names none = refl
     none-behind [] (block ∷ blocks) bytes names none = absurd cc
     none-behind (f ∷ fs) [] bytes names none = absurd cc

@@ -65,6 +65,7 @@ module _ (a : Inside) (kept : IsCached a) where
         held = λ queue id client on right. here (λ now es. ledger.holds a.grants queue id client on right ≡ held now es queue id client on right) (kept.held queue id client on right);
         blocks_are = here (λ now es. AreBlocksOf (flight now es) a.blocks.items) kept.blocks_are;
         arguments = λ queue id. here (λ now es. block_of a.blocks.items queue id ≡ arguments now es queue id) (kept.arguments queue id);
+        given = kept.given;
         entries = kept.entries;
         segments = kept.segments;
         lengths = kept.lengths ∙ sym lengths;

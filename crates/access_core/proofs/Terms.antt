@@ -5,10 +5,11 @@ pub use Rattle.access_core.specs.declared.access.AccessCore.TheInside.{Inside}
 pub use Rattle.access_core.specs.declared.argument_blocks.ArgumentBlock.{ArgumentBlock}
 pub use Rattle.access_core.specs.declared.kernel.Kernel.{Kernel}
 pub use Rattle.access_core.specs.declared.queue.Queue.{Queue}
-pub use Rattle.access_core.specs.inner.ArgumentBlocks.{AreBlocksOf, block_behind, block_of, is_block, name_of, packet_of}
+pub use Rattle.access_core.specs.inner.ArgumentBlocks.{AreBlocksOf, block_behind, block_of, bytes_or, is_block, is_given, lists_right, name_of, packet_of, rights_for, rights_of}
 pub use Rattle.access_core.specs.inner.Cached.{IsCached, IsEntered, core_of, error_places, history_of, is_full, origin_of, start_of, table_places}
 pub use Rattle.access_core.specs.inner.CachedQueue.{IsSound, QueueView, cached_opening, cached_view, place_of, queue_at}
 pub use Rattle.access_core.specs.inner.Deciding.{IsBlockPlaced, MayHold, TakesNext, refusal_of}
+pub use Rattle.access_core.specs.inner.Given.{LeavesOut, MarksToo, is_listed}
 pub use Rattle.access_core.specs.inner.InPlace.{IsChanged, IsFoundAt, IsInPlace, IsSized, RefusedAt, finish_owed, is_placed}
 pub use Rattle.access_core.specs.inner.Laying.{LiesWithin}
 pub use Rattle.access_core.specs.inner.LiesInRegions.{lies_in_regions}
@@ -81,6 +82,7 @@ pub use Rattle.executor.specs.declared.dispatch.Dispatch.{Dispatch}
 pub use Rattle.executor.specs.declared.written_range.WrittenRange.{WrittenRange}
 pub use Rattle.executor.specs.declared.held.HeldRegion.{HeldRegion}
 pub use Rattle.grants.specs.Holders.{IsFirstTo, IsUpTo}
+pub use Rattle.grants.specs.Pairs.{is_named}
 pub use Rattle.grants.specs.Ledger.{Holds, IsNew, Ledger, Releases, RevokeAnswers, are_in_force, grant_due, holds, is_holder, rules_in}
 pub use Rattle.kernel_check.specs.Programs.{Program, group_bytes_of}
 pub use Rattle.packet_processor.specs.Holding.{as_rights}

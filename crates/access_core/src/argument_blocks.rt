@@ -1,21 +1,27 @@
-//! The argument blocks of packets in flight, as they were at their launches.
+//! What packets in flight were given at their launches: the rights that each holds, and its argument block.
 
-ghost use Rattle.std.specs.Prelude.{◌≡◌, ◌++◌, ◌∷◌, [], OnErr, OnOk, filter, length, not};
-ghost use Rattle.access_core.specs.inner.ArgumentBlocks.{block_of, is_block};
+ghost use Rattle.std.specs.Prelude.{Some, ◌≡◌, ◌<◌, ◌++◌, ◌∷◌, [], OnOk, filter, find, length, not};
+ghost use Rattle.std.specs.Option.{option_copied};
+ghost use Rattle.access_core.specs.inner.ArgumentBlocks.{is_block, rights_for};
 ghost use Rattle.access_core.specs.Cores.{places_of};
 
-use aql_packet::{PacketId, QueueId};
+use aql_packet::{ClientId, PacketId, QueueId};
+use policy::{Object, Rights};
 use sequences::Sequence;
 use std::alloc::{AllocError, Global};
 use std::marker::Model;
 
-/// The argument block of a packet in flight.
+/// The argument block of a packet in flight, with the rights that the packet holds.
 #[derive(Drop)]
 pub struct ArgumentBlock {
     /// The packet's queue.
     pub queue: QueueId,
     /// The packet.
     pub packet: PacketId,
+    /// Whose queue it is.
+    pub client: ClientId,
+    /// The rights that it holds, of that client.
+    pub rights: Sequence<(Object, Rights)>,
     /// The block's bytes: none but of a kernel dispatch.
     pub bytes: Sequence<u8>,
 }
@@ -35,6 +41,19 @@ impl Model for ArgumentBlocks {
     ghost Value = { Roomy ArgumentBlock };
 
     ghost view = { λ b. record { items = b.blocks.items; room = vec_capacity b.blocks - vec_len b.blocks } };
+}
+
+impl ArgumentBlock {
+    /// The rights that the packet holds, if they are this client's.
+    pub fn rights_for(&self, client: ClientId) -> &[(Object, Rights)]
+        ensures { result.now ≡ rights_for client (Some self.now) }
+    {
+        if self.client == client {
+            self.rights.as_slice()
+        } else {
+            &[]
+        }
+    }
 }
 
 impl ArgumentBlocks {
@@ -61,35 +80,29 @@ impl ArgumentBlocks {
         self.blocks.as_slice()
     }
 
-    /// The block of a packet in flight; of another packet, no bytes.
-    pub fn get(&self, queue: QueueId, packet: PacketId) -> &[u8]
-        ensures { result.now ≡ block_of self.now.items queue packet }
+    /// The block of a packet, if it is in flight.
+    pub fn find(&self, queue: QueueId, packet: PacketId) -> Option<&ArgumentBlock>
+        ensures { option_copied result ≡ find (is_block queue packet) self.now.items }
     {
-        let mut found: &[u8] = &[];
-        for block in self.blocks.as_slice() {
-            if block.queue == queue && block.packet == packet {
-                found = block.bytes.as_slice();
-            }
-        }
-        found
+        self.as_slice()
+            .iter()
+            .find(|block| block.queue == queue && block.packet == packet)
     }
 
-    /// Puts the block of a packet that is launched behind the others.
-    pub fn push(
-        &mut self,
-        queue: QueueId,
-        packet: PacketId,
-        bytes: Sequence<u8>,
-    ) -> Result<(), AllocError>
-        ensures ok { OnOk result (self.new.items ≡ self.old.items ++ record { queue = queue; packet = packet; bytes = bytes } ∷ []) }
-        ensures err { OnErr result (self.new.items ≡ self.old.items) }
+    /// Gets room for one block more.
+    pub fn reserve(&mut self) -> Result<(), AllocError>
+        ensures ok { OnOk result (0 < self.new.room) }
+        ensures same { self.new.items ≡ self.old.items }
     {
-        self.blocks.push(ArgumentBlock {
-            queue,
-            packet,
-            bytes,
-        })?;
-        Ok(())
+        self.blocks.reserve(1)
+    }
+
+    /// Puts the block of a packet that is launched behind the others, in room that was got before.
+    pub fn push(&mut self, block: ArgumentBlock)
+        requires { 0 < self.old.room }
+        ensures { self.new.items ≡ self.old.items ++ block ∷ [] }
+    {
+        self.blocks.push_reserved(block);
     }
 
     /// Drops the block of a packet that leaves flight. It takes no memory.

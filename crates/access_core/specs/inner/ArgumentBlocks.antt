@@ -1,7 +1,13 @@
--- Argument blocks of packets in flight, found by queue and id.
-use Rattle.std.specs.Prelude.{ℕ, ◌≡◌, ◌==◌, ◌&&◌, Bool, List, [], fold, map, if◌then◌else◌}
+-- Argument blocks of packets in flight, found by queue and id, with the rights that their packets hold.
+use Rattle.std.specs.Prelude.{ℕ, ◌≡◌, ◌==◌, ◌&&◌, Bool, List, [], find, fold, map, Option, Some, None, if◌then◌else◌}
+use Rattle.std.specs.List.{list_any}
+use Rattle.aql_packet.specs.declared.ids.ClientId.{ClientId}
 use Rattle.aql_packet.specs.declared.ids.QueueId.{QueueId}
 use Rattle.aql_packet.specs.declared.ids.PacketId.{PacketId}
+use Rattle.policy.specs.declared.object.Object.{Object}
+use Rattle.policy.specs.declared.rights.Right.{Right}
+use Rattle.policy.specs.declared.rights.Rights.{Rights}
+use Rattle.grants.specs.Pairs.{is_named}
 use Rattle.core_model.specs.declared.flight.InFlight.{InFlight}
 use Rattle.access_core.specs.declared.argument_blocks.ArgumentBlock.{ArgumentBlock}
 
@@ -28,3 +34,25 @@ name_of f = (f.queue, f.id)
 -- these are the blocks of these packets in flight: one of each, in their order, and no other
 abbrev pub AreBlocksOf : List InFlight → List ArgumentBlock → Type 0
 AreBlocksOf flying blocks = map packet_of blocks ≡ map name_of flying
+
+-- whether a block is that of a packet, and lists a client's right on an object
+abbrev pub lists_right : QueueId → PacketId → ClientId → Object → Right → ArgumentBlock → Bool
+lists_right queue id client on right block = is_block queue id block && is_named block.rights block.client client on right
+
+-- whether a block of a packet does
+abbrev pub is_given : List ArgumentBlock → QueueId → PacketId → ClientId → Object → Right → Bool
+is_given blocks queue id client on right = list_any (lists_right queue id client on right) blocks
+
+-- the rights that a block lists, if there is one, and they are the client's
+abbrev pub rights_for : ClientId → Option ArgumentBlock → List (Object × Rights)
+rights_for client None = []
+rights_for client (Some block) = if block.client.0 == client.0 then block.rights else []
+
+-- the bytes of a block, if there is one, else these
+abbrev pub bytes_or : List ℕ → Option ArgumentBlock → List ℕ
+bytes_or none None = none
+bytes_or none (Some block) = block.bytes
+
+-- the rights that the first of a packet's blocks lists
+abbrev pub rights_of : List ArgumentBlock → QueueId → PacketId → ClientId → List (Object × Rights)
+rights_of blocks queue id client = rights_for client (find (is_block queue id) blocks)

@@ -24,7 +24,7 @@ use Rattle.core_model.specs.Legal.{IsLegal}
 use Rattle.access_core.specs.declared.access.AccessCore.TheInside.{Inside}
 use Rattle.grants.specs.Ledger as ledger
 use Rattle.grants.specs.Ledger.{Ledger}
-use Rattle.access_core.specs.inner.ArgumentBlocks.{AreBlocksOf, block_of}
+use Rattle.access_core.specs.inner.ArgumentBlocks.{AreBlocksOf, block_of, is_given}
 use Rattle.access_core.specs.Cores.{Core, TablePlaces, places_of}
 use Rattle.access_core.specs.declared.argument_blocks.ArgumentBlock.{ArgumentBlock}
 use Rattle.access_core.specs.declared.kernel.Kernel.{Kernel}
@@ -86,6 +86,9 @@ pub record IsCached (a : Inside) : Type 0 where
   -- the argument blocks: one of each packet in flight, as it was at its launch
   pub blocks_are : AreBlocksOf (flight (start_of a) a.audit.items) a.blocks.items
   pub arguments : (queue : QueueId) (id : PacketId) → block_of a.blocks.items queue id ≡ arguments (start_of a) a.audit.items queue id
+  -- and each lists the rights that its packet holds
+  pub given : (queue : QueueId) (id : PacketId) (client : ClientId) (on : Object) (right : Right)
+      → is_given a.blocks.items queue id client on right ≡ ledger.holds a.grants queue id client on right
   -- each kernel is one of its checked kernels, and has these segments
   pub entries : All (λ kernel. has_entry kernel ≡ true) a.kernels.items
   pub segments : a.segments.items ≡ map segments_of (map program_of a.kernels.items)

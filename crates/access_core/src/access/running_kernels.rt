@@ -77,14 +77,15 @@ impl AccessCore {
         law_groups_read_where_they_may();
         self.regions_fit();
         let client = self.holder_of(queue, packet, place);
-        let view = self.view(alloc, queue, packet, client)?;
+        let given = self.given_to(queue, packet, client);
+        let view = self.view(alloc, given.0)?;
         let kernel = kernel_at(self.kernels.as_slice(), dispatch.kernel_object);
         let asked = Dispatch {
             kernel: kernel.index(),
             group_size: group_size(&dispatch),
             grid_size: grid_size(&dispatch),
             group_segment_size: dispatch.group_segment_size,
-            arguments: self.blocks.get(queue, packet),
+            arguments: given.1,
         };
         let group = place.progress.groups_run;
         run_group(alloc, &kernel.checked, &asked, group, &view)

@@ -15,6 +15,7 @@ ghost use Rattle.core_model.specs.Legal.{Meets, MeetsOrLacks, due};
 
 use crate::access::lookups::queue_of;
 use crate::access::{AccessCore, enter};
+use crate::argument_blocks::ArgumentBlock;
 use crate::queue::Queue;
 use aql_packet::{
     AgentHandle, ClientId, Packet, PacketId, QueueId, RawHeader, header_in_first_word, header_of,
@@ -263,10 +264,17 @@ impl AccessCore {
         let block = self.argument_block(alloc, launching.asked.packet())?;
         let rights = self.rights_at_launch(alloc, &launching, block.as_slice())?;
         self.grants.reserve(rights.len())?;
-        self.blocks.push(queue, packet, block)?;
+        self.blocks.reserve()?;
         let client = launching.client;
         self.grants
             .hold_reserved(client, queue, packet, rights.as_slice());
+        self.blocks.push(ArgumentBlock {
+            queue,
+            packet,
+            client,
+            rights,
+            bytes: block,
+        });
         place_next(&mut self.queues, queue, packet, *launching.asked.packet());
         self.in_flight_count += 1;
         let event = Event::Take {

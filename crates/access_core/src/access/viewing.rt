@@ -1,23 +1,29 @@
 //! What the groups of a kernel dispatch in flight are lent: the regions that their packet holds.
 
 ghost use Rattle.core_model.specs.History.{beginning};
-ghost use Rattle.std.specs.Prelude.{◌≡◌, ◌<◌, IfOk, map, option_map, true};
+ghost use Rattle.std.specs.Prelude.{Some, ◌≡◌, ◌<◌, IfOk, false, map, option_map, slice_get, true};
 ghost use Rattle.aql_packet.specs.Memory.{are_region_lengths};
 ghost use Rattle.regions.specs.Memory.{region_length};
 ghost use Rattle.executor.specs.Items.{lent_region};
 ghost use Rattle.policy.specs.declared.object.Object.TheVariants as object;
-ghost use Rattle.core_model.specs.Holds.{own_rights};
+ghost use Rattle.core_model.specs.Holds.{arguments, own_rights};
 ghost use Rattle.policy.specs.Policy.{region_lengths};
 ghost use Rattle.core_model.specs.View.{rights_held};
+ghost use Rattle.access_core.specs.inner.Given.{LeavesOut, MarksToo, is_listed};
 ghost use Rattle.access_core.specs.inner.InPlace.{IsInPlace};
 ghost use Rattle.access_core.specs.inner.Running.{IsHolder, lent_if_held, region_numbered, view_whole};
 
 use crate::access::AccessCore;
-use aql_packet::{Address, ClientId, PacketId, QueueId, REGION_SPAN, RegionHandle};
+use aql_packet::{Address, ClientId, MOST_REGIONS, PacketId, QueueId, REGION_SPAN, RegionHandle};
 use executor::{HeldRegion, View};
 use packet_processor::Place;
-use policy::{Kind, Object, Rights};
+use policy::{Kind, Object, Right, Rights};
 use std::alloc::{AllocError, Global};
+
+// A mark for each region that a policy may declare, by its number, which counts from 1.
+const PLACES: usize = 65;
+
+const _: () = prove!(MOST_REGIONS < PLACES);
 
 impl AccessCore {
     // The client whose queue has a packet in flight.
@@ -35,43 +41,56 @@ impl AccessCore {
         self.policy().object_count(Kind::Region);
     }
 
-    // The regions on which a packet in flight holds a right, in order, each with the rights that it holds
-    // and all its bytes.
-    pub(crate) fn view(
+    // What a packet in flight was given at its launch: a list of the rights that it holds, and its arguments.
+    pub(crate) fn given_to(
         &self,
-        alloc: Global,
         queue: QueueId,
         packet: PacketId,
         client: ClientId,
-    ) -> Result<View<'_>, AllocError>
+    ) -> (&[(Object, Rights)], &[u8])
         requires { IsHolder self.now.history queue packet client }
-        ensures { IfOk result (λ view. map lent_region view
-            ≡ view_whole (beginning self.now.history) self.now.history.entries (own_rights (beginning self.now.history) self.now.history.entries queue packet)) }
+        ensures rights { is_listed result.0.now ≡ own_rights (beginning self.now.history) self.now.history.entries queue packet }
+        ensures arguments { result.1.now ≡ arguments (beginning self.now.history) self.now.history.entries queue packet }
     {
+        match self.blocks.find(queue, packet) {
+            None => (&[], &[]),
+            Some(block) => (block.rights_for(client), block.bytes.as_slice()),
+        }
+    }
+
+    // The regions on which a right is listed, in order, each with the rights that are, and all its bytes.
+    pub(crate) fn view(
+        &self,
+        alloc: Global,
+        given: &[(Object, Rights)],
+    ) -> Result<View<'_>, AllocError>
+        ensures { IfOk result (λ view. map lent_region view
+            ≡ view_whole (beginning self.now.history) self.now.history.entries (is_listed given.now)) }
+    {
+        let marks = regions_named(given);
         let mut view = View::new(alloc);
         for before in 0..self.policy().object_count(Kind::Region) {
             let region = RegionHandle(before as u32 + 1);
-            if let Some(held) = self.region_if_held(queue, packet, client, region) {
-                view.put(held)?;
+            if is_marked(&marks, region) {
+                if let Some(held) = self.region_if_held(given, region) {
+                    view.put(held)?;
+                }
             }
         }
         Ok(view)
     }
 
-    // A region with all its bytes, and with the rights that a packet in flight holds on it, if there are any.
+    // A region with all its bytes, and with the rights on it that are listed, if there are any.
     fn region_if_held(
         &self,
-        queue: QueueId,
-        packet: PacketId,
-        client: ClientId,
+        given: &[(Object, Rights)],
         region: RegionHandle,
     ) -> Option<HeldRegion<'_>>
-        requires holder { IsHolder self.now.history queue packet client }
-        requires there { 0 < region_length (region_lengths (beginning self.now.history).policy) region.0 }
-        ensures { option_map lent_region result ≡ lent_if_held (beginning self.now.history) self.now.history.entries
-            (region_numbered (beginning self.now.history) (own_rights (beginning self.now.history) self.now.history.entries queue packet) region.0) }
+        requires { 0 < region_length (region_lengths (beginning self.now.history).policy) region.0 }
+        ensures { option_map lent_region result
+            ≡ lent_if_held (beginning self.now.history) self.now.history.entries (region_numbered (beginning self.now.history) (is_listed given.now) region.0) }
     {
-        let rights = self.rights_on(queue, packet, client, region);
+        let rights = rights_on(given, region);
         if rights == Rights::NONE {
             return None;
         }
@@ -83,19 +102,62 @@ impl AccessCore {
             bytes: self.memory.bytes(first, length),
         })
     }
+}
 
-    // The rights that a packet in flight holds on a region.
-    fn rights_on(
-        &self,
-        queue: QueueId,
-        packet: PacketId,
-        client: ClientId,
-        region: RegionHandle,
-    ) -> Rights
-        requires { IsHolder self.now.history queue packet client }
-        ensures { result ≡ rights_held (own_rights (beginning self.now.history) self.now.history.entries queue packet) (object.Region region) }
-    {
-        self.grants
-            .rights_held(queue, packet, client, Object::Region(region))
+// Whether a right on an object is listed.
+fn is_listed(given: &[(Object, Rights)], object: Object, right: Right) -> bool
+    ensures { result ≡ is_listed given.now object right }
+{
+    given
+        .iter()
+        .any(|named| object == named.0 && named.1.has(right))
+}
+
+// The rights on a region that are listed.
+fn rights_on(given: &[(Object, Rights)], region: RegionHandle) -> Rights
+    ensures { result ≡ rights_held (is_listed given.now) (object.Region region) }
+{
+    let object = Object::Region(region);
+    Rights::from_each(
+        is_listed(given, object, Right::Use),
+        is_listed(given, object, Right::Read),
+        is_listed(given, object, Right::Write),
+        is_listed(given, object, Right::Wait),
+        is_listed(given, object, Right::Change),
+        is_listed(given, object, Right::Launch),
+    )
+}
+
+// A mark at the number of each region that a list names.
+fn regions_named(given: &[(Object, Rights)]) -> [bool; PLACES]
+    ensures { LeavesOut result given.now }
+{
+    let mut marks = [false; PLACES];
+    for named in given {
+        mark(&mut marks, named.0);
+    }
+    marks
+}
+
+// Marks an object, if it is a region.
+fn mark(marks: &mut [bool; PLACES], object: Object)
+    ensures { MarksToo marks.old marks.new object }
+{
+    let Object::Region(region) = object else {
+        return;
+    };
+    if region.0 as usize >= PLACES {
+        return;
+    }
+    marks[region.0 as usize] = true;
+}
+
+// Whether a region is marked, or has no place for a mark.
+fn is_marked(marks: &[bool; PLACES], region: RegionHandle) -> bool
+    ensures { result ≡ false → slice_get marks.now region.0 ≡ Some false }
+{
+    match marks.get(region.0 as usize).copied() {
+        Some(marked) => marked,
+        None => true,
     }
 }

@@ -2,9 +2,9 @@
 use Rattle.core_model.specs.History.{beginning}
 use Rattle.std.proofs.Common.{◌≡◌, ◌∙◌, ap, refl, sym, List, Some, All, length, slice_get, true, arith}
 use Rattle.std.proofs.lemmas.Result.{IfErr-weaker, IfOk-weaker}
-use Rattle.access_core.proofs.Terms.{Dispatch, FailsAs, FaultsAs, FinishesAs, GroupInput, Kernel, WrittenRange, group_result, input_of, is_within, next_result, numbered, region_lengths, wrote}
+use Rattle.access_core.proofs.Terms.{Dispatch, FailsAs, FaultsAs, FinishesAs, GroupInput, HeldRights, Kernel, WrittenRange, group_result, input_of, is_within, next_result, numbered, region_lengths, view_whole, wrote}
 use Rattle.access_core.proofs.Seen.{seen}
-use Rattle.access_core.proofs.GroupRuns.{block-is, entry-there, faults-as, index-below, kernel-there, program-is, program-there, program_at, result-is, runnable, runs-within}
+use Rattle.access_core.proofs.GroupRuns.{entry-there, faults-as, index-below, kernel-there, program-is, program-there, program_at, result-is, runnable, runs-within}
 use Rattle.access_core.proofs.access.AccessCore.group_runs.Goals as goal
 
 pub kernel_at-kernel-requires : goal.kernel_at-kernel-requires
@@ -30,10 +30,9 @@ run_group-requires-clause-runnable c =
     let h = c.args.self.now.history in
     let d = c.args.dispatch in
     let at = ap (λ (ks : List Kernel). numbered ks d.kernel_object.0) (sym c.as_slice.ensures.value) ∙ c.kernel_at-kernel.ensures in
-    let block = block-is a c.self.invariant h (seen c.self.view_is) c.args.queue c.args.packet c.args.place c.requires.found d c.requires.packet_is in
     λ p here.
     runnable a c.self.invariant h (seen c.self.view_is) c.args.queue c.args.packet c.args.place c.requires.found d c.requires.packet_is _
-    (record { group_size_is = c.group_size.ensures; grid_size_is = c.grid_size.ensures; segment_is = refl; arguments_are = c.get.ensures ∙ block })
+    (record { group_size_is = c.group_size.ensures; grid_size_is = c.grid_size.ensures; segment_is = refl; arguments_are = c.given_to-given.ensures.arguments })
     p (program-is a c.self.invariant h (seen c.self.view_is) c.args.queue c.args.packet c.args.place c.requires.found d c.requires.packet_is c.kernel_at-kernel.result.now at
     c.index.result c.index.ensures p here)
     c.args.place.progress.groups_run c.requires.left
@@ -45,7 +44,7 @@ asked c = record {
   group_size = c.group_size.result;
   grid_size = c.grid_size.result;
   group_segment_size = c.args.dispatch.group_segment_size;
-  arguments = c.get.result;
+  arguments = c.given_to-given.result.1;
 }
 
 -- and what it answers for
@@ -67,14 +66,14 @@ same c = grind (
         group_size_is = c.group_size.ensures;
         grid_size_is = c.grid_size.ensures;
         segment_is = refl;
-        arguments_are = c.get.ensures ∙ (block-is (c.self.inside) c.self.invariant (c.args.self.now.history) (seen c.self.view_is) c.args.queue c.args.packet c.args.place c.requires.found
-            (c.args.dispatch) c.requires.packet_is);
+        arguments_are = c.given_to-given.ensures.arguments;
       }) (program_at c.kernel_at-kernel.result.now c.index.result)
       (program-is (c.self.inside) c.self.invariant (c.args.self.now.history) (seen c.self.view_is) c.args.queue c.args.packet c.args.place c.requires.found
       (c.args.dispatch) c.requires.packet_is c.kernel_at-kernel.result.now
       (ap (λ (ks : List Kernel). numbered ks (c.args.dispatch).kernel_object.0) (sym c.as_slice.ensures.value) ∙ c.kernel_at-kernel.ensures)
       c.index.result c.index.ensures _
-      (here c)) c.args.place.progress.groups_run c.law_groups_read_where_they_may.ensures c.in_ok-view.view c.in_ok-view.ensures,
+      (here c)) c.args.place.progress.groups_run c.law_groups_read_where_they_may.ensures c.in_ok-view.view
+      (c.in_ok-view.ensures ∙ ap (λ (all : HeldRights). view_whole (beginning c.args.self.now.history) c.args.self.now.history.entries all) c.given_to-given.ensures.rights),
 )
 
 pub returns-clause-ok : goal.returns-clause-ok

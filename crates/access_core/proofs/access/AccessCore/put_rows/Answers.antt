@@ -1,5 +1,5 @@
 -- What is cached follows the reload, which is entered.
-use Rattle.std.proofs.Common.{refl, ◌∙◌, []}
+use Rattle.std.proofs.Common.{refl, sym, ◌∙◌, []}
 use Rattle.policy.specs.declared.rows.PolicyRows.{PolicyRows}
 use Rattle.core_model.specs.declared.event.Event.TheVariants.{Reload}
 use Rattle.access_core.proofs.Seen.{seen}
@@ -35,6 +35,7 @@ invariant_of-self c =
             ∙ held-still a c.self.invariant _ _ _ refl calm.stays queue id client on right;
         blocks_are = rw (flight-quiet (start_of a) a.audit.items _ _ _ calm) c.self.invariant.blocks_are;
         arguments = blocks-still a c.self.invariant _ _ _ refl calm.stays;
+        given = λ queue id client on right. c.self.invariant.given queue id client on right ∙ sym (reloads.same_holds queue id client on right);
       };
       memory = memory-still a.memory [] (λ x byte. refl);
       values = refl;
