@@ -140,8 +140,8 @@ class Counter:
     def check(self):
         words = [self.brokerd, "check"]
         body = lambda count: "\n" + "  add_u32 $s0, $s1, 7;\n" * count + "  ret;\n"
-        few, many = (self.instructions([*words, self.policy(policy(1, body(count)))]) for count in (1000, 3000))
-        return (many - few) / 2000
+        few, many = (self.instructions([*words, self.policy(policy(1, body(count)))]) for count in (500, 2000))
+        return (many - few) / 1500
 
     def rows(self):
         with open(SAMPLE, encoding="utf-8") as it:

@@ -43,7 +43,7 @@ impl AccessCore {
     fn declares_as(&self, policy: &Policy) -> bool
         ensures { result ≡ true ↔ DeclaresAs (beginning self.now.history).policy policy.now }
     {
-        self.policy().declares_as(policy)
+        self.start.as_ref().policy.declares_as(policy)
     }
 
     // Whether rows may be put in force: no packet in flight holds a right that they don't allow, and the audit

@@ -21,18 +21,20 @@ returns-clause-begins c =
       signals = c.in_ok-copy-4.field-0;
       queues = c.in_ok-queue_origins.field-0;
       packets = c.in_ok-packet_origins.field-0;
-      before = a.start.before + c.len.result;
+      before = c.entries_before.result + c.len.result;
     } in
+    let policy_is : c.in_ok-copy.field-0 ≡ a.start.policy = c.in_ok-copy.ensures ∙ c.policy.ensures ∙ sym (ap (λ (h : History). h.origin.policy) (seen c.self.view_is)) in
+    let before_is : c.entries_before.result ≡ a.start.before = c.entries_before.ensures.before ∙ sym (ap (λ (h : History). (beginning h).before) (seen c.self.view_is)) in
     let fit : are_region_lengths (region_lengths a.start.policy) ≡ true =
     subst (λ (h : History). are_region_lengths (region_lengths (beginning h).policy) ≡ true) (sym (seen c.self.view_is)) c.regions_fit.ensures in
     subst (λ (h : History). begin h.kernels o ≡ state_after (beginning h) h.entries) (seen c.self.view_is)
-    (copied-behind a c.self.invariant o c.in_ok-copy.ensures c.in_ok-copy-2.ensures c.in_ok-copy-3.ensures c.in_ok-copy-4.ensures
+    (copied-behind a c.self.invariant o policy_is c.in_ok-copy-2.ensures c.in_ok-copy-3.ensures c.in_ok-copy-4.ensures
     (c.in_ok-queue_origins.ensures ∙ ap (map queue_origin) c.as_slice.ensures.value)
     (c.in_ok-packet_origins.ensures ∙ (λ i. filter_map (packet_origin (c.as_slice-2.ensures.value i)) (c.as_slice-3.ensures i)))
-    (ap (λ (n : ℕ). a.start.before + n) c.len.ensures) fit)
+    (λ i. before_is i + c.len.ensures i) fit)
 
 pub returns-clause-policy : goal.returns-clause-policy
-returns-clause-policy c = c.in_ok-copy.ensures ∙ ap (λ (h : History). h.origin.policy) (seen c.self.view_is)
+returns-clause-policy c = c.in_ok-copy.ensures ∙ c.policy.ensures
 
 pub returns-clause-lengths : goal.returns-clause-lengths
 returns-clause-lengths c = ap lengths_of c.in_ok-copy-3.ensures ∙ c.self.invariant.lengths ∙ ap (λ (h : History). region_lengths h.origin.policy) (seen c.self.view_is)

@@ -22,7 +22,7 @@ invariant_of-self c =
     subst (λ (h : History). begin h.kernels c.in_ok-end.end ≡ state_after (beginning h) h.entries) (sym (seen c.self.view_is)) c.in_ok-end.ensures.begins in
     let begins : begin (map program_of a.kernels.items) c.replace-start.new.dest ≡ state_after (start_of a) a.audit.items =
     ap (begin (map program_of a.kernels.items)) c.replace-start.ensures.after
-    ∙ same-begin (map program_of a.kernels.items) c.in_ok-next.next c.in_ok-end.end c.in_ok-next.ensures.same ∙ ends in
+    ∙ same-begin (map program_of a.kernels.items) c.in_ok-next.next c.in_ok-end.end (subst (SameOrigin c.in_ok-next.next) c.as_ref.ensures c.in_ok-next.ensures.same) ∙ ends in
     IsCached-rotated a c.self.invariant c.replace-start.new.dest c.replace-entries.new.dest begins
     (ap (λ (list : Roomy Entry). list.items) c.replace-entries.ensures.after ∙ c.in_ok-empty.ensures.empty)
     (ap (λ (list : Roomy Entry). list.room) c.replace-entries.ensures.after ∙ c.in_ok-empty.ensures.room)
@@ -39,9 +39,9 @@ returns-clause-rotated c =
         lengths = ap (λ (o : Origin). lengths_of o.memory) end ∙ c.in_ok-end.ensures.lengths;
         declared = (
           ap (λ (o : Origin). o.policy) end ∙ c.in_ok-end.ensures.policy,
-          ap (λ (o : Origin). o.policy) c.replace-start.ensures.after ∙ c.in_ok-next.ensures.policy ∙ c.in_ok-end.ensures.policy,
+          ap (λ (o : Origin). o.policy) c.replace-start.ensures.after ∙ c.in_ok-next.ensures.policy ∙ ap (λ (o : Origin). o.policy) c.as_ref.ensures ∙ c.in_ok-end.ensures.policy,
         );
-        goes_on = subst (SameOrigin c.replace-start.new.dest) (sym end) (subst (λ (o : Origin). SameOrigin o c.in_ok-end.end) (sym c.replace-start.ensures.after) c.in_ok-next.ensures.same);
+        goes_on = subst (SameOrigin c.replace-start.new.dest) (sym end) (subst (λ (o : Origin). SameOrigin o c.in_ok-end.end) (sym c.replace-start.ensures.after) (subst (SameOrigin c.in_ok-next.next) c.as_ref.ensures c.in_ok-next.ensures.same));
         kernels_are = ap (λ (h : History). h.kernels) (seen c.self.view_is);
         capacity_is = ap (λ (h : History). h.capacity) (seen c.self.view_is);
         empty = ap (λ (list : Roomy Entry). list.items) c.replace-entries.ensures.after ∙ c.in_ok-empty.ensures.empty;
