@@ -6,7 +6,6 @@ use crate::call::Call;
 use aql_packet::{Address, AgentHandle, ClientId, PacketId, QueueId, SignalHandle};
 use boxed::Boxed;
 use policy::{Policy, PolicyRows};
-
 use signals::Condition;
 use std::alloc::{AllocError, Global};
 use std::mem::size_of;
@@ -124,4 +123,5 @@ pub enum Request {
 
 // Values that are passed on with each call are small, since each hand moves the whole value.
 const _: () = prove!(size_of::<Event>() <= 128);
+
 const _: () = prove!(size_of::<Request>() <= 128);

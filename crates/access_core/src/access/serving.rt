@@ -54,9 +54,10 @@ impl AccessCore {
             } => as_reply(self.take(alloc, queue, packet, &bytes).map(Outcome::Taken)),
             Request::Call(call) => as_reply(self.make_call(alloc, call)),
             Request::Query(query) => self.answer(alloc, query),
-            Request::Reload(policy) => as_reply(as_reloaded(
-                self.reload(alloc, policy.into_inner()),
-            )),
+            Request::Reload(policy) => as_reply(as_reloaded(self.reload(
+                alloc,
+                policy.into_inner(),
+            ))),
         }
     }
 
