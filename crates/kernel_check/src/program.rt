@@ -151,7 +151,7 @@ impl Program {
     pub fn flat_steps(&self) -> &[FlatStep]
         ensures value { AreFlat result.now self.now.steps }
         ensures count { length result.now ≡ length self.now.steps }
-        ensures few { length result.now ≤ MAX_INSTRUCTIONS }
+        ensures few { length result.now ≤ most_instructions }
     {
         self.flat.as_slice()
     }
