@@ -19,6 +19,9 @@ use policy::Policy;
 use std::alloc::{AllocError, Global};
 use world::{Request, World};
 
+// The room that a reply begins with, which is enough for most (own).
+const REPLY_ROOM: usize = 64;
+
 // Whether a line asks for the audit.
 fn asks_for_audit(command: &Command) -> bool
     ensures { result ≡ true → command.now ≡ Command.Ask (Request.Query Query.Audit) }
@@ -62,7 +65,7 @@ fn serve(
         return tell_audit(alloc, world, out);
     }
     let told = perform(alloc, world, later, command);
-    let mut reply = String::new(alloc);
+    let mut reply = String::with_capacity(alloc, REPLY_ROOM)?;
     write_line(&mut reply, world.policy(), &told)?;
     out.push_str(reply.as_str())
 }
