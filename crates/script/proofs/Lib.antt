@@ -1,3 +1,4 @@
+pub mod Tables
 pub mod Digits
 pub mod Commas
 pub mod Audit

@@ -1,12 +1,12 @@
 -- Numbers, bytes and items, one byte more.
-use Rattle.std.proofs.Common.{◌≡◌, ℕ, ◌+◌, ◌<◌, ◌≤◌, List, [], ◌∷◌, ◌++◌, length, get_or, take, drop, Option, Some, None, refl, sym, ap, ◌∙◌, arith, append_assoc, append-nil}
-use Rattle.std.specs.Prelude.{option_map, option_and_then, ◌==◌, false}
+use Rattle.std.proofs.Common.{◌≡◌, ℕ, ◌+◌, ◌<◌, ◌≤◌, true, ◌⊎◌, inl, inr, List, [], ◌∷◌, ◌++◌, length, get_or, set, take, drop, Option, Some, None, refl, sym, ap, ◌∙◌, arith, append_assoc, append-nil, length-append}
+use Rattle.std.specs.Prelude.{option_map, option_and_then, ◌==◌, false, if◌then◌else◌}
 use Rattle.std.proofs.lemmas.Bool.Decides.{nat_tests}
 use Rattle.policy.specs.declared.rights.Rights.{Rights}
 use Rattle.policy.specs.declared.rights.Right.{Right}
-use Rattle.std.proofs.lemmas.List.{take_more, take_all, drop_all}
+use Rattle.std.proofs.lemmas.List.{take_more, take_more_set, take_all, drop_all, length-take-le}
 use Rattle.script.proofs.Splitting.{left_at}
-use Rattle.script.specs.Words.{Word, digit_of, with_digit, number_from, byte_of, bytes_word, items_from, rights_with, with_right, right_of}
+use Rattle.script.specs.Words.{Word, digit_of, with_digit, number_from, byte_of, bytes_word, packet_bytes, items_from, rights_with, with_right, right_of}
 
 pub number_end : (base number : ℕ) → number_from base number [] ≡ Some number
 unfolding number_from
@@ -129,3 +129,65 @@ bytes_none all read rest so none = sym (so ∙ ap (option_map (λ bytes. read ++
 pub bytes_all : (all : Option (List ℕ)) (read : List ℕ) (rest : Word) → all ≡ option_map (λ bytes. read ++ bytes) (bytes_word rest) → length rest ≡ 0 → Some read ≡ all
 bytes_all all read [] so h = sym (so ∙ ap (option_map (λ bytes. read ++ bytes)) bytes_end ∙ ap Some (append-nil read))
 bytes_all all read (byte ∷ rest) so h = absurd (omega arith)
+
+-- a packet's bytes: too few digits, a pair that has no value, or too many
+few_bytes : (all last : Option (List ℕ)) (read : List ℕ) → all ≡ option_map (λ bytes. read ++ bytes) last → (last ≡ Some []) ⊎ (last ≡ None) → length read < 64 →
+    option_and_then (λ bytes. if length bytes == 64 then Some bytes else None) all ≡ None
+few_bytes all last read so (inl end) few =
+    let other : (length (read ++ []) == 64) ≡ false = grind (arith, nat_tests, length-append read []) in
+    rw (so, end) (rw other refl)
+few_bytes all last read so (inr none) few = rw (so, none) refl
+
+short_bytes : (rest : Word) → length rest < 2 → (bytes_word rest ≡ Some []) ⊎ (bytes_word rest ≡ None)
+short_bytes [] few = inl bytes_end
+short_bytes (high ∷ []) few = inr (bytes_odd high)
+short_bytes (high ∷ low ∷ rest) few = absurd (omega (arith, few))
+
+pub packet_short : (word filled rest : List ℕ) (place : ℕ) → bytes_word word ≡ option_map (λ bytes. take place filled ++ bytes) (bytes_word rest) →
+    length rest < 2 → place < 64 → length filled ≡ 64 → packet_bytes word ≡ None
+packet_short word filled rest place so few less full =
+    few_bytes (bytes_word word) (bytes_word rest) (take place filled) so (short_bytes rest few) (omega (arith, less, length-take-le place filled (omega (arith, less, full))))
+
+packet_bad : (word filled rest : List ℕ) (place : ℕ) → bytes_word word ≡ option_map (λ bytes. take place filled ++ bytes) (bytes_word rest) →
+    bytes_word rest ≡ None → packet_bytes word ≡ None
+packet_bad word filled rest place so none = rw (so, none) refl
+
+-- bytes of digits that are there are not none
+many_bytes : (read : List ℕ) (byte : Option ℕ) (last : Option (List ℕ)) → length read ≡ 64 →
+    option_and_then (λ bytes. if length bytes == 64 then Some bytes else None)
+    (option_map (λ bytes. read ++ bytes) (option_and_then (λ byte. option_map (λ bytes. byte ∷ bytes) last) byte)) ≡ None
+many_bytes read None last full = refl
+many_bytes read (Some byte) None full = refl
+many_bytes read (Some byte) (Some last) full =
+    let other : (length (read ++ byte ∷ last) == 64) ≡ false = grind (arith, nat_tests, length-append read (byte ∷ last)) in rw other refl
+
+long_bytes : (read : List ℕ) (rest : Word) → length read ≡ 64 → 0 < length rest →
+    option_and_then (λ bytes. if length bytes == 64 then Some bytes else None) (option_map (λ bytes. read ++ bytes) (bytes_word rest)) ≡ None
+long_bytes read [] full some = absurd (omega (arith, some))
+long_bytes read (high ∷ []) full some = rw (bytes_odd high) refl
+long_bytes read (high ∷ low ∷ rest) full some = rw (bytes_step high low rest) (many_bytes read (byte_of high low) (bytes_word rest) full)
+
+pub packet_long : (word filled rest : List ℕ) (place : ℕ) → place ≡ 64 → bytes_word word ≡ option_map (λ bytes. take place filled ++ bytes) (bytes_word rest) →
+    length filled ≡ 64 → 0 < length rest → packet_bytes word ≡ None
+packet_long word filled rest place done so full some =
+    rw so (long_bytes (take place filled) rest (length-take-le place filled (omega (arith, done, full)) ∙ done) some)
+
+pub packet_whole : (word filled rest : List ℕ) (place : ℕ) → place ≡ 64 → bytes_word word ≡ option_map (λ bytes. take place filled ++ bytes) (bytes_word rest) →
+    length filled ≡ 64 → length rest ≡ 0 → packet_bytes word ≡ Some filled
+packet_whole word filled [] place done so full none =
+    let whole : take place filled ++ [] ≡ filled = append-nil (take place filled) ∙ take_all place filled (omega (arith, done, full)) in
+    let fits : (length filled == 64) ≡ true = grind (arith, nat_tests, full) in
+    rw (so, bytes_end) (rw whole (rw fits refl))
+packet_whole word filled (high ∷ rest) place done so full none = absurd (omega (arith, none))
+
+-- a pair of digits more
+pub packet_more : (word filled fuller rest last : List ℕ) (place high low byte : ℕ) → bytes_word word ≡ option_map (λ bytes. take place filled ++ bytes) (bytes_word rest) →
+    rest ≡ high ∷ low ∷ last → byte_of high low ≡ Some byte → fuller ≡ set filled place byte → place < length filled →
+    bytes_word word ≡ option_map (λ bytes. take (place + 1) fuller ++ bytes) (bytes_word last)
+packet_more word filled fuller rest last place high low byte so e some is_set less =
+    bytes_more (bytes_word word) (take place filled) (take (place + 1) fuller) rest high low byte (low ∷ last) last so e refl some
+    (ap (take (place + 1)) is_set ∙ take_more_set filled place byte less)
+
+pub packet_pair : (word filled rest last : List ℕ) (place high low : ℕ) → bytes_word word ≡ option_map (λ bytes. take place filled ++ bytes) (bytes_word rest) →
+    rest ≡ high ∷ low ∷ last → byte_of high low ≡ None → packet_bytes word ≡ None
+packet_pair word filled rest last place high low so e none = packet_bad word filled rest place so (bytes_bad rest high low (low ∷ last) last e refl none)

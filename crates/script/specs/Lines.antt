@@ -290,7 +290,5 @@ line_of policy later bytes =
 -- the verb's row needs no memory to be read
 abbrev pub IsPlain : Verb → Type 0
 IsPlain verb.Word = ⊥
-IsPlain verb.Publish = ⊥
-IsPlain verb.Submit = ⊥
 IsPlain verb.Write = ⊥
 IsPlain _ = Unit {0}

@@ -125,6 +125,10 @@ words_of bytes =
     word_at bytes 0 ∷ word_at bytes 8 ∷ word_at bytes 16 ∷ word_at bytes 24 ∷ word_at bytes 32 ∷ word_at bytes 40 ∷ word_at bytes 48
     ∷ word_at bytes 56 ∷ []
 
+-- a packet's bytes: just 64
+abbrev pub packet_bytes : Word → Option (List ℕ)
+packet_bytes word = option_and_then (λ bytes. if length bytes == 64 then Some bytes else None) (bytes_word word)
+
 -- a packet: its eight words, of 64 bytes
 abbrev pub packet_word : Word → Option (List ℕ)
 packet_word word = option_and_then (λ bytes. if length bytes == 64 then Some (words_of bytes) else None) (bytes_word word)

@@ -273,53 +273,35 @@ fn part(line: &[u8]) -> Option<Command>
 }
 
 // `publish Q P T H`
-fn publish(alloc: Global, line: &[u8]) -> Result<Option<Command>, AllocError>
-    ensures { IfOk result (λ read. read ≡ publish_row (words line.now)) }
+fn publish(line: &[u8]) -> Option<Command>
+    ensures { result ≡ publish_row (words line.now) }
 {
-    let Some((queue, producer, ticket, digits)) = four_words(line) else {
-        return Ok(None);
-    };
-    let Some(queue) = decimal(queue) else {
-        return Ok(None);
-    };
-    let Some(producer) = decimal(producer) else {
-        return Ok(None);
-    };
-    let Some(ticket) = decimal(ticket) else {
-        return Ok(None);
-    };
-    let Some(words) = packet(alloc, digits)? else {
-        return Ok(None);
-    };
-    Ok(Some(Command::Publish {
-        queue: QueueId(queue),
+    let (queue, producer, ticket, digits) = four_words(line)?;
+    let queue = QueueId(decimal(queue)?);
+    let producer = decimal(producer)?;
+    let ticket = PacketId(decimal(ticket)?);
+    let words = packet(digits)?;
+    Some(Command::Publish {
+        queue,
         producer,
-        ticket: PacketId(ticket),
+        ticket,
         words,
-    }))
+    })
 }
 
 // `submit Q P H`
-fn submit(alloc: Global, line: &[u8]) -> Result<Option<Command>, AllocError>
-    ensures { IfOk result (λ read. read ≡ submit_row (words line.now)) }
+fn submit(line: &[u8]) -> Option<Command>
+    ensures { result ≡ submit_row (words line.now) }
 {
-    let Some((queue, producer, digits)) = three_words(line) else {
-        return Ok(None);
-    };
-    let Some(queue) = decimal(queue) else {
-        return Ok(None);
-    };
-    let Some(producer) = decimal(producer) else {
-        return Ok(None);
-    };
-    let Some(words) = packet(alloc, digits)? else {
-        return Ok(None);
-    };
-    Ok(Some(Command::Submit {
-        queue: QueueId(queue),
+    let (queue, producer, digits) = three_words(line)?;
+    let queue = QueueId(decimal(queue)?);
+    let producer = decimal(producer)?;
+    let words = packet(digits)?;
+    Some(Command::Submit {
+        queue,
         producer,
         words,
-    }))
+    })
 }
 
 // `write C ADDR H`
@@ -517,6 +499,8 @@ fn plain_command(policy: &Policy, later: usize, verb: Verb, line: &[u8]) -> Opti
         Verb::Stop => stop(line),
         Verb::Reserve => reserve(line),
         Verb::Room => room(line),
+        Verb::Publish => publish(line),
+        Verb::Submit => submit(line),
         Verb::Look => Some(processes(Access::LoadHeader, queue_id(line)?)),
         Verb::Part => part(line),
         Verb::Peek => Some(Command::Peek {
@@ -545,7 +529,7 @@ fn plain_command(policy: &Policy, later: usize, verb: Verb, line: &[u8]) -> Opti
         Verb::Audit => audit(line),
         Verb::Reload => reload(later, line),
         Verb::Rotate => rotate(line),
-        Verb::Word | Verb::Publish | Verb::Submit | Verb::Write => None,
+        Verb::Word | Verb::Write => None,
     }
 }
 
@@ -561,8 +545,6 @@ fn command(
 {
     match verb {
         Verb::Word => word(alloc, line),
-        Verb::Publish => publish(alloc, line),
-        Verb::Submit => submit(alloc, line),
         Verb::Write => write(alloc, policy, line),
         _ => Ok(plain_command(policy, later, verb, line)),
     }

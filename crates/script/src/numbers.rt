@@ -1,8 +1,8 @@
 //! Numbers, bytes, rights and kinds that single words stand for.
 
-ghost use Rattle.std.specs.Prelude.{◌≡◌, ◌∷◌, [], ◌+◌, ◌<◌, ◌≤◌, IfOk, IfSome, option_map, length};
+ghost use Rattle.std.specs.Prelude.{◌≡◌, ◌∷◌, [], ◌+◌, ◌<◌, ◌≤◌, IfOk, IfSome, MatchOption, option_map, length};
 ghost use Rattle.policy.specs.Format.{kind_named};
-ghost use Rattle.script.specs.Words.{digit_of, with_digit, number_from, decimal_word, negative, positive, signed_word, address_word, byte_of, bytes_word, word_at, eight_bytes, words_of, packet_word, items_from, items_behind, right_of, with_right, rights_with, rights_word, condition_word};
+ghost use Rattle.script.specs.Words.{digit_of, with_digit, number_from, decimal_word, negative, positive, signed_word, address_word, byte_of, bytes_word, word_at, eight_bytes, words_of, packet_bytes, packet_word, items_from, items_behind, right_of, with_right, rights_with, rights_word, condition_word};
 
 use crate::words::is_word;
 use aql_packet::Address;
@@ -12,16 +12,30 @@ use policy::{Kind, Right, Rights};
 use signals::Condition;
 use std::alloc::{AllocError, Global};
 
+// The value of each byte as a digit, in either case; 255 where it is none.
+const DIGITS: &[u8; 256] = &[
+    255, 255, 255, 255, 255, 255, 255, 255, 255, 255, 255, 255, 255, 255, 255, 255, 255, 255, 255,
+    255, 255, 255, 255, 255, 255, 255, 255, 255, 255, 255, 255, 255, 255, 255, 255, 255, 255, 255,
+    255, 255, 255, 255, 255, 255, 255, 255, 255, 255, 0, 1, 2, 3, 4, 5, 6, 7, 8, 9, 255, 255, 255,
+    255, 255, 255, 255, 10, 11, 12, 13, 14, 15, 255, 255, 255, 255, 255, 255, 255, 255, 255, 255,
+    255, 255, 255, 255, 255, 255, 255, 255, 255, 255, 255, 255, 255, 255, 255, 255, 10, 11, 12, 13,
+    14, 15, 255, 255, 255, 255, 255, 255, 255, 255, 255, 255, 255, 255, 255, 255, 255, 255, 255,
+    255, 255, 255, 255, 255, 255, 255, 255, 255, 255, 255, 255, 255, 255, 255, 255, 255, 255, 255,
+    255, 255, 255, 255, 255, 255, 255, 255, 255, 255, 255, 255, 255, 255, 255, 255, 255, 255, 255,
+    255, 255, 255, 255, 255, 255, 255, 255, 255, 255, 255, 255, 255, 255, 255, 255, 255, 255, 255,
+    255, 255, 255, 255, 255, 255, 255, 255, 255, 255, 255, 255, 255, 255, 255, 255, 255, 255, 255,
+    255, 255, 255, 255, 255, 255, 255, 255, 255, 255, 255, 255, 255, 255, 255, 255, 255, 255, 255,
+    255, 255, 255, 255, 255, 255, 255, 255, 255, 255, 255, 255, 255, 255, 255, 255, 255, 255, 255,
+    255, 255, 255, 255, 255, 255, 255, 255, 255, 255, 255, 255, 255, 255, 255, 255, 255, 255, 255,
+    255, 255, 255,
+];
+
 // The value of a digit, in either case.
 fn digit(byte: u8) -> Option<u8>
     ensures { result ≡ digit_of byte }
 {
-    match byte {
-        b'0'..=b'9' => Some(byte - b'0'),
-        b'A'..=b'F' => Some(byte - b'A' + 10),
-        b'a'..=b'f' => Some(byte - b'a' + 10),
-        _ => None,
-    }
+    let value = DIGITS[byte as usize];
+    if value < 16 { Some(value) } else { None }
 }
 
 // A number with a further digit of a base.
@@ -171,17 +185,34 @@ fn words_of(bytes: &[u8]) -> [u64; 8]
     ]
 }
 
-/// A packet: its eight words, of 64 bytes.
-pub fn packet(alloc: Global, word: &[u8]) -> Result<Option<[u64; 8]>, AllocError>
-    ensures { IfOk result (λ read. read ≡ packet_word word.now) }
+// The first two digits of a word, and what stands behind them.
+fn split_digits(word: &[u8]) -> Option<(u8, u8, &[u8])>
+    ensures { MatchOption result (length word.now < 2) (λ found. word.now ≡ found.0 ∷ found.1 ∷ found.2.now) }
 {
-    let Some(bytes) = bytes(alloc, word)? else {
-        return Ok(None);
-    };
-    if bytes.len() != 64 {
-        return Ok(None);
+    let (high, behind) = word.split_first()?;
+    let (low, further) = behind.split_first()?;
+    Some((*high, *low, further))
+}
+
+// A packet's bytes: just 64.
+fn packet_bytes(word: &[u8]) -> Option<[u8; 64]>
+    ensures { result ≡ packet_bytes word.now }
+{
+    let mut bytes = [0; 64];
+    let mut rest = word;
+    for place in 0..64 {
+        let (high, low, further) = split_digits(rest)?;
+        bytes[place] = byte(high, low)?;
+        rest = further;
     }
-    Ok(Some(words_of(bytes.as_slice())))
+    if rest.is_empty() { Some(bytes) } else { None }
+}
+
+/// A packet: its eight words, of 64 bytes.
+pub fn packet(word: &[u8]) -> Option<[u64; 8]>
+    ensures { result ≡ packet_word word.now }
+{
+    Some(words_of(&packet_bytes(word)?))
 }
 
 // The right of a name.
