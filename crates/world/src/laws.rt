@@ -1,6 +1,6 @@
 //! The headline, as a law of all lists of requests.
 
-ghost use Rattle.std.specs.Prelude.{◌≡◌, ◌++◌, ℕ, List, Option, Result, Err};
+ghost use Rattle.std.specs.Prelude.{◌≡◌, ◌++◌, [], ℕ, List, Option, Result, Err};
 ghost use Rattle.aql_packet.specs.declared.ids.PacketId.{PacketId};
 ghost use Rattle.aql_packet.specs.declared.ids.QueueId.{QueueId};
 ghost use Rattle.policy.specs.Policy.{Declared, region_lengths};
