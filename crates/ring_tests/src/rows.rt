@@ -1,6 +1,7 @@
 //! Rings used by one thread.
 
 ghost use Rattle.std.specs.Prelude.{◌≡◌};
+ghost use Rattle.ring.specs.Publishing.{IsOpen};
 
 use crate::load::{
     Turns, packet, publish_all, publish_one, settle_two, slot_bytes, take_all, take_shown,
@@ -8,7 +9,7 @@ use crate::load::{
 use aql_packet::PacketId;
 use ring::{
     Peeked, ProcessorPass, ProducerPass, Publication, Ring, RingFault, SettleFault, SettleRoom,
-    settle, settle_in,
+    Ticket, settle, settle_in,
 };
 use std::alloc::Global;
 use std::process::Abort;
@@ -118,6 +119,46 @@ fn two_producers_share_two_slots(rt: HostRuntime) -> Result<(), Fail> {
     Ok(())
 }
 
+// Whether a processor sees no packet.
+fn sees_nothing(ring: &Ring, pass: &mut ProcessorPass) -> bool
+    requires { pass.old.table ≡ ring.now.table }
+    ensures { pass.new.table ≡ pass.old.table }
+{
+    match pass.peek(ring) {
+        Peeked::Empty => true,
+        Peeked::Shown(_) => false,
+    }
+}
+
+// The id under which a packet is published, if it is.
+fn publish_at(
+    ring: &Ring,
+    pass: &mut ProducerPass,
+    ticket: Ticket,
+    bytes: &[u8; 64],
+) -> Option<PacketId>
+    requires table { pass.old.table ≡ ring.now.table }
+    requires opened { IsOpen ticket.id.0 pass.old }
+    ensures { pass.new.table ≡ pass.old.table }
+{
+    match pass.publish(ring, ticket, bytes) {
+        Publication::Published(id) => Some(id),
+        Publication::NotPublishable(_) => None,
+        Publication::SlotBusy(_, _) => None,
+    }
+}
+
+// The next id that a producer reserves.
+fn next_id(ring: &Ring, pass: &mut ProducerPass) -> Option<PacketId>
+    requires { pass.old.table ≡ ring.now.table }
+    ensures { pass.new.table ≡ pass.old.table }
+{
+    match pass.reserve(ring) {
+        Ok(ticket) => Some(ticket.id()),
+        Err(_) => None,
+    }
+}
+
 // A packet that is published behind an open ticket is not seen before the ticket's own.
 fn check_gap(
     rt: &impl Abort,
@@ -134,7 +175,7 @@ fn check_gap(
         panic!(rt; "an id is left")
     };
     assert!(rt; publish_one(ring, second, &packet(2, 0)));
-    assert!(rt; processor.peek(ring) == Peeked::Empty);
+    assert!(rt; sees_nothing(ring, processor));
     let published = first.publish(ring, ticket, &packet(1, 0));
     assert!(rt; published == Publication::Published(PacketId(0)));
     assert!(rt; take_shown(ring, processor) == Some(packet(1, 0)));
@@ -202,12 +243,8 @@ fn check_full_ring(
     };
     assert!(rt; ticket.id() == PacketId(4_096) && read_index == 0);
     assert!(rt; take_all(ring, processor, &mut Turns::new(), 150) == 150);
-    let published = pass.publish(ring, ticket, &packet(1, 4_096));
-    assert!(rt; published == Publication::Published(PacketId(4_096)));
-    let Ok(open) = pass.reserve(ring) else {
-        panic!(rt; "an id is left")
-    };
-    assert!(rt; open.id() == PacketId(4_097));
+    assert!(rt; publish_at(ring, pass, ticket, &packet(1, 4_096)) == Some(PacketId(4_096)));
+    assert!(rt; next_id(ring, pass) == Some(PacketId(4_097)));
 }
 
 #[test]
