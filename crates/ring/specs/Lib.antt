@@ -1,5 +1,4 @@
 pub mod Bytes
-pub mod Places
 pub mod Shares
 pub mod Made
 pub mod Passes

@@ -6,11 +6,10 @@ ghost use Rattle.ring.specs.Bytes.{words_of};
 ghost use Rattle.ring.specs.Made.{retiring};
 ghost use Rattle.ring.specs.Showing.{IsShownBy, ProcessorGains, HasPeeked, ShowsAgain, IsLoadable, HasLoaded};
 
-use crate::place::{slot_place, table_place};
 use crate::ring::Ring;
 use crate::share::RingSeat;
 use aql_packet::{PacketId, bytes_of, is_invalid, words_of};
-use ring_core::{Access, READ_PLACE};
+use ring_core::{Access, READ_PLACE, word_place};
 use std::marker::Model;
 
 /// The packet at the read index.
@@ -61,7 +60,7 @@ impl Ring {
         ensures loaded { HasLoaded self.now.size self.now.producers seat.old.me result seat.new.me }
         ensures fits { is_ring_size self.now.size ≡ true }
     {
-        let slot = slot_place(self.size, next);
+        let slot = word_place(self.size, next, 0);
         let header = self.load(seat, Access::LoadHeader, slot);
         if is_invalid(header) {
             return None;
@@ -116,13 +115,9 @@ impl ProcessorPass {
         ensures adds { self.new.part.retired ≡ self.old.part.retired ++ words_of shown.bytes ∷ [] }
     {
         let _ = shown;
-        let slot = slot_place(ring.size, self.next);
+        let slot = word_place(ring.size, self.next, 0);
         ring.store(&mut self.seat, Access::ClearHeader, slot, 1);
-        let index = ring.add_one(
-            &mut self.seat,
-            Access::RaiseReadIndex,
-            table_place(READ_PLACE),
-        );
+        let index = ring.add_one(&mut self.seat, Access::RaiseReadIndex, READ_PLACE);
         self.next = index + 1;
         self.whole = false;
     }
