@@ -202,7 +202,7 @@ def try_page(path, brokerd):
         (room / "bin" / "brokerd").symlink_to(brokerd)
         (room / "bin" / "rt").write_text(RT)
         (room / "bin" / "rt").chmod(0o755)
-        for it in ("crates", "docs", "examples", "README.md"):
+        for it in ("crates", "docs", "examples", "tests", "README.md"):
             (room / it).symlink_to(TOP / it)
         page = Page(path, room)
         for block in blocks_of(path.read_text()):
