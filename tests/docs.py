@@ -1,5 +1,5 @@
 #!/usr/bin/env python3
-"""Runs what the pages show, README.md and docs/*.md, with a built brokerd:
+"""Runs what the pages show, README.md and docs/*.md, with a built brokerd, and looks for the files that they name:
 
     tests/docs.py BROKERD
 
@@ -15,6 +15,7 @@ import tempfile
 
 TOP = pathlib.Path(__file__).resolve().parent.parent
 FENCE = re.compile(r"^(`{3,})(.*)$")
+NAMED = re.compile(r"`([\w./-]+\.(?:antt|c|case|edit|hsail|md|names|py|rt|script|sh|svg|toml))`")
 SECONDS = 120
 
 # What `rt` is for a page's commands: the program is built already, so it is only run.
@@ -192,6 +193,43 @@ class Page:
         return None
 
 
+def outside_blocks(text):
+    """The lines of a page that stand in none of its blocks."""
+    fence = None
+    for line in text.split("\n"):
+        found = FENCE.match(line)
+        if fence is None and not found:
+            yield line
+        elif fence is None:
+            fence = found[1]
+        elif line == fence:
+            fence = None
+
+
+def paths():
+    """The paths of the files of the repository, as one text, a line each."""
+    found = []
+    for folder, folders, files in os.walk(TOP):
+        folders[:] = [it for it in folders if it not in ("out", ".git")]
+        found += [f"{folder}/{it}\n" for it in files]
+    return "".join(found)
+
+
+def missing_files(text, held):
+    """The files that a page names and that no path ends with."""
+    made = {block.marks.get("file") for block in blocks_of(text)}
+    named = {name for line in outside_blocks(text) for name in NAMED.findall(line)}
+    return sorted(name for name in named - made if f"/{name}\n" not in held)
+
+
+def try_names(path, held):
+    """Looks for the files that a page names: one trial a page."""
+    missing = missing_files(path.read_text(), held)
+    if missing:
+        print(f"{path.relative_to(TOP)} names files that aren't there: {', '.join(missing)}")
+    return (0, 1) if missing else (1, 0)
+
+
 def try_page(path, brokerd):
     """Runs a page's blocks, and tells how many passed and failed."""
     passed = failed = 0
@@ -226,13 +264,14 @@ def main(words):
         return 2
     brokerd = pathlib.Path(words[1]).resolve()
     passed = failed = 0
+    held = paths()
     for path in [TOP / "README.md", *sorted((TOP / "docs").glob("*.md"))]:
         try:
-            counts = try_page(path, brokerd)
+            counts = [try_page(path, brokerd), try_names(path, held)]
         except Wrong as error:
             print(f"{path.relative_to(TOP)}: {error}")
-            counts = (0, 1)
-        passed, failed = passed + counts[0], failed + counts[1]
+            counts = [(0, 1)]
+        passed, failed = passed + sum(it[0] for it in counts), failed + sum(it[1] for it in counts)
     print(f"docs: {passed} passed, {failed} failed")
     print(f"{passed} passed, {failed} failed")
     return 1 if failed or not passed else 0
