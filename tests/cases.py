@@ -6,7 +6,7 @@ import contextlib
 import io
 import sys
 
-from against import NoCases, hold
+from against import NoCases, hold, text_in
 from trial import TOP, program_given
 
 CASES = f"{TOP}/crates/cases"
@@ -29,9 +29,9 @@ def commands(program):
     }
 
 
-def missing(files):
+def missing():
     """The entries of the list above that name no case."""
-    texts = {title: open(f"{CASES}/data/{title}.case", encoding="utf-8").read() for title in LEFT}
+    texts = {title: text_in(f"{CASES}/data/{title}.case") for title in LEFT}
     return [name for title, names in LEFT.items() for name in names if f"== {name}\n" not in texts[title]]
 
 
@@ -40,21 +40,28 @@ def reports_differences(program):
     told = io.StringIO()
     with contextlib.redirect_stdout(told):
         counts = hold(commands(program), [f"{CASES}/data/{WRONG}"], SECONDS)
-    with open(f"{CASES}/stdout", encoding="utf-8") as file:
-        return counts == (0, 4) and told.getvalue() and file.read().endswith(told.getvalue())
+    return counts == (0, 4) and text_in(f"{CASES}/stdout").endswith(told.getvalue())
+
+
+def is_ended():
+    """Whether a program that doesn't end is ended in time, and differs."""
+    told = io.StringIO()
+    with contextlib.redirect_stdout(told):
+        counts = hold({"scripts": ["sleep", "60"]}, [f"{CASES}/data/first.case"], 0.2)
+    return counts == (0, 2) and "it did not end within 0.2 seconds" in told.getvalue()
 
 
 def main():
     program = program_given()
-    with open(f"{CASES}/args", encoding="utf-8") as file:
-        names = file.read().split()
+    names = text_in(f"{CASES}/args").split()
     try:
         passed, failed = hold(commands(program), [f"{CASES}/data/{it}" for it in names if it != WRONG], SECONDS, LEFT)
         further = [(f"{WRONG} is told as the program of the cases tells it", reports_differences(program))]
     except NoCases as error:
         print(error)
         passed, failed, further = 0, 1, []
-    further += [(f"each case that is left is one of its file", not missing(names))]
+    further.append(("each case that is left out stands in its file", not missing()))
+    further.append(("a program that doesn't end is ended, and differs", is_ended()))
     for name, well in further:
         print(f"{'ok' if well else 'FAILED'} {name}")
         passed, failed = passed + bool(well), failed + (not well)
