@@ -30,6 +30,7 @@ KINDS = ("scripts", "kernels", "policies", "runs", "strict", "assembled", "reada
 ROLES = {"over": "over", "in": "frame", "after": "before", "names": "names", "text": "texts"}
 ESCAPES = {"n": 0x0A, "r": 0x0D, "t": 0x09, "s": 0x20, "0": 0}
 ESCAPED = re.compile(rb"\\(x..|.)", re.DOTALL)
+FAULT = re.compile(r"read \d+ line \d+ column \d+|check \d+ line \d+")
 RANGE = re.compile(r"(\d+)\.\.(\d+) (.*)", re.DOTALL)
 
 
@@ -330,8 +331,9 @@ class Ran:
             return "status: none: its output is no UTF-8\n"
 
     def fault(self):
-        """Of a text that is refused, the beginning of what is told on standard error, up to the first colon."""
-        return self.err.split(": ", 1)[0].rstrip("\n") + "\n" if self.status == 1 else self.told()
+        """Of a kernel's text that is refused, the fault with which standard error begins; else what is told."""
+        found = FAULT.match(self.err)
+        return f"{found[0]}\n" if found else self.told()
 
 
 class Program:
