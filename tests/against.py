@@ -492,7 +492,7 @@ def hold(commands, paths, seconds=10.0, left=None):
             try:
                 files.append(File(path, (left or {}).get(os.path.basename(path).removesuffix(".case"), {})))
                 files[-1].try_all(program, pool)
-            except NoCases as error:
+            except (NoCases, UnicodeDecodeError) as error:
                 raise NoCases(f"in {path}: {error}") from None
     tell_not_tried(files)
     return sum(file.same for file in files), sum(file.differ for file in files)
