@@ -52,9 +52,10 @@ module _ (a : Surroundings) (p : Program) (n : ℕ) where
     reached_breaks rule address is = λ earlier rest are many.
         breaks_now a p n earlier rest are many (running (earlier ++ begun ∷ rest) before) i (65536 - left) m (so_far earlier rest are many) rule address is
 
--- a turn of the same item in the same surroundings
-pub turn_alike : (a b : Surroundings) (steps : List Step) (before r : Registers) (next executed : ℕ) (m : Contents) (x : Act) → a ≡ b → before ≡ r
-    → turn a steps (record { registers = before; next = next }) executed m ≡ x → turn b steps (record { registers = r; next = next }) executed m ≡ x
-turn_alike a b steps before r next executed m x around same is =
-    subst (λ (q : Registers). turn b steps (record { registers = q; next = next }) executed m ≡ x) same
-    (subst (λ (s : Surroundings). turn s steps (record { registers = before; next = next }) executed m ≡ x) around is)
+-- a turn of the same item in the same surroundings and contents
+pub turn_alike : (a b : Surroundings) (steps : List Step) (before r : Registers) (next executed : ℕ) (m n : Contents) (x : Act) → a ≡ b → before ≡ r → m ≡ n
+    → turn a steps (record { registers = before; next = next }) executed m ≡ x → turn b steps (record { registers = r; next = next }) executed n ≡ x
+turn_alike a b steps before r next executed m n x around same still is =
+    subst (λ (c : Contents). turn b steps (record { registers = r; next = next }) executed c ≡ x) still
+    (subst (λ (q : Registers). turn b steps (record { registers = q; next = next }) executed m ≡ x) same
+    (subst (λ (s : Surroundings). turn s steps (record { registers = before; next = next }) executed m ≡ x) around is))

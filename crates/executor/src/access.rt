@@ -53,7 +53,7 @@ fn access<'v>(view: &'v View<'v>, right: Right, address: u64, size: usize) -> Re
 }
 
 /// A load: what the addresses have, the lowest byte first, or the rule that it breaks first.
-#[inline]
+#[inline(always)]
 pub fn load(view: &View<'_>, written: &WrittenBytes, address: u64, size: usize) -> Result<u64, Rule>
     requires some { 1 ≤ size }
     requires few { size ≤ 8 }
@@ -66,7 +66,7 @@ pub fn load(view: &View<'_>, written: &WrittenBytes, address: u64, size: usize) 
 }
 
 /// A store of a value's low bytes, the lowest first.
-#[inline]
+#[inline(always)]
 pub fn store(
     alloc: Global,
     view: &View<'_>,

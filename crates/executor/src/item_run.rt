@@ -12,7 +12,7 @@ ghost use Rattle.executor.specs.declared.limits.TheConstants.{BUDGET};
 
 use crate::act::{Outcome, act};
 use crate::fault::{ItemFault, RunFault};
-use crate::flat::go;
+use crate::flat::{Gone, go};
 use crate::item::{Item, ItemContext, Stop, StoppedItem};
 use crate::limits::BUDGET;
 use crate::location::{Extent, Location};
@@ -108,9 +108,17 @@ pub fn run_item(
             return Ok(());
         };
         left -= 1;
-        match go(&mut stopped.item.registers, next, flat) {
-            Some(after) => next = after,
-            None => {
+        match go(alloc, &own, &mut stopped.item.registers, next, memory, flat) {
+            Gone::Next(after) => next = after,
+            Gone::Broke(rule, address) => return Err(fault(
+                program,
+                number,
+                next,
+                rule,
+                Some(SegmentAddress::Global(address)),
+            )),
+            Gone::OutOfMemory => return Err(RunFault::OutOfMemory),
+            Gone::Other => {
                 stopped.item.next = next;
                 match turn(alloc, &own, program, &mut stopped.item, memory) {
                     Outcome::GoesOn => next = stopped.item.next,

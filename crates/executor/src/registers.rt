@@ -4,15 +4,16 @@ ghost use Rattle.executor.specs.Registers.{cleared, read1, read32, read64, read_
 
 use kernel_check::{AnyRegister, AnySource, RegisterNumber, Source1, Source32, Source64};
 
-/// The registers of a work-item, by class and number (PRM, Registers).
+/// The registers of a work-item, by class and number (PRM, Registers). Those that steps read most lie first, where
+/// an item lies.
 #[derive(Clone, Copy)]
 pub struct Registers {
-    /// `$c0` to `$c63`.
-    pub control: [bool; 64],
     /// `$s0` to `$s63`.
     pub single: [u32; 64],
     /// `$d0` to `$d63`.
     pub double: [u64; 64],
+    /// `$c0` to `$c63`.
+    pub control: [bool; 64],
 }
 
 impl Registers {
@@ -21,9 +22,9 @@ impl Registers {
         ensures { result ≡ cleared }
     {
         Registers {
-            control: [false; 64],
             single: [0; 64],
             double: [0; 64],
+            control: [false; 64],
         }
     }
 

@@ -3,15 +3,19 @@ use Rattle.std.specs.Prelude.{◌≡◌, ℕ, List, [], ◌∷◌, Option, Some,
 use Rattle.hsail_reader.specs.declared.types.Comparison.{Comparison}
 use Rattle.kernel_check.specs.declared.flat.FlatStep.{FlatStep}
 use Rattle.kernel_check.specs.declared.flat.FlatStep.TheVariants as flat
+use Rattle.kernel_check.specs.declared.step.AnyRegister.{AnyRegister}
 use Rattle.kernel_check.specs.declared.step.AnyRegister.TheVariants as register
+use Rattle.kernel_check.specs.declared.step.AnySource.{AnySource}
 use Rattle.kernel_check.specs.declared.step.AnySource.TheVariants as any
 use Rattle.kernel_check.specs.declared.step.Compare.{Compare}
 use Rattle.kernel_check.specs.declared.step.ControlOperation.{ControlOperation}
 use Rattle.kernel_check.specs.declared.step.ControlOperation.TheVariants as control
 use Rattle.kernel_check.specs.declared.step.DoubleOperation.{DoubleOperation}
 use Rattle.kernel_check.specs.declared.step.DoubleOperation.TheVariants as double
+use Rattle.kernel_check.specs.declared.step.NumberType.{NumberType}
 use Rattle.kernel_check.specs.declared.step.NumberType.TheVariants as number
 use Rattle.kernel_check.specs.declared.step.Pair.{Pair}
+use Rattle.kernel_check.specs.declared.step.Pointer.{Pointer}
 use Rattle.kernel_check.specs.declared.step.Shift64.{Shift64}
 use Rattle.kernel_check.specs.declared.step.SingleOperation.{SingleOperation}
 use Rattle.kernel_check.specs.declared.step.SingleOperation.TheVariants as single
@@ -49,6 +53,16 @@ single_step target operation = Some (step.Single (record { target = target; oper
 
 abbrev pub double_step : ℕ → DoubleOperation → Option Step
 double_step target operation = Some (step.Double (record { target = target; operation = operation }))
+
+-- an address of global memory: what a register has, and a number behind
+abbrev pub register_and : ℕ → ℕ → Pointer
+register_and base offset = record { base = Some base; offset = offset }
+
+abbrev pub load_step : NumberType → AnyRegister → ℕ → ℕ → Option Step
+load_step kind target base offset = Some (step.Load (record { kind = kind; target = target; pointer = register_and base offset }))
+
+abbrev pub store_step : NumberType → AnySource → ℕ → ℕ → Option Step
+store_step kind source base offset = Some (step.Store (record { kind = kind; source = source; pointer = register_and base offset }))
 
 -- the step that a flat one stands for
 abbrev pub plain : FlatStep → Option Step
@@ -110,6 +124,22 @@ plain (flat.CompareSigned32Constant f t l c) = control_step t (control.CompareSi
 plain (flat.CompareSigned64 f t l r) = control_step t (control.CompareSigned64 (both_compared f l r))
 plain (flat.CompareSigned64Constant f t l c) = control_step t (control.CompareSigned64 (compared_with_constant f l c))
 plain (flat.Widen t s) = Some (step.Convert (record { from = number.U32; to = number.U64; target = register.Double t; source = any.Single (source.Register s) }))
+plain (flat.LoadUnsigned8 t b o) = load_step number.U8 (register.Single t) b o
+plain (flat.LoadSigned8 t b o) = load_step number.S8 (register.Single t) b o
+plain (flat.LoadUnsigned16 t b o) = load_step number.U16 (register.Single t) b o
+plain (flat.LoadSigned16 t b o) = load_step number.S16 (register.Single t) b o
+plain (flat.LoadUnsigned32 t b o) = load_step number.U32 (register.Single t) b o
+plain (flat.LoadSigned32 t b o) = load_step number.S32 (register.Single t) b o
+plain (flat.LoadUnsigned64 t b o) = load_step number.U64 (register.Double t) b o
+plain (flat.LoadSigned64 t b o) = load_step number.S64 (register.Double t) b o
+plain (flat.StoreUnsigned8 s b o) = store_step number.U8 (any.Single (source.Register s)) b o
+plain (flat.StoreSigned8 s b o) = store_step number.S8 (any.Single (source.Register s)) b o
+plain (flat.StoreUnsigned16 s b o) = store_step number.U16 (any.Single (source.Register s)) b o
+plain (flat.StoreSigned16 s b o) = store_step number.S16 (any.Single (source.Register s)) b o
+plain (flat.StoreUnsigned32 s b o) = store_step number.U32 (any.Single (source.Register s)) b o
+plain (flat.StoreSigned32 s b o) = store_step number.S32 (any.Single (source.Register s)) b o
+plain (flat.StoreUnsigned64 s b o) = store_step number.U64 (any.Double (source.Register s)) b o
+plain (flat.StoreSigned64 s b o) = store_step number.S64 (any.Double (source.Register s)) b o
 plain (flat.Branch next) = Some (step.Branch next)
 plain (flat.ConditionalBranch s next) = Some (step.ConditionalBranch (record { condition = source.Register s; next = next }))
 

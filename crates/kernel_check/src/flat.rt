@@ -9,15 +9,15 @@ ghost use Rattle.kernel_check.specs.declared.step.Step.TheVariants as step_arm;
 
 use crate::step::{
     AnyRegister, AnySource, Compare, ControlOperation, ControlStep, ConvertStep, DoubleOperation,
-    DoubleStep, NumberType, RegisterNumber, SingleOperation, SingleStep, Source, Source32,
-    Source64, Step, Triple,
+    DoubleStep, LoadStep, NumberType, RegisterNumber, SingleOperation, SingleStep, Source,
+    Source32, Source64, Step, StoreStep, Triple,
 };
 use hsail_reader::Comparison;
 use std::alloc::{AllocError, Global};
 use std::mem::size_of;
 
 /// A step laid flat, or the mark that a step has no flat form. Names with 32 set an `$s` register, those with
-/// 64 a `$d` register; comparisons set a `$c` register.
+/// 64 a `$d` register; comparisons set a `$c` register. A load or a store of fewer than 64 bits has an `$s` register.
 #[derive(Clone, Copy)]
 pub enum FlatStep {
     /// A step without a flat form.
@@ -347,6 +347,102 @@ pub enum FlatStep {
         to: RegisterNumber,
         source: RegisterNumber,
     },
+    /// `ld_global_u8` from a register's address and an offset
+    LoadUnsigned8 {
+        to: RegisterNumber,
+        base: RegisterNumber,
+        offset: u64,
+    },
+    /// `ld_global_s8` from a register's address and an offset
+    LoadSigned8 {
+        to: RegisterNumber,
+        base: RegisterNumber,
+        offset: u64,
+    },
+    /// `ld_global_u16` from a register's address and an offset
+    LoadUnsigned16 {
+        to: RegisterNumber,
+        base: RegisterNumber,
+        offset: u64,
+    },
+    /// `ld_global_s16` from a register's address and an offset
+    LoadSigned16 {
+        to: RegisterNumber,
+        base: RegisterNumber,
+        offset: u64,
+    },
+    /// `ld_global_u32` from a register's address and an offset
+    LoadUnsigned32 {
+        to: RegisterNumber,
+        base: RegisterNumber,
+        offset: u64,
+    },
+    /// `ld_global_s32` from a register's address and an offset
+    LoadSigned32 {
+        to: RegisterNumber,
+        base: RegisterNumber,
+        offset: u64,
+    },
+    /// `ld_global_u64` from a register's address and an offset
+    LoadUnsigned64 {
+        to: RegisterNumber,
+        base: RegisterNumber,
+        offset: u64,
+    },
+    /// `ld_global_s64` from a register's address and an offset
+    LoadSigned64 {
+        to: RegisterNumber,
+        base: RegisterNumber,
+        offset: u64,
+    },
+    /// `st_global_u8` of a register to a register's address and an offset
+    StoreUnsigned8 {
+        source: RegisterNumber,
+        base: RegisterNumber,
+        offset: u64,
+    },
+    /// `st_global_s8` of a register to a register's address and an offset
+    StoreSigned8 {
+        source: RegisterNumber,
+        base: RegisterNumber,
+        offset: u64,
+    },
+    /// `st_global_u16` of a register to a register's address and an offset
+    StoreUnsigned16 {
+        source: RegisterNumber,
+        base: RegisterNumber,
+        offset: u64,
+    },
+    /// `st_global_s16` of a register to a register's address and an offset
+    StoreSigned16 {
+        source: RegisterNumber,
+        base: RegisterNumber,
+        offset: u64,
+    },
+    /// `st_global_u32` of a register to a register's address and an offset
+    StoreUnsigned32 {
+        source: RegisterNumber,
+        base: RegisterNumber,
+        offset: u64,
+    },
+    /// `st_global_s32` of a register to a register's address and an offset
+    StoreSigned32 {
+        source: RegisterNumber,
+        base: RegisterNumber,
+        offset: u64,
+    },
+    /// `st_global_u64` of a register to a register's address and an offset
+    StoreUnsigned64 {
+        source: RegisterNumber,
+        base: RegisterNumber,
+        offset: u64,
+    },
+    /// `st_global_s64` of a register to a register's address and an offset
+    StoreSigned64 {
+        source: RegisterNumber,
+        base: RegisterNumber,
+        offset: u64,
+    },
     /// `br`, as in `Step`
     Branch {
         next: usize,
@@ -554,6 +650,92 @@ fn flat_convert(step: &ConvertStep) -> FlatStep
     }
 }
 
+/// A load from global memory laid flat, whose address has a register.
+fn flat_load(step: &LoadStep) -> FlatStep
+    ensures { Stands result (step_arm.Load step.now) }
+{
+    let Some(base) = step.pointer.base else {
+        return FlatStep::Other;
+    };
+    let offset = step.pointer.offset;
+    match step.target {
+        AnyRegister::Control(_) => FlatStep::Other,
+        AnyRegister::Single(to) => match step.kind {
+            NumberType::U8 => FlatStep::LoadUnsigned8 { to, base, offset },
+            NumberType::S8 => FlatStep::LoadSigned8 { to, base, offset },
+            NumberType::U16 => FlatStep::LoadUnsigned16 { to, base, offset },
+            NumberType::S16 => FlatStep::LoadSigned16 { to, base, offset },
+            NumberType::U32 => FlatStep::LoadUnsigned32 { to, base, offset },
+            NumberType::S32 => FlatStep::LoadSigned32 { to, base, offset },
+            NumberType::B1 | NumberType::U64 | NumberType::S64 => FlatStep::Other,
+        },
+        AnyRegister::Double(to) => match step.kind {
+            NumberType::U64 => FlatStep::LoadUnsigned64 { to, base, offset },
+            NumberType::S64 => FlatStep::LoadSigned64 { to, base, offset },
+            _ => FlatStep::Other,
+        },
+    }
+}
+
+/// A store to global memory laid flat, of a register, whose address has a register.
+fn flat_store(step: &StoreStep) -> FlatStep
+    ensures { Stands result (step_arm.Store step.now) }
+{
+    let Some(base) = step.pointer.base else {
+        return FlatStep::Other;
+    };
+    let offset = step.pointer.offset;
+    match step.source {
+        AnySource::Single(Source::Register(source)) => match step.kind {
+            NumberType::U8 => FlatStep::StoreUnsigned8 {
+                source,
+                base,
+                offset,
+            },
+            NumberType::S8 => FlatStep::StoreSigned8 {
+                source,
+                base,
+                offset,
+            },
+            NumberType::U16 => FlatStep::StoreUnsigned16 {
+                source,
+                base,
+                offset,
+            },
+            NumberType::S16 => FlatStep::StoreSigned16 {
+                source,
+                base,
+                offset,
+            },
+            NumberType::U32 => FlatStep::StoreUnsigned32 {
+                source,
+                base,
+                offset,
+            },
+            NumberType::S32 => FlatStep::StoreSigned32 {
+                source,
+                base,
+                offset,
+            },
+            NumberType::B1 | NumberType::U64 | NumberType::S64 => FlatStep::Other,
+        },
+        AnySource::Double(Source::Register(source)) => match step.kind {
+            NumberType::U64 => FlatStep::StoreUnsigned64 {
+                source,
+                base,
+                offset,
+            },
+            NumberType::S64 => FlatStep::StoreSigned64 {
+                source,
+                base,
+                offset,
+            },
+            _ => FlatStep::Other,
+        },
+        _ => FlatStep::Other,
+    }
+}
+
 /// A step laid flat.
 fn flat(step: &Step) -> FlatStep
     ensures { Stands result step.now }
@@ -563,6 +745,8 @@ fn flat(step: &Step) -> FlatStep
         Step::Single(set) => flat32(set),
         Step::Double(set) => flat64(set),
         Step::Convert(convert) => flat_convert(convert),
+        Step::Load(load) => flat_load(load),
+        Step::Store(store) => flat_store(store),
         Step::Branch(next) => FlatStep::Branch { next: *next },
         Step::ConditionalBranch(branch) => match branch.condition {
             Source::Register(condition) => FlatStep::ConditionalBranch {

@@ -5,9 +5,9 @@ use Rattle.executor.specs.Meaning.{turn, goes_on, arrives, ends, broke}
 use Rattle.executor.specs.declared.fault.RunFault.{RunFault}
 use Rattle.executor.specs.inner.Held.{contents, surroundings}
 use Rattle.executor.specs.inner.ItemRuns.{ItemFails}
-use Rattle.kernel_check.specs.Flat.{plain}
+use Rattle.queue_error.specs.declared.error.SegmentAddress.TheVariants as segment
 use Rattle.queue_error.specs.declared.rule.Rule.TheVariants.{A5}
-use Rattle.executor.proofs.FlatLemmas.{flat_turn, stays}
+use Rattle.executor.proofs.FlatLemmas.{flat_turn}
 use Rattle.executor.proofs.GroupLemmas.{spent, stops}
 use Rattle.executor.proofs.ItemLemmas.{reached_more, reached_arrives, reached_ends, reached_breaks, turn_alike}
 use Rattle.executor.proofs.Maps.{get_read}
@@ -28,8 +28,8 @@ returns-in_default-clause-ok c =
     let past : length p.steps ≤ next = omega (arith, far, c.flat_steps-flat_steps.ensures.count) in
     reached_ends a p n first before (record { registers = r; next = next }) left m c.turns.invariant.1 m (stops (context_of_item a n) p.steps (record { registers = r; next = next }) (65536 - left) m past)
 
-pub turns-preserved-in-Some-go : goal.turns-preserved-in-Some-go
-turns-preserved-in-Some-go c =
+pub turns-preserved-in-Next : goal.turns-preserved-in-Next
+turns-preserved-in-Next c =
     let a = surroundings c.args.context.now in
     let p = c.args.program.now in
     let n = c.args.number in
@@ -41,14 +41,38 @@ turns-preserved-in-Some-go c =
     let before = contents c.args.memory.now in
     let few : left ≤ 65536 = c.turns.invariant.0 in
     let some : 0 < left = omega arith in
+    let spent_less : 65536 - left < 65536 = omega (arith, few, some) in
     let flats = c.flat_steps-flat_steps.result.now in
-    let found : slice_get flats next ≡ Some c.in-Some.flat.now = get_read flats next c.in-Some.flat.now c.in-Some.ensures.lookup.1 c.in-Some.ensures.lookup.3.0 in (
+    let found : slice_get flats next ≡ Some c.in-Some.flat.now = get_read flats next c.in-Some.flat.now c.in-Some.ensures.lookup.1 c.in-Some.ensures.lookup.3.0 in
+    let is : turn (context_of_item a n) p.steps (record { registers = r; next = next }) (65536 - left) m ≡ goes_on (record { registers = c.go.new.r; next = c.in-Next.after }) (contents c.go.new.memory) =
+    flat_turn (surroundings c.context_of_item-own.result) (context_of_item a n) flats p.steps r next m c.in-Some.flat.now (goes_on (record { registers = c.go.new.r; next = c.in-Next.after }) (contents c.go.new.memory))
+    c.context_of_item-own.ensures.surroundings c.flat_steps-flat_steps.ensures.value found c.in-Next.ensures (65536 - left) spent_less in (
       omega (arith, few),
       reached_more a p n first before (record { registers = r; next = next }) left m c.turns.invariant.1
-          (record { registers = c.go.new.r; next = c.in-Some-go.after }) m few some
-          (flat_turn (context_of_item a n) flats p.steps r c.go.new.r next c.in-Some-go.after m c.in-Some.flat.now c.flat_steps-flat_steps.ensures.value found
-          c.in-Some-go.ensures (65536 - left) (omega (arith, few, some))),
+          (record { registers = c.go.new.r; next = c.in-Next.after }) (contents c.go.new.memory) few some is,
     )
+
+pub returns-in-Broke-clause-err : goal.returns-in-Broke-clause-err
+returns-in-Broke-clause-err c =
+    let a = surroundings c.args.context.now in
+    let p = c.args.program.now in
+    let n = c.args.number in
+    let r = c.turns.stopped.item.registers in
+    let next = c.turns.next in
+    let left = c.turns.left in
+    let m = contents c.turns.memory in
+    let first = ready c.args.stopped.now.item c.args.stopped.now.executed in
+    let before = contents c.args.memory.now in
+    let few : left ≤ 65536 = c.turns.invariant.0 in
+    let some : 0 < left = omega arith in
+    let spent_less : 65536 - left < 65536 = omega (arith, few, some) in
+    let flats = c.flat_steps-flat_steps.result.now in
+    let found : slice_get flats next ≡ Some c.in-Some.flat.now = get_read flats next c.in-Some.flat.now c.in-Some.ensures.lookup.1 c.in-Some.ensures.lookup.3.0 in
+    let is : turn (context_of_item a n) p.steps (record { registers = r; next = next }) (65536 - left) m ≡ broke c.in-Broke.rule (Some (segment.Global c.in-Broke.address)) =
+    flat_turn (surroundings c.context_of_item-own.result) (context_of_item a n) flats p.steps r next m c.in-Some.flat.now (broke c.in-Broke.rule (Some (segment.Global c.in-Broke.address)))
+    c.context_of_item-own.ensures.surroundings c.flat_steps-flat_steps.ensures.value found c.in-Broke.ensures (65536 - left) spent_less in
+    subst (λ (f : RunFault). ItemFails a p n first before f) (sym c.fault.ensures)
+    (reached_breaks a p n first before (record { registers = r; next = next }) left m c.turns.invariant.1 c.in-Broke.rule (Some (segment.Global c.in-Broke.address)) is)
 
 pub turns-preserved : goal.turns-preserved
 turns-preserved c =
@@ -65,8 +89,8 @@ turns-preserved c =
     let some : 0 < left = omega arith in
     let spent_less : 65536 - left < 65536 = omega (arith, few, some) in
     let is : turn (context_of_item a n) p.steps (record { registers = r; next = next }) (65536 - left) m ≡ goes_on c.turn.new.item (contents c.turn.new.memory) =
-    turn_alike (surroundings c.context_of_item-own.result) (context_of_item a n) p.steps c.go.new.r r next (65536 - left) m (goes_on c.turn.new.item (contents c.turn.new.memory))
-    c.context_of_item-own.ensures.surroundings (stays (plain c.in-Some.flat.now) r c.go.new.r next c.in-None.ensures)
+    turn_alike (surroundings c.context_of_item-own.result) (context_of_item a n) p.steps c.go.new.r r next (65536 - left) (contents c.go.new.memory) m (goes_on c.turn.new.item (contents c.turn.new.memory))
+    c.context_of_item-own.ensures.surroundings c.in-Other.ensures.0 c.in-Other.ensures.1
     (c.in-GoesOn.ensures (65536 - left) spent_less) in
     (omega (arith, few), reached_more a p n first before (record { registers = r; next = next }) left m c.turns.invariant.1 c.turn.new.item (contents c.turn.new.memory) few some is)
 
@@ -85,8 +109,8 @@ returns-in-Arrived-clause-ok c =
     let some : 0 < left = omega arith in
     let spent_less : 65536 - left < 65536 = omega (arith, few, some) in
     let is : turn (context_of_item a n) p.steps (record { registers = r; next = next }) (65536 - left) m ≡ arrives c.turn.new.item (contents c.turn.new.memory) =
-    turn_alike (surroundings c.context_of_item-own.result) (context_of_item a n) p.steps c.go.new.r r next (65536 - left) m (arrives c.turn.new.item (contents c.turn.new.memory))
-    c.context_of_item-own.ensures.surroundings (stays (plain c.in-Some.flat.now) r c.go.new.r next c.in-None.ensures)
+    turn_alike (surroundings c.context_of_item-own.result) (context_of_item a n) p.steps c.go.new.r r next (65536 - left) (contents c.go.new.memory) m (arrives c.turn.new.item (contents c.turn.new.memory))
+    c.context_of_item-own.ensures.surroundings c.in-Other.ensures.0 c.in-Other.ensures.1
     (c.in-Arrived.ensures (65536 - left) spent_less) in
     reached_arrives a p n first before (record { registers = r; next = next }) left m c.turns.invariant.1 c.turn.new.item (contents c.turn.new.memory) few some is
 
@@ -105,13 +129,13 @@ returns-in-Ended-clause-ok c =
     let some : 0 < left = omega arith in
     let spent_less : 65536 - left < 65536 = omega (arith, few, some) in
     let is : turn (context_of_item a n) p.steps (record { registers = r; next = next }) (65536 - left) m ≡ ends (contents c.turn.new.memory) =
-    turn_alike (surroundings c.context_of_item-own.result) (context_of_item a n) p.steps c.go.new.r r next (65536 - left) m (ends (contents c.turn.new.memory))
-    c.context_of_item-own.ensures.surroundings (stays (plain c.in-Some.flat.now) r c.go.new.r next c.in-None.ensures)
+    turn_alike (surroundings c.context_of_item-own.result) (context_of_item a n) p.steps c.go.new.r r next (65536 - left) (contents c.go.new.memory) m (ends (contents c.turn.new.memory))
+    c.context_of_item-own.ensures.surroundings c.in-Other.ensures.0 c.in-Other.ensures.1
     (c.in-Ended.ensures (65536 - left) spent_less) in
     reached_ends a p n first before (record { registers = r; next = next }) left m c.turns.invariant.1 (contents c.turn.new.memory) is
 
-pub returns-in-Broke-clause-err : goal.returns-in-Broke-clause-err
-returns-in-Broke-clause-err c =
+pub returns-in-Broke-turn-clause-err : goal.returns-in-Broke-turn-clause-err
+returns-in-Broke-turn-clause-err c =
     let a = surroundings c.args.context.now in
     let p = c.args.program.now in
     let n = c.args.number in
@@ -124,12 +148,12 @@ returns-in-Broke-clause-err c =
     let few : left ≤ 65536 = c.turns.invariant.0 in
     let some : 0 < left = omega arith in
     let spent_less : 65536 - left < 65536 = omega (arith, few, some) in
-    let is : turn (context_of_item a n) p.steps (record { registers = r; next = next }) (65536 - left) m ≡ broke c.in-Broke.rule (Some c.in-Broke.address) =
-    turn_alike (surroundings c.context_of_item-own.result) (context_of_item a n) p.steps c.go.new.r r next (65536 - left) m (broke c.in-Broke.rule (Some c.in-Broke.address))
-    c.context_of_item-own.ensures.surroundings (stays (plain c.in-Some.flat.now) r c.go.new.r next c.in-None.ensures)
-    (c.in-Broke.ensures (65536 - left) spent_less) in
-    subst (λ (f : RunFault). ItemFails a p n first before f) (sym c.fault.ensures)
-    (reached_breaks a p n first before (record { registers = r; next = next }) left m c.turns.invariant.1 c.in-Broke.rule (Some c.in-Broke.address) is)
+    let is : turn (context_of_item a n) p.steps (record { registers = r; next = next }) (65536 - left) m ≡ broke c.in-Broke-turn.rule (Some c.in-Broke-turn.address) =
+    turn_alike (surroundings c.context_of_item-own.result) (context_of_item a n) p.steps c.go.new.r r next (65536 - left) (contents c.go.new.memory) m (broke c.in-Broke-turn.rule (Some c.in-Broke-turn.address))
+    c.context_of_item-own.ensures.surroundings c.in-Other.ensures.0 c.in-Other.ensures.1
+    (c.in-Broke-turn.ensures (65536 - left) spent_less) in
+    subst (λ (f : RunFault). ItemFails a p n first before f) (sym c.fault-in-Broke-turn.ensures)
+    (reached_breaks a p n first before (record { registers = r; next = next }) left m c.turns.invariant.1 c.in-Broke-turn.rule (Some c.in-Broke-turn.address) is)
 
 pub returns-then-next-steps-clause-err : goal.returns-then-next-steps-clause-err
 returns-then-next-steps-clause-err c =
