@@ -42,8 +42,8 @@ use Rattle.world.proofs.Requesting.{Keeps, reaches}
 
 -- ---- what is done stays in step
 
-reached_joined : (old new : Joined) → IsJoined old → Reaches old new → IsJoined new
-reached_joined old new h (requests, replies, are) = record { first = h.first; prior = h.prior ++ handed_out replies; behind = replies_kept h.first h.prior old new requests replies h.behind are }
+reached_joined : (old new : Joined) → IsJoined old → Reaches old [] new → IsJoined new
+reached_joined old new h (requests, replies, are, none) = record { first = h.first; prior = h.prior ++ handed_out replies; behind = replies_kept h.first h.prior old new requests replies h.behind are }
 
 pub done_joined : {X : Type 0} (action : Action X) → Keeps action → (old : Joined) (result : Result X Refusal) (new : Joined) → IsJoined old → action old result new → IsJoined new
 done_joined action kept old result new h done = reached_joined old new h (reaches action kept old result new done)

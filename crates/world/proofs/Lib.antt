@@ -13,6 +13,7 @@ pub mod Handing
 pub mod Replies
 pub mod Acting
 pub mod Requesting
+pub mod Reserving
 pub mod TakeReplies
 pub mod Calling
 pub mod Called

@@ -1,8 +1,11 @@
--- What a call of a queue's lane does is a list of requests.
-use Rattle.std.proofs.Common.{◌≡◌, ℕ, zero, suc, ◌+◌, Bool, true, false, List, [], ◌∷◌, ◌++◌, drop, replicate, slice_index, slice_set, Option, Some, None, Result, Ok, Err, refl, subst}
+-- What a call of a queue's lane does is a list of requests, which hand out no part of the audit.
+use Rattle.std.proofs.Common.{◌≡◌, ℕ, zero, suc, ◌+◌, Bool, true, false, List, [], ◌∷◌, ◌++◌, drop, replicate, slice_index, slice_set, Option, Some, None, Result, Ok, Err, refl, subst, ap, ◌∙◌, inl, inr}
 use Rattle.aql_packet.specs.declared.ids.PacketId.{PacketId}
 use Rattle.aql_packet.specs.declared.ids.QueueId.{QueueId}
+use Rattle.std.specs.List.{cons_option, filter_map}
 use Rattle.policy.specs.Results.{map_ok}
+use Rattle.core_model.specs.History.{Part as Handed}
+use Rattle.ring_core.specs.InTurn.{step_by}
 use Rattle.ring_core.specs.declared.access.Access.{Access}
 use Rattle.ring_core.specs.declared.access.Access.TheVariants.{Reserve, LoadReadIndex, StoreBody, StoreHeader, LoadHeader, LoadBody, ClearHeader, RaiseReadIndex}
 use Rattle.ring_core.specs.Tickets.{shows_room}
@@ -14,9 +17,10 @@ use Rattle.world.specs.declared.reply.Refusal.{Refusal}
 use Rattle.world.specs.declared.request.Request.{Request}
 use Rattle.world.specs.declared.request.Request.TheVariants as request
 use Rattle.world.specs.Actions.{Action, Reaches, and_then, asks, goes_on, if_else, makes, number_read, packet_read, reads, returns, step}
-use Rattle.world.specs.Dues.{AreReplies, Reply}
+use Rattle.world.specs.Dues.{AreReplies, Due, IsServed, Meets, Reply, part_of, parts_out}
 use Rattle.world.specs.Lanes.{answer_of, collects, hands_over, leaves_ring, peek, publish, publish_room, publish_where, retire, retire_decided, serve_next, serve_shown, shown_as, shows, stores, stores_body, submit}
-use Rattle.world.specs.States.{Joined, slots_of}
+use Rattle.world.specs.States.{Joined, ring_of, slots_of}
+use Rattle.world.proofs.Kept.{IsUnparted, unparted_at_step, unparted_at_take}
 
 -- ---- requests behind one another
 
@@ -27,18 +31,42 @@ replies_append old mid new (r ∷ requests) others (p ∷ replies) further a b =
 replies_append old mid new [] others (p ∷ replies) further a b = absurd a
 replies_append old mid new (r ∷ requests) others [] further a b = absurd a
 
-pub reaches_none : (old new : Joined) → new ≡ old → Reaches old new
-reaches_none old new same = ([], [], same)
+parts_append : (replies further : List Reply) → parts_out (replies ++ further) ≡ parts_out replies ++ parts_out further
+parts_append [] further = refl
+parts_append (reply ∷ replies) further = by_part (part_of reply) (parts_append replies further)
+  where
+    by_part : (o : Option Handed) → parts_out (replies ++ further) ≡ parts_out replies ++ parts_out further →
+        cons_option o (parts_out (replies ++ further)) ≡ cons_option o (parts_out replies) ++ parts_out further
+    by_part None rest = rest
+    by_part (Some part) rest = ap (λ (ps : List Handed). part ∷ ps) rest
 
-pub reaches_more : (old mid new : Joined) → Reaches old mid → Reaches mid new → Reaches old new
-reaches_more old mid new a b = (a.0 ++ b.0, a.1 ++ b.1, replies_append old mid new a.0 b.0 a.1 b.1 a.2 b.2)
+pub reaches_none : (old new : Joined) → new ≡ old → Reaches old [] new
+reaches_none old new same = ([], [], same, refl)
+
+-- one request, with the part that its reply hands out
+pub reaches_one : (old new : Joined) (asked : Request) (reply : Reply) → IsServed old asked reply new → Reaches old (cons_option (part_of reply) []) new
+reaches_one old new asked reply served = (asked ∷ [], reply ∷ [], (new, served, refl), refl)
+
+pub reaches_more : (old mid new : Joined) (some more : List Handed) → Reaches old some mid → Reaches mid more new → Reaches old (some ++ more) new
+reaches_more old mid new some more (requests, replies, a, here) (others, further, b, there) = (
+  requests ++ others,
+  replies ++ further,
+  replies_append old mid new requests others replies further a b,
+  subst (λ (ps : List Handed). parts_out (replies ++ further) ≡ ps ++ more) here
+      (subst (λ (ps : List Handed). parts_out (replies ++ further) ≡ parts_out replies ++ ps) there (parts_append replies further)),
+)
 
 -- ---- whatever is done
 
-unfoldable pub Keeps : {X : Type 0} → Action X → Type 0
-Keeps {X = X} action = (old : Joined) (result : Result X Refusal) (new : Joined) → action old result new → Reaches old new
+-- what is owed without a part is told without one
+hands_none : (old new : Joined) (owed : Due) (reply : Reply) → IsUnparted old owed → Meets old owed reply new → part_of reply ≡ None
+hands_none old new owed reply unparted (inl served) = ap part_of served.0 ∙ unparted.no_part
+hands_none old new owed reply unparted (inr lacked) = ap part_of lacked.1
 
-pub reaches : {X : Type 0} (action : Action X) → Keeps action → (old : Joined) (result : Result X Refusal) (new : Joined) → action old result new → Reaches old new
+unfoldable pub Keeps : {X : Type 0} → Action X → Type 0
+Keeps {X = X} action = (old : Joined) (result : Result X Refusal) (new : Joined) → action old result new → Reaches old [] new
+
+pub reaches : {X : Type 0} (action : Action X) → Keeps action → (old : Joined) (result : Result X Refusal) (new : Joined) → action old result new → Reaches old [] new
 unfolding Keeps
 reaches action kept old result new done = kept old result new done
 
@@ -46,15 +74,17 @@ pub keeps_returns : {X : Type 0} (x : X) → Keeps (returns x)
 unfolding Keeps
 keeps_returns x old result new done = reaches_none old new done.1
 
-pub keeps_asks : (asked : Request) → Keeps (asks asked)
+keeps_step : (queue : QueueId) (seat : ℕ) (access : Access) → Keeps (asks (step queue seat access))
 unfolding Keeps asks
-keeps_asks asked old reply new served = (asked ∷ [], reply ∷ [], (new, served, refl))
+keeps_step queue seat access old reply new served =
+    subst (λ (o : Option Handed). Reaches old (cons_option o []) new) (hands_none old new _ reply (unparted_at_step old queue (step_by seat access) (ring_of old queue)) served)
+    (reaches_one old new (step queue seat access) reply served)
 
 goes_where : {X Y : Type 0} (first : Action X) (next : X → Action Y) → Keeps first → ((x : X) → Keeps (next x)) → (old : Joined) (result : Result Y Refusal) (new : Joined)
-    (reached : Result X Refusal) (mid : Joined) → first old reached mid → goes_on next reached mid result new → Reaches old new
+    (reached : Result X Refusal) (mid : Joined) → first old reached mid → goes_on next reached mid result new → Reaches old [] new
 unfolding Keeps
-goes_where first next f n old result new (Ok x) mid done more = reaches_more old mid new (f old (Ok x) mid done) (n x mid result new more)
-goes_where first next f n old result new (Err why) mid done more = reaches_more old mid new (f old (Err why) mid done) (reaches_none mid new more.1)
+goes_where first next f n old result new (Ok x) mid done more = reaches_more old mid new [] [] (f old (Ok x) mid done) (n x mid result new more)
+goes_where first next f n old result new (Err why) mid done more = reaches_more old mid new [] [] (f old (Err why) mid done) (reaches_none mid new more.1)
 
 pub keeps_then : {X Y : Type 0} (first : Action X) (next : X → Action Y) → Keeps first → ((x : X) → Keeps (next x)) → Keeps (and_then first next)
 unfolding Keeps
@@ -66,10 +96,10 @@ keeps_if true first second f s = f
 keeps_if false first second f s = s
 
 keeps_reads : (queue : QueueId) (seat : ℕ) (access : Access) → Keeps (reads queue seat access)
-keeps_reads queue seat access = keeps_then (asks (step queue seat access)) (λ answer. returns (number_read answer)) (keeps_asks (step queue seat access)) (λ answer. keeps_returns (number_read answer))
+keeps_reads queue seat access = keeps_then (asks (step queue seat access)) (λ answer. returns (number_read answer)) (keeps_step queue seat access) (λ answer. keeps_returns (number_read answer))
 
 keeps_makes : (queue : QueueId) (seat : ℕ) (access : Access) → Keeps (makes queue seat access)
-keeps_makes queue seat access = keeps_then (asks (step queue seat access)) (λ answer. returns tt) (keeps_asks (step queue seat access)) (λ answer. keeps_returns tt)
+keeps_makes queue seat access = keeps_then (asks (step queue seat access)) (λ answer. returns tt) (keeps_step queue seat access) (λ answer. keeps_returns tt)
 
 -- ---- publish, submit
 
@@ -122,14 +152,17 @@ keeps_shows queue packet header =
 
 pub keeps_peek : (queue : QueueId) → Keeps (peek queue)
 keeps_peek queue =
-    keeps_then (asks (step queue 0 LoadHeader)) _ (keeps_asks (step queue 0 LoadHeader)) (λ answer. keeps_shows queue (packet_read answer) (number_read answer))
+    keeps_then (asks (step queue 0 LoadHeader)) _ (keeps_step queue 0 LoadHeader) (λ answer. keeps_shows queue (packet_read answer) (number_read answer))
 
 pub keeps_retire : (queue : QueueId) → Keeps (retire queue)
 keeps_retire queue = keeps_then (makes queue 0 ClearHeader) _ (keeps_makes queue 0 ClearHeader) (λ cleared. keeps_reads queue 0 RaiseReadIndex)
 
 keeps_hands_over : (queue : QueueId) → Keeps (hands_over queue)
 unfolding Keeps asks
-keeps_hands_over queue old result new served = (request.Take queue ∷ [], map_ok answer_of result ∷ [], (new, served, refl))
+keeps_hands_over queue old result new served =
+    let reply : Reply = map_ok answer_of result in
+    subst (λ (o : Option Handed). Reaches old (cons_option o []) new) (hands_none old new _ reply (unparted_at_take old queue (ring_of old queue)) served)
+    (reaches_one old new (request.Take queue) reply served)
 
 keeps_decided : (queue : QueueId) (served : Served) → Keeps (retire_decided queue served)
 keeps_decided queue served =

@@ -9,7 +9,8 @@ use Rattle.world.specs.declared.reply.Answer.TheVariants as answer
 use Rattle.world.specs.declared.reply.Refusal.{Refusal}
 use Rattle.world.specs.declared.request.Request.{Request}
 use Rattle.world.specs.declared.request.Request.TheVariants as request
-use Rattle.world.specs.Dues.{AreReplies, IsServed, Reply}
+use Rattle.core_model.specs.History.{Part as Handed}
+use Rattle.world.specs.Dues.{AreReplies, IsServed, Reply, parts_out}
 use Rattle.world.specs.States.{Joined}
 
 -- what is done with a world: it comes to a value, or to the refusal that ended it, and to the world after it (own)
@@ -65,6 +66,6 @@ makes queue seat access = and_then (asks (step queue seat access)) (λ answer. r
 
 -- ---- requests behind one another
 
--- some requests, served in turn, lead from one world to the other
-abbrev pub Reaches : Joined → Joined → Type 0
-Reaches old new = (requests : List Request) × (replies : List Reply) × AreReplies old requests replies new
+-- some requests, served in turn, lead from one world to the other, and hand out these parts of its audit, in order (own)
+abbrev pub Reaches : Joined → List Handed → Joined → Type 0
+Reaches old parts new = (requests : List Request) × (replies : List Reply) × AreReplies old requests replies new × (parts_out replies ≡ parts)

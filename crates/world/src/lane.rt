@@ -2,16 +2,17 @@
 
 ghost use Rattle.std.specs.Prelude.{◌≡◌, false, slice_index};
 ghost use Rattle.ring_core.specs.Words.{is_invalid};
-ghost use Rattle.world.specs.Actions.{asks, number_read, reads, step};
+ghost use Rattle.ring_core.specs.declared.access.Access.TheVariants.{Reserve};
+ghost use Rattle.world.specs.Actions.{asks, reads};
+ghost use Rattle.world.specs.declared.request.Request.TheVariants as request;
 ghost use Rattle.world.specs.Lanes.{answer_of, hands_over, leaves_ring, peek, publish, publish_where, retire, retire_decided, serve_next, serve_shown, submit, TellsServed};
 
 use crate::reply::{Answer, Refusal, Reply};
-use crate::request::Request;
-use crate::rings;
 use crate::world::World;
+use crate::{rings, serving};
 use aql_packet::{PacketId, QueueId};
 use core_model::Taken;
-use ring_core::{Access, Seen, Step, is_invalid};
+use ring_core::is_invalid;
 use std::alloc::Global;
 
 /// What became of a packet that was to be published, no step of which was refused.
@@ -73,7 +74,7 @@ impl World {
     ) -> Result<Sent, Refusal>
         ensures { submit queue producer words.now self.old result self.new }
     {
-        let ticket = read(alloc, self, queue, producer, Access::Reserve)?;
+        let ticket = reserve(self, queue, producer)?;
         self.publish(alloc, queue, producer, PacketId(ticket), words)
     }
 
@@ -107,17 +108,6 @@ impl World {
     }
 }
 
-// The number that a step read.
-fn number_read(answer: &Answer) -> u64
-    ensures { result ≡ number_read answer.now }
-{
-    match answer {
-        Answer::Step(Seen::Read(number)) => *number,
-        Answer::Header { word, .. } => *word,
-        _ => 0,
-    }
-}
-
 // Whether a packet that was handed over leaves its ring: it was launched or denied.
 fn leaves_ring(taken: Taken) -> bool
     ensures { result ≡ leaves_ring taken }
@@ -129,34 +119,11 @@ fn leaves_ring(taken: Taken) -> bool
     }
 }
 
-// A request is made.
-#[tactic(auto, unfolding(crate::specs::Actions::asks))]
-fn request(alloc: Global, world: &mut World, asked: Request) -> Reply
-    ensures { asks asked world.old result world.new }
+// A producer reserves a ticket.
+fn reserve(world: &mut World, queue: QueueId, producer: u64) -> Result<u64, Refusal>
+    ensures { reads queue producer Reserve world.old result world.new }
 {
-    world.serve(alloc, asked)
-}
-
-// A seat of a queue's ring makes a step.
-fn ask_step(alloc: Global, world: &mut World, queue: QueueId, seat: u64, access: Access) -> Reply
-    ensures { asks (step queue seat access) world.old result world.new }
-{
-    let step = Step { seat, access };
-    request(alloc, world, Request::Step { queue, step })
-}
-
-// A seat of a queue's ring makes a step that reads a number.
-fn read(
-    alloc: Global,
-    world: &mut World,
-    queue: QueueId,
-    seat: u64,
-    access: Access,
-) -> Result<u64, Refusal>
-    ensures { reads queue seat access world.old result world.new }
-{
-    let answer = ask_step(alloc, world, queue, seat, access)?;
-    Ok(number_read(&answer))
+    rings::reserve(&mut world.rings, queue, producer)
 }
 
 // A producer publishes a packet, its type another than INVALID.
@@ -188,10 +155,18 @@ fn served_by(answer: &Answer) -> Served
 }
 
 // A queue's processor hands over the packet that it has collected.
+#[tactic(auto, unfolding(crate::specs::Actions::asks))]
+fn take(alloc: Global, world: &mut World, queue: QueueId) -> Reply
+    ensures { asks (request.Take queue) world.old result world.new }
+{
+    serving::take(alloc, &mut world.core, &mut world.rings, queue)
+}
+
+// What became of the packet that a queue's processor hands over.
 fn hand_over(alloc: Global, world: &mut World, queue: QueueId) -> Result<Served, Refusal>
     ensures { hands_over queue world.old result world.new }
 {
-    let answer = request(alloc, world, Request::Take { queue })?;
+    let answer = take(alloc, world, queue)?;
     Ok(served_by(&answer))
 }
 

@@ -5,7 +5,7 @@ ghost use Rattle.aql_packet.specs.declared.ids.PacketId.{PacketId};
 ghost use Rattle.aql_packet.specs.declared.ids.QueueId.{QueueId};
 ghost use Rattle.policy.specs.Policy.{Declared, region_lengths};
 ghost use Rattle.core_model.specs.declared.entry.Entry.{Entry};
-ghost use Rattle.core_model.specs.History.{beginning};
+ghost use Rattle.core_model.specs.History.{Part, beginning};
 ghost use Rattle.core_model.specs.Legal.{IsLegal};
 ghost use Rattle.core_model.specs.Rotation.{GoOn, entries_in};
 ghost use Rattle.kernel_check.specs.Programs.{Program};
@@ -70,7 +70,8 @@ pub(crate) fn headline_of(policy: &Policy)
 /// then those of the audit at its end are a legal history from where the audit began; the parts begin each where the
 /// one before it ends, and the audit where the last of them does. Behind all that was handed out, before and now,
 /// the world is in step, and so the headline holds of it (`World::headline`). A world that was just opened
-/// (`World::open`) is in step, with no entry before. Over the list the kernels and the audit's room stay, and each entry
+/// (`World::open`) is in step, with no entry before. So it is with whatever is some requests in turn, as the calls of a lane
+/// and the lines of a script are, behind the parts that they hand out. Over the list the kernels and the audit's room stay, and each entry
 /// more is of one of the requests, in their order.
 pub fn each_run_goes_on()
     ensures opening { (policy : Declared) (kernels : List Program) (capacity : ℕ) (opened : Joined) →
@@ -84,6 +85,8 @@ pub fn each_run_goes_on()
     ensures parts { (requests : List Request) (replies : List Reply) (old new : Joined) →
         AreReplies old requests replies new → GoOn old.core.origin (parts_out replies) new.core.origin }
     ensures entries { (replies : List Reply) → entries_in (parts_out replies) ≡ handed_out replies }
+    ensures reached { (first : Declared) (prior : List Entry) (parts : List Part) (old new : Joined) →
+        IsJoinedBehind first prior old → Reaches old parts new → IsJoinedBehind first (prior ++ entries_in parts) new × GoOn old.core.origin parts new.core.origin }
 {}
 
 /// What is refused, for whatever cause, leaves the world as it was.
@@ -91,14 +94,15 @@ pub fn refusals_change_nothing()
     ensures { (old new : Joined) (asked : Request) (why : Refusal) → IsServed old asked (Err why) new → new ≡ old }
 {}
 
-/// What `publish`, `submit`, `peek`, `retire` and `serve_next` of a world do is some requests, served in turn. So what holds
-/// after any list of requests holds after each of them.
+/// What `publish`, `submit`, `peek`, `retire` and `serve_next` of a world do is some requests, served in turn, and they hand
+/// out no part of the audit. So what holds after any list of requests holds after each of them, behind what was handed out
+/// before them.
 pub fn lane_calls_are_requests()
     ensures publish { (queue : QueueId) (producer : ℕ) (ticket : PacketId) (words : List ℕ) (old : Joined) (told : Result Sent Refusal) (new : Joined) →
-        publish queue producer ticket words old told new → Reaches old new }
+        publish queue producer ticket words old told new → Reaches old [] new }
     ensures submit { (queue : QueueId) (producer : ℕ) (words : List ℕ) (old : Joined) (told : Result Sent Refusal) (new : Joined) →
-        submit queue producer words old told new → Reaches old new }
-    ensures peek { (queue : QueueId) (old : Joined) (told : Result (Option Shown) Refusal) (new : Joined) → peek queue old told new → Reaches old new }
-    ensures retire { (queue : QueueId) (old : Joined) (told : Result ℕ Refusal) (new : Joined) → retire queue old told new → Reaches old new }
-    ensures serve_next { (queue : QueueId) (old : Joined) (told : Result (Option Served) Refusal) (new : Joined) → serve_next queue old told new → Reaches old new }
+        submit queue producer words old told new → Reaches old [] new }
+    ensures peek { (queue : QueueId) (old : Joined) (told : Result (Option Shown) Refusal) (new : Joined) → peek queue old told new → Reaches old [] new }
+    ensures retire { (queue : QueueId) (old : Joined) (told : Result ℕ Refusal) (new : Joined) → retire queue old told new → Reaches old [] new }
+    ensures serve_next { (queue : QueueId) (old : Joined) (told : Result (Option Served) Refusal) (new : Joined) → serve_next queue old told new → Reaches old [] new }
 {}

@@ -9,7 +9,7 @@ ghost use Rattle.world.specs.Making.{MakesOn, decided_after};
 ghost use Rattle.world.specs.Obeying.{next_of};
 ghost use Rattle.ring_core.specs.Words.{is_invalid};
 ghost use Rattle.world.specs.Lanes.{shown_as};
-ghost use Rattle.world.specs.inner.Calling.{CollectsOn, PublishesOn, RetiresOn, sent_as};
+ghost use Rattle.world.specs.inner.Calling.{CollectsOn, PublishesOn, ReservesOn, RetiresOn, sent_as};
 
 use crate::lane::{Sent, Shown};
 use crate::reply::{Answer, Refusal, Reply};
@@ -59,6 +59,20 @@ impl QueueRing {
                 self.decided = decided_after(self.decided, step.access);
                 Ok(answer_to(step.access, index, seen))
             }
+            Err(StepFault::OutOfMemory) => Err(Refusal::Core(core_model::Refusal::OutOfMemory)),
+            Err(StepFault::NotAStep) => Err(Refusal::NotAStep),
+        }
+    }
+
+    /// A producer reserves a ticket, unless it has reserved all that it may.
+    pub(crate) fn reserve(&mut self, producer: u64) -> Result<u64, Refusal>
+        ensures { ReservesOn producer self.old result self.new }
+    {
+        if has_spent(self.ring.parts().get(producer as usize)) {
+            return Err(Refusal::Spent);
+        }
+        match self.ring.reserve(producer) {
+            Ok(ticket) => Ok(ticket),
             Err(StepFault::OutOfMemory) => Err(Refusal::Core(core_model::Refusal::OutOfMemory)),
             Err(StepFault::NotAStep) => Err(Refusal::NotAStep),
         }

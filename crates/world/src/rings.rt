@@ -6,7 +6,7 @@ ghost use Rattle.policy.specs.Policy.{numbered};
 ghost use Rattle.world.specs.Making.{MakesAt};
 ghost use Rattle.world.specs.Obeying.{HasRing, RingFollows, next_of};
 ghost use Rattle.ring_core.specs.Words.{is_invalid};
-ghost use Rattle.world.specs.inner.Calling.{CallsAt, CollectsOn, PublishesOn, RetiresOn};
+ghost use Rattle.world.specs.inner.Calling.{CallsAt, CollectsOn, PublishesOn, ReservesOn, RetiresOn};
 
 use crate::lane::{Sent, Shown};
 use crate::queue_ring::{Next, QueueRing};
@@ -43,6 +43,30 @@ fn make_at(rings: &mut Vec<QueueRing>, queue: QueueId, step: Step) -> Reply
     let place = queue.0 as usize - 1;
     let ring = &mut rings[place];
     ring.make(step)
+}
+
+/// A producer of a queue reserves a ticket.
+pub(crate) fn reserve(
+    rings: &mut Vec<QueueRing>,
+    queue: QueueId,
+    producer: u64,
+) -> Result<u64, Refusal>
+    ensures { CallsAt (ReservesOn producer) (numbered rings.old.items queue.0) queue rings.old.items result rings.new.items }
+{
+    match ring_at(rings, queue) {
+        None => Err(Refusal::Core(core_model::Refusal::UnknownQueue)),
+        Some(_) => reserve_at(rings, queue, producer),
+    }
+}
+
+// A producer of a queue that is open reserves a ticket.
+fn reserve_at(rings: &mut Vec<QueueRing>, queue: QueueId, producer: u64) -> Result<u64, Refusal>
+    requires { HasRing rings.old.items queue }
+    ensures { CallsAt (ReservesOn producer) (numbered rings.old.items queue.0) queue rings.old.items result rings.new.items }
+{
+    let place = queue.0 as usize - 1;
+    let ring = &mut rings[place];
+    ring.reserve(producer)
 }
 
 /// A queue's processor collects the packet at the read index.

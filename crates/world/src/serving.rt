@@ -83,7 +83,12 @@ fn ask(alloc: Global, core: &mut AccessCore, request: core_model::Request) -> Re
 }
 
 // A queue's processor hands over the packet that it has collected.
-fn take(alloc: Global, core: &mut AccessCore, rings: &mut Vec<QueueRing>, queue: QueueId) -> Reply
+pub(crate) fn take(
+    alloc: Global,
+    core: &mut AccessCore,
+    rings: &mut Vec<QueueRing>,
+    queue: QueueId,
+) -> Reply
     ensures { TakesAt (numbered rings.old.items queue.0) queue core.old.history rings.old.items result core.new.history rings.new.items }
 {
     match next_packet(rings, queue) {

@@ -1,14 +1,14 @@
 -- The calls on a queue's ring, as the code makes them: their steps in turn, or the refusal of the first.
-use Rattle.std.specs.Prelude.{◌≡◌, ℕ, Bool, true, false, List, length, option_map, Option, Some, None, Result, Ok, Err, if◌then◌else◌}
+use Rattle.std.specs.Prelude.{◌≡◌, ◌⊎◌, ℕ, Bool, true, false, List, length, option_map, Option, Some, None, Result, Ok, Err, if◌then◌else◌}
 use Rattle.aql_packet.specs.declared.ids.PacketId.{PacketId}
 use Rattle.aql_packet.specs.declared.ids.QueueId.{QueueId}
 use Rattle.core_model.specs.declared.refusal.Refusal.TheVariants as why
 use Rattle.ring_core.specs.declared.access.Access.{Access}
-use Rattle.ring_core.specs.declared.access.Access.TheVariants.{LoadReadIndex, LoadHeader, ClearHeader}
+use Rattle.ring_core.specs.declared.access.Access.TheVariants.{Reserve, LoadReadIndex, LoadHeader, ClearHeader}
 use Rattle.ring_core.specs.declared.access.Made.{Made}
 use Rattle.ring_core.specs.Calls.{has_room, retiring}
 use Rattle.ring_core.specs.InTurn.{MadeInTurn, collecting, packet_among, publishing, step_by}
-use Rattle.ring_core.specs.Machine.{read_index}
+use Rattle.ring_core.specs.Machine.{found, read_index}
 use Rattle.world.specs.declared.lane.Sent.{Sent}
 use Rattle.world.specs.declared.lane.Sent.TheVariants as sent
 use Rattle.world.specs.declared.lane.Shown.{Shown}
@@ -17,7 +17,7 @@ use Rattle.world.specs.declared.reply.Refusal.{Refusal}
 use Rattle.world.specs.declared.reply.Refusal.TheVariants as refusal
 use Rattle.world.specs.Dues.{hindrance}
 use Rattle.world.specs.Lanes.{shown_as}
-use Rattle.world.specs.Making.{with_queue_ring}
+use Rattle.world.specs.Making.{ring_made, with_queue_ring}
 
 -- the first step of a call is refused, and the ring stays
 abbrev pub RefusesOn : QueueRing → ℕ → Access → Refusal → QueueRing → Type 0
@@ -47,6 +47,16 @@ abbrev pub PublishesOn : ℕ → PacketId → List ℕ → QueueRing → Result 
 PublishesOn producer ticket words old (Ok told) new =
     (seen : ℕ) × (told ≡ sent_as old.ring.size ticket seen) × MakesInTurn old producer (publishing old.ring.size ticket.0 seen words) old.decided new
 PublishesOn producer ticket words old (Err why) new = RefusesOn old producer (LoadReadIndex ticket) why new
+
+-- a ticket is reserved: one step, which read it, unless it is hindered or memory was wanted
+abbrev pub ReservesWhere : Option Refusal → ℕ → QueueRing → Result ℕ Refusal → QueueRing → Type 0
+ReservesWhere (Some why) producer old result new = (result ≡ Err why) × (new ≡ old)
+ReservesWhere None producer old result new =
+    ((result ≡ Ok (found old.ring (step_by producer Reserve))) × (new ≡ ring_made old (step_by producer Reserve)))
+    ⊎ ((result ≡ Err (refusal.Core why.OutOfMemory)) × (new ≡ old))
+
+abbrev pub ReservesOn : ℕ → QueueRing → Result ℕ Refusal → QueueRing → Type 0
+ReservesOn producer old result new = ReservesWhere (hindrance old.decided old.ring (step_by producer Reserve)) producer old result new
 
 -- a call on the ring of a queue, if it was opened
 abbrev pub CallsAt : {X : Type 0} → (QueueRing → Result X Refusal → QueueRing → Type 0) → Option QueueRing → QueueId → List QueueRing → Result X Refusal → List QueueRing → Type 0
