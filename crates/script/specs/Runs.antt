@@ -1,10 +1,13 @@
 -- What is owed to the lines of a script.
-use Rattle.std.specs.Prelude.{ℕ, ◌≡◌, ◌==◌, ◌⊎◌, Bool, true, false, List, [], ◌∷◌, ◌++◌, Option, Some, None, Result, if◌then◌else◌, length}
+use Rattle.std.specs.Prelude.{ℕ, ◌≡◌, ◌==◌, ◌⊎◌, Bool, true, false, List, [], ◌∷◌, ◌++◌, Option, Some, None, Result, Ok, if◌then◌else◌, length}
 use Rattle.policy.specs.Policy.{Declared}
+use Rattle.core_model.specs.History.{Part}
+use Rattle.world.specs.declared.reply.Answer.TheVariants as answer
 use Rattle.world.specs.declared.reply.Refusal.{Refusal}
 use Rattle.world.specs.States.{Joined}
 use Rattle.script.specs.declared.command.Command.{Command}
 use Rattle.script.specs.declared.command.LineAnswer.{LineAnswer}
+use Rattle.script.specs.declared.command.LineAnswer.TheVariants as told
 use Rattle.script.specs.declared.lines.Line.{Line}
 use Rattle.script.specs.declared.lines.Line.TheVariants as line
 use Rattle.script.specs.Words.{nonempty_before}
@@ -24,6 +27,11 @@ lines_of bytes = lines_from [] bytes
 -- the reply to a line that asks something
 abbrev pub Told : Type 0
 Told = Result LineAnswer Refusal
+
+-- the part of the audit that the reply to a line hands out, if it does (own)
+abbrev pub parts_told : Told → List Part
+parts_told (Ok (told.Answered meaning (answer.Rotated part))) = part ∷ []
+parts_told _ = []
 
 -- who serves lines, by what may be told to a command, by the policy whose names lines go by, and by how many further policies lines
 -- may name

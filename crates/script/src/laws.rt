@@ -1,25 +1,27 @@
 //! What the lines and the numbers of a script come to, as laws of their definitions.
 
-ghost use Rattle.std.specs.Prelude.{◌≡◌, ℕ, List, Some, true};
+ghost use Rattle.std.specs.Prelude.{◌≡◌, ◌++◌, ℕ, List, Some, true};
 ghost use Rattle.std.specs.List.{list_all};
 ghost use Rattle.kernel_check.specs.Programs.{Program};
 ghost use Rattle.policy.specs.Policy.{Declared};
-ghost use Rattle.world.specs.declared.request.Request.{Request};
+ghost use Rattle.core_model.specs.declared.entry.Entry.{Entry};
+ghost use Rattle.core_model.specs.History.{Part};
+ghost use Rattle.core_model.specs.Rotation.{entries_in};
 ghost use Rattle.world.specs.Actions.{Reaches};
-ghost use Rattle.world.specs.Dues.{AreReplies, Reply, handed_out};
 ghost use Rattle.world.specs.Headline.{Headline, IsBegun};
+ghost use Rattle.world.specs.InStep.{IsJoinedBehind};
 ghost use Rattle.world.specs.States.{Joined};
 ghost use Rattle.script.specs.declared.command.Command.{Command};
 ghost use Rattle.script.specs.declared.lines.TheConstants.{LONGEST_LINE};
 ghost use Rattle.script.specs.declared.run.TheConstants.{MOST_READS};
 ghost use Rattle.script.specs.Expansions.{does};
 ghost use Rattle.script.specs.Limits.{longest_line, most_reads};
-ghost use Rattle.script.specs.Runs.{Runs, Told, lines_of, worlds};
+ghost use Rattle.script.specs.Runs.{Runs, Told, lines_of, parts_told, worlds};
 ghost use Rattle.script.specs.Splitting.{digits_of, ended, is_line, joined, sum_of_digits};
 ghost use Rattle.script.specs.Words.{address_word, decimal_word};
 
 use policy::Policy;
-use world::the_headline;
+use world::{each_run_goes_on, the_headline};
 
 /// The lines of a text, each with a line feed behind it, are the text, with a line feed behind a last line that has
 /// none; and no line has a line feed in it.
@@ -34,15 +36,20 @@ pub fn numbers_are_sums_of_their_digits()
     ensures address { (word : List ℕ) (number : ℕ) → address_word word ≡ Some number → number ≡ sum_of_digits 16 (digits_of word) }
 {}
 
-/// What a line does is some requests to the world, served in turn; so after any script, over a world that was just
-/// opened over a policy, with any kernels, the headline holds, behind what the replies to those requests handed out.
+/// What a line does is some requests to the world, served in turn, and hands out the part that its reply tells of, if it
+/// does. So is what a script does; behind whatever parts it hands out, a world that was in step stays so, and over a
+/// world that was just opened over a policy, with any kernels, the headline holds.
 pub fn scripts_are_requests(policy: &Policy)
-    ensures line { (later : List Declared) (asked : Command) (old : Joined) (told : Told) (new : Joined) → does later asked old told new → Reaches old new }
+    ensures line { (later : List Declared) (asked : Command) (old : Joined) (told : Told) (new : Joined) → does later asked old told new → Reaches old (parts_told told) new }
+    ensures joined { (later : List Declared) (first : Declared) (prior : List Entry) (lines : List (List ℕ)) (text : List ℕ) (old new : Joined) →
+        IsJoinedBehind first prior old → Runs (worlds later) old lines text new →
+        (parts : List Part) × Reaches old parts new × IsJoinedBehind first (prior ++ entries_in parts) new }
     ensures headline { (later : List Declared) (kernels : List Program) (capacity : ℕ) (lines : List (List ℕ)) (text : List ℕ) (opened world : Joined) →
         IsBegun opened policy.now kernels capacity → Runs (worlds later) opened lines text world →
-        (requests : List Request) × (replies : List Reply) × AreReplies opened requests replies world × Headline policy.now (handed_out replies) world }
+        (parts : List Part) × Reaches opened parts world × Headline policy.now (entries_in parts) world }
 {
     the_headline(policy);
+    each_run_goes_on();
 }
 
 /// The code's limits of a line and of a run's reads are those of the rules.
