@@ -10,7 +10,7 @@ from memory import NO_MEMORY, Memory
 from trial import BARRIER, FILL, HERE, KERNEL, PRELUDE, SAMPLE, TOP, Ended, Trials, program_given, run, text
 
 SVG = "{http://www.w3.org/2000/svg}"
-MARGIN, STEP, MARK = 120, 26, 12
+MARGIN = 150
 EXAMPLES = ("fill", "increment", "two_queues")
 BAD_NAMES = ("a<b", "a&b", 'a\\"b', "a'b", "a>b", "a&amp;b", "\\u00e9", "a b", "", "x" * 65)
 # the entries of an audit, by how their lines go on, and what each is drawn as; the first that fits counts
@@ -18,7 +18,7 @@ SIGNS = (
     (r"grant ", "grant"), (r"revoke ", "revocation"), (r"queue ", "lane"), (r"stop ", "stop"),
     (r"take \d+ \d+ launched", "bar"), (r"take \d+ \d+ denied ", "denial"), (r"run \d+ \d+ group ", "group"), (r"run \d+ \d+ faulted ", "fault"),
     (r"poll \d+ \d+ seen ", "look"), (r"poll \d+ \d+ failed ", "fault"),
-    (r"finish ", "completion"), (r"write ", "write"), (r"signal ", "change"),
+    (r"finish ", "completion"), (r"write ", "write"), (r"signal ", "change"), (r"reload", "reload"),
 )
 
 
@@ -27,90 +27,187 @@ def example(name):
         return it.read()
 
 
-def drawn(program, script, policy=SAMPLE):
+def drawn(program, script, *more):
     """The page of a script, or what went wrong in its place."""
-    ended = run([program, "picture", policy], script)
+    ended = run([program, "picture", SAMPLE, *more], script)
     return ended.out if ended.status == 0 and not ended.err else ended
 
 
-def audit(program, script, policy=SAMPLE):
-    """The entries of a script's audit, each a line behind its number."""
-    ended = run([program, "run", policy], script.rstrip(b"\n") + b"\naudit\n")
-    lines = ended.out.decode().splitlines()
-    at = max(place for place, line in enumerate(lines) if re.fullmatch(r"audit \d+", line))
-    return [line.split(" ", 1)[1] for line in lines[at + 1 :]]
+def history(program, script, *more):
+    """The entries that a script's rotations handed out, and those that its audit tells at the end, each without its number."""
+    ended = run([program, "run", SAMPLE, *more], script.rstrip(b"\n") + b"\naudit\n")
+    lines, counted, at = ended.out.decode().splitlines(), [], 0
+    while at < len(lines):
+        found = re.fullmatch(r"(list|errors|audit|rotated) (\d+)", lines[at])
+        count = int(found[2]) if found else 0
+        counted += [(found[1], lines[at + 1 : at + 1 + count])] if found else []
+        at += 1 + count
+    handed = [line for word, some in counted if word == "rotated" for line in some]
+    told = counted[-1][1]
+    numbers = [int(line.split(" ", 1)[0]) for line in handed + told]
+    assert numbers == list(range(1, len(numbers) + 1)), numbers
+    return [[line.split(" ", 1)[1] for line in some] for some in (handed, told)]
 
 
 def sign_of(entry):
     return next(name for form, name in SIGNS if re.match(form, entry))
 
 
-def end_of(entries, at):
-    """How the packet ended that an entry launches: the bar's class, and the number of the entry where it ends."""
-    _, queue, packet, _ = entries[at].split(" ")
-    for later in range(at + 1, len(entries)):
-        if re.search(rf"; release {queue} {packet}(;|$)", entries[later]):
-            verb = entries[later].split(" ")[0]
-            return {"finish": "finished", "run": "faulted", "poll": "faulted"}.get(verb, "stopped"), later + 1
-    return "open", len(entries)
+def ends_of(entries):
+    """Of each packet that is released, how it ended: the bar's class, and the place of the entry where it ends."""
+    ends = {}
+    for at, entry in enumerate(entries):
+        for packet in re.findall(r"; release (\d+ \d+)(?=;|$)", entry):
+            ends[packet] = ({"finish": "finished", "run": "faulted", "poll": "faulted"}.get(entry.split(" ")[0], "stopped"), at + 1)
+    return ends
 
 
-def wrong_element(entries, at, group):
-    """Why an element isn't what its entry is to be drawn as, or none."""
-    entry, classes = entries[at], group.get("class").split(" ")
+class Page:
+    """A page, read."""
+
+    def __init__(self, text):
+        self.tree = xml.fromstring(text)
+        self.groups = [it for it in self.tree.iter(f"{SVG}g") if it.get("class")]
+        self.titles = [it.find(f"{SVG}title").text.split(" ", 1) for it in self.groups]
+        self.numbers = {it.text: int(it.get("x")) for it in self.tree.iter(f"{SVG}text") if it.get("class") == "number"}
+        self.lines = [tuple(int(it.get(name)) for name in ("x1", "y1", "x2", "y2")) for it in self.tree.iter(f"{SVG}line") if it.get("class") != "key"]
+
+    def of_number(self, number):
+        """The elements of an entry."""
+        return [group for group, (told, _) in zip(self.groups, self.titles) if told == str(number)]
+
+
+def box(group):
+    """The rectangle of an element: left, top, width, height."""
+    return tuple(int(group.find(f"{SVG}rect").get(name)) for name in ("x", "y", "width", "height"))
+
+
+def letters(it):
+    """About where the words of a text stand: left, top, width, height."""
+    return int(it.get("x")), int(it.get("y")) - 8, 5 * len(it.text or ""), 9
+
+
+def overlap(one, other):
+    return one[0] < other[0] + other[2] and other[0] < one[0] + one[2] and one[1] < other[1] + other[3] and other[1] < one[1] + one[3]
+
+
+def step_of(count):
+    return max(2, min(26, 1400 // (count + 1)))
+
+
+def wrong_element(entry, number, place, step, ending, group):
+    """Why an element isn't what its entry is to be drawn as, or none. `ending` is how and where the packet ends that it launches."""
+    classes, (left, _, width, _) = group.get("class").split(" "), box(group)
     if classes[0] != sign_of(entry):
-        return f"entry {at + 1}, {entry!r}, is drawn as {classes}"
-    if group.find(f"{SVG}title").text.split(" ")[0] != str(at + 1):
-        return f"the element of entry {at + 1} has another number"
-    if int(group.find(f"{SVG}rect").get("x")) != MARGIN + STEP * (at + 1):
-        return f"the element of entry {at + 1} stands elsewhere"
-    if classes[0] == "bar":
-        ending, last = end_of(entries, at)
-        width = int(group.find(f"{SVG}rect").get("width"))
-        if classes[1] != ending:
-            return f"the packet of entry {at + 1} ended {ending}, and is drawn as {classes[1]}"
-        if width - MARK != STEP * (last - at - 1):
-            return f"the packet of entry {at + 1} ended at {last}, and its bar is {width} wide"
+        return f"entry {number}, {entry!r}, is drawn as {classes}"
+    if left != place:
+        return f"the element of entry {number} stands elsewhere"
+    if classes[0] == "bar" and (classes[1] != ending[0] or width - step // 2 != step * (ending[1] - number)):
+        return f"the packet of entry {number} ended {ending}, and is drawn as {classes}, {width} wide"
     words = [it.text or "" for it in (*group.iter(f"{SVG}title"), *group.iter(f"{SVG}text"))]
     broken = re.search(r" (denied|faulted|failed) (.*?)(;|$)", entry)
-    if broken and not (len(words) == 2 and all(told.endswith(f" {broken[2]}") for told in words)):
-        return f"entry {at + 1} doesn't show that it broke {broken[2]}: {words}"
+    if broken and not (len(words) == 2 and all(broken[2] in told for told in words)):
+        return f"entry {number} doesn't show that it broke {broken[2]}: {words}"
+    for old, new in re.findall(r"; signal \d+ (-?\d+) (-?\d+)", entry):
+        if f" {old} to {new}" not in words[0]:
+            return f"entry {number} doesn't tell of a signal from {old} to {new}: {words}"
+    for written in re.findall(r"; write [0-9a-f]{16} ([0-9a-f]*)", entry):
+        if f"; {len(written) // 2} bytes of " not in words[0]:
+            return f"entry {number} doesn't tell of {len(written) // 2} bytes: {words}"
     return None
 
 
-def wrong_arrows(entries, tree):
-    """Why the arrows aren't one to each signal that a poll saw, from an earlier entry that made one 0."""
-    arrows = [((int(it.get("x1")) - MARGIN - MARK) // STEP, (int(it.get("x2")) - MARGIN) // STEP) for it in tree.iter(f"{SVG}line")]
-    seen = [(at + 1, it.split(";")[0].split(" ")[4]) for at, it in enumerate(entries) if sign_of(it) == "look"]
-    wanted = [at for at, positions in seen for _ in positions.split(",") if positions]
-    if [to for _, to in arrows] != wanted:
-        return f"arrows go to {[to for _, to in arrows]}, and signals were seen by {wanted}"
-    wrong = [it for it in arrows if not (it[0] < it[1] and re.search(r"; signal \d+ -?\d+ 0(;|$)", entries[it[0] - 1]))]
-    return f"arrows from entries that made no signal 0: {wrong}" if wrong else None
+def wrong_arrows(handed, entries, page, step):
+    """Why the arrows aren't one to each signal that a poll saw, from an entry before it that made one 0."""
+    wanted, zeros = [], set()
+    for at, entry in enumerate((*handed, *entries)):
+        number = at + 1
+        if sign_of(entry) == "look" and at >= len(handed):
+            wanted += [number for it in entry.split(";")[0].split(" ")[4].split(",") if it]
+        if re.search(r"; signal \d+ -?\d+ 0(;|$)", entry):
+            zeros.add(number)
+    told = [(len(handed) + (x1 - step // 2 - MARGIN) // step, len(handed) + (x2 - MARGIN) // step) for x1, _, x2, _ in page.lines]
+    unseen = list(wanted)
+    for source, target in told:
+        if target not in unseen:
+            return f"an arrow to {target}, which saw no signal"
+        unseen.remove(target)
+        if source not in zeros or not len(handed) < source < target:
+            return f"an arrow from {source}, which made no signal 0"
+    return None if not unseen or handed else f"no arrows to {unseen}"
 
 
-def wrong_page(entries, page):
-    """Why a page isn't a picture of these entries, or none."""
-    if isinstance(page, Ended):
-        return f"no page: {page}"
+def wrong_start(handed, entries, page):
+    """Why what the audit begins from isn't drawn: a lane for each queue, and a bar for each packet in flight."""
+    lanes = [re.match(r"queue (\d+) ", it)[1] for it in handed if it.startswith("queue ")]
+    ended = ends_of(handed)
+    flying = [it.split(" ")[1:3] for it in handed if re.match(r"take \d+ \d+ launched", it)]
+    flying = [it for it in flying if " ".join(it) not in ended]
+    ends = ends_of(entries)
+    drawn = [(group.get("class"), rest) for group, (told, rest) in zip(page.groups, page.titles) if told == "start"]
+    if [rest.split(" ")[1] for name, rest in drawn if name == "lane"] != lanes:
+        return f"the lanes from the start on are {drawn}, not {lanes}"
+    wanted = sorted((f"bar {ends.get(f'{queue} {packet}', ('open', 0))[0]}", f"queue {queue} packet {packet}") for queue, packet in flying)
+    if sorted((name, " ".join(rest.split(" ")[:4])) for name, rest in drawn if name.startswith("bar")) != wanted:
+        return f"the packets in flight from the start on are {drawn}, not {wanted}"
+    return None
+
+
+def wrong_look(page):
+    """Why a page can't be read: bars that overlap, words that overlap, or a tick that runs through words."""
+    bars = [box(it) for it in page.groups if it.get("class").startswith("bar")]
+    ticks = [box(it) for it in page.groups if it.get("class") in ("group", "look", "completion", "fault")]
+    words = [letters(it) for group in page.groups for it in group.iter(f"{SVG}text") if group.get("class") != "reload"]
+    words += [letters(it) for it in page.tree.iter(f"{SVG}text") if it.get("class") == "number"]
+    for name, some, others in (("bars", bars, bars), ("words", words, words), ("a tick and words", ticks, words)):
+        found = next(((a, b) for i, a in enumerate(some) for b in (others[:i] if others is some else others) if overlap(a, b)), None)
+        if found:
+            return f"{name} overlap: {found}"
+    _, _, width, height = map(int, page.tree.get("viewBox").split(" "))
+    out = [it for it in (*bars, *ticks, *words) if it[0] + it[2] > width or it[1] + it[3] > height]
+    return f"off the page: {out[:3]}" if out else None
+
+
+def wrong_page(parts, text, skipped=0):
+    """Why a page isn't a picture of what an audit tells behind what was handed out, or none."""
+    if isinstance(text, Ended):
+        return f"no page: {text}"
     try:
-        tree = xml.fromstring(page)
+        page = Page(text)
     except xml.ParseError as error:
         return f"no XML: {error}"
-    if tree.tag != f"{SVG}svg":
-        return f"its root is {tree.tag}"
-    numbers = [it.text for it in tree.iter(f"{SVG}text") if it.get("class") == "number"]
-    if numbers != [str(at + 1) for at in range(len(entries))]:
-        return f"its axis is {numbers[:5]}.., of {len(entries)} entries"
-    groups = list(tree.iter(f"{SVG}g"))
-    if len(groups) != len(entries):
-        return f"{len(groups)} elements for {len(entries)} entries"
-    faults = [wrong_element(entries, at, group) for at, group in enumerate(groups)]
-    return next((it for it in (*faults, wrong_arrows(entries, tree)) if it), None)
+    handed, entries = parts
+    before, step = len(handed), step_of(len(entries) - skipped)
+
+    def x(number):
+        return MARGIN + step * (number - before - skipped)
+
+    if page.tree.tag != f"{SVG}svg":
+        return f"its root is {page.tree.tag}"
+    if any(of != x(int(number)) or not before + skipped < int(number) <= before + len(entries) for number, of in page.numbers.items()):
+        return f"its axis is {page.numbers}, behind {before} of {len(entries)} entries"
+    if len(entries) - skipped >= 100 and not page.numbers:
+        return "its axis has no number"
+    if [int(told) for group, (told, _) in zip(page.groups, page.titles) if told != "start" and int(told) <= before + skipped and not re.match("lane|bar", group.get("class"))]:
+        return "entries that aren't asked for are drawn"
+    ends = ends_of(entries)
+    for at, entry in enumerate(entries):
+        groups = page.of_number(before + at + 1)
+        if at < skipped:
+            continue
+        if len(groups) != 1:
+            return f"{len(groups)} elements for entry {before + at + 1}"
+        ending, last = ends.get(" ".join(entry.split(" ")[1:3]), ("open", len(entries))) if entry.startswith("take ") else ("", 0)
+        number = before + at + 1
+        wrong = wrong_element(entry, number, x(number), step, (ending, before + last), groups[0])
+        if wrong:
+            return wrong
+    more = [] if skipped else [wrong_start(handed, entries, page), wrong_arrows(handed, entries, page, step)]
+    return next((it for it in (*more, wrong_look(page)) if it), None)
 
 
-def random_script(seed):
-    """Lines of two queues, of which many are refused, denied or fault."""
+def random_script(seed, more=()):
+    """Lines of two queues, of which many are refused, denied or fault, with some of these lines between them."""
     dice = random.Random(seed)
     lines = [*PRELUDE, "queue alice gpu 4 1", "write alice 0000000200000000 0000000001000000"]
     past = KERNEL.replace("04000000", "18000000", 1)
@@ -120,9 +217,42 @@ def random_script(seed):
             f"submit {queue} 1 {dice.choice((FILL, KERNEL, BARRIER, past, '0' * 128))}", f"serve {queue}", f"serve {queue}", f"run {queue} {packet}",
             f"run {queue} {packet}", f"finish {queue} {packet}", f"finish {queue} {packet}", f"poll {queue} {packet}", f"stop {dice.randrange(1, 9)}",
             f"signal alice {dice.choice(('done', 'go'))} store {dice.randrange(-1, 2)}", f"{dice.choice(('grant', 'revoke'))} alice region buf WRITE",
-            "queue alice gpu 2 1", "write alice 0000000100000000 0102", "list alice", "audit", "load alice done", "",
+            "queue alice gpu 2 1", "write alice 0000000100000000 0102", "list alice", "audit", "load alice done", "", *more,
         )))
     return text(lines)
+
+
+def long_script(packets):
+    """Lines that run packets one after the other, so that each has three entries."""
+    return text([*PRELUDE, *(line for at in range(packets) for line in (f"submit 1 1 {FILL}", "serve 1", f"run 1 {at}", f"finish 1 {at}"))])
+
+
+def ranges(trials, program):
+    """What is drawn of long scripts, and of ranges of entries."""
+    long, longer = long_script(200), long_script(1700)
+    whole, wholer = history(program, long), history(program, longer)
+
+    def fits(packets):
+        width = int(Page(drawn(program, long_script(packets))).tree.get("width"))
+        return None if width <= 1920 else f"it is {width} wide"
+
+    def asked(case):
+        first, last = case
+        words = (*(["--from", str(first)] if first else []), *(["--to", str(last)] if last else []))
+        entries = whole[1][:last]
+        return wrong_page(([], entries), drawn(program, long, *words), min(len(entries) - 1, max(0, (first or 1) - 1)))
+
+    def behind(case):
+        at, first = case
+        lines = long.split(b"\n")
+        script = b"\n".join((*lines[:at], b"rotate", *lines[at:]))
+        handed, entries = history(program, script)
+        return wrong_page((handed, entries), drawn(program, script, "--from", str(first)), max(0, first - 1 - len(handed)))
+
+    trials.every("two hundred packets fit on a screen", fits, [1, 50, 200])
+    trials.every("a range of entries is drawn", asked, [(None, None), (1, None), (None, 1), (300, 420), (300, None), (None, 420), (607, 607), (5000, None), (9, 7)])
+    trials.every("a range of entries is drawn behind a rotation", behind, [(100, 80), (100, 200), (401, 1), (402, 310)])
+    trials.every("of more entries than five thousand the last ones are drawn", lambda it: wrong_page(wholer, drawn(program, longer), len(wholer[1]) - 5000), [longer])
 
 
 def pages(trials, program):
@@ -133,7 +263,7 @@ def pages(trials, program):
             return None if drawn(program, example(name)) == it.read() else "docs/picture.svg is another page"
 
     def against_audit(script):
-        return wrong_page(audit(program, script), drawn(program, script))
+        return wrong_page(history(program, script, SAMPLE), drawn(program, script, SAMPLE))
 
     def same(scripts):
         first, *others = [drawn(program, it) for it in scripts]
@@ -142,7 +272,8 @@ def pages(trials, program):
     trials.every("the picture that the pages show is that of its script", stored, ["two_queues"])
     trials.every("an example is drawn as its audit says", against_audit, [example(it) for it in EXAMPLES])
     trials.every("a random script is drawn as its audit says", against_audit, [random_script(seed) for seed in range(200)])
-    trials.every("an empty script is drawn with no element", lambda it: wrong_page([], drawn(program, it)), [b"", b"\n", b"# nothing\n\n", b"load alice done\n", b"audit"])
+    trials.every("a random script with rotations and reloads is drawn as its last audit says", against_audit, [random_script(seed, ("rotate", "reload 1")) for seed in range(300)])
+    trials.every("an empty script is drawn with no element", lambda it: wrong_page(([], []), drawn(program, it)), [b"", b"\n", b"# nothing\n\n", b"load alice done\n", b"audit"])
     fill = text([*PRELUDE, f"submit 1 1 {FILL}", "serve 1"])
     parts = text([*PRELUDE, "# in parts", "list alice", "reserve 1 1", f"publish 1 1 0 {FILL}", "read alice 0000000100000000 4", "peek 1", "take 1", "audit"])
     trials.every("scripts of one audit are drawn as one page", same, [(fill, parts, fill.rstrip(b"\n"), fill.replace(b" ", b"  "))])
@@ -171,7 +302,7 @@ def refused(trials, program, room):
     trials.every("a fault of the policy, its names or its kernels is told as run tells it, with no page", as_run, [(f"{room}/{name}.toml", whole, ()) for name in edits])
     bad = [whole + b"nonsense\n", b"nonsense", text([*PRELUDE, "submit 1 1 00"]), text([*PRELUDE, "x" * 20000]), b"\xff\n", b"load alice done more\n"]
     trials.every("a bad line is told as run tells it, with no page", as_run, [(SAMPLE, it, ()) for it in bad])
-    trials.every("a file that isn't there, and bad words, are told as run tells them", as_run, [("nowhere", b"", ()), (room, b"", ()), (SAMPLE, b"", ("--audit", "0")), (SAMPLE, b"", ("--audit", "1048577"))])
+    trials.every("a file that isn't there, and bad words, are told as run tells them", as_run, [("nowhere", b"", ()), (room, b"", ()), (SAMPLE, b"", ("--audit", "0")), (SAMPLE, b"", ("--audit", "1048577")), (SAMPLE, b"", ("nowhere",)), (SAMPLE, whole, (f"{room}/toml.toml",)), (SAMPLE, whole, (SAMPLE, f"{room}/key.toml", "nowhere"))])
 
     def shell(how):
         ended = run(["sh", "-c", f'exec "$0" picture "$1" {how[0]}', program, SAMPLE], whole)
@@ -180,7 +311,7 @@ def refused(trials, program, room):
     trials.every("a stream that fails ends with 3", shell, [("<&-", b"read fault\n"), (">&-", b"write fault\n"), (">/dev/full", b"write fault\n"), ("< .", b"read fault\n")])
     small = ("--audit", "4")
     trials.every("a full audit is drawn up to its last entry", lambda it: wrong_page(
-        audit(program, text(PRELUDE))[:4], run([program, "picture", SAMPLE, *small], it).out), [text(PRELUDE)])
+        ([], history(program, text(PRELUDE))[1][:4]), run([program, "picture", SAMPLE, *small], it).out), [text(PRELUDE)])
 
 
 def starved(trials, program, room):
@@ -197,8 +328,8 @@ def starved(trials, program, room):
             return None
         if ended.status or ended.err or not ended.out.endswith(b"</svg>\n"):
             return f"it ended otherwise: {ended}"
-        numbers = [it.text for it in xml.fromstring(ended.out).iter(f"{SVG}text") if it.get("class") == "number"]
-        return None if numbers == [str(it + 1) for it in range(len(numbers))] else f"its axis is {numbers}"
+        told = sorted(int(number) for number, _ in Page(ended.out).titles)
+        return None if told == list(range(1, len(told) + 1)) else f"its entries are {told}"
 
     def from_then_on(at):
         ended = memory.run(words, script, at, True)
@@ -212,6 +343,7 @@ def main():
     program = program_given()
     trials = Trials("pictures")
     pages(trials, program)
+    ranges(trials, program)
     with tempfile.TemporaryDirectory(prefix="picture-") as room:
         refused(trials, program, room)
         starved(trials, program, room)

@@ -3,16 +3,18 @@
 use crate::explaining::{Further, PolicyFile, run_explaining};
 use crate::perform::{read_file, unread_file, unread_policy};
 use crate::strict::run_strictly;
-use commands::{PolicyText, Status, run_policies};
+use commands::{PolicyText, Span, Status, draw_policies, run_policies};
 use std::io;
 
 /// How a script is run: with places for so many entries in the audit, up to the first line that isn't done, if it is
-/// strict, and with a text beside its replies that tells why, if it is explaining.
+/// strict, and with a text beside its replies that tells why, if it is explaining; or with a picture of these entries in
+/// place of its replies.
 #[derive(Clone, Copy)]
 pub struct Manner {
     pub places: usize,
     pub is_strict: bool,
     pub is_explaining: bool,
+    pub drawn: Option<Span>,
 }
 
 impl Manner {
@@ -22,6 +24,7 @@ impl Manner {
             places,
             is_strict: false,
             is_explaining: false,
+            drawn: None,
         }
     }
 
@@ -31,6 +34,7 @@ impl Manner {
             places,
             is_strict: true,
             is_explaining: false,
+            drawn: None,
         }
     }
 
@@ -40,6 +44,17 @@ impl Manner {
             places,
             is_strict,
             is_explaining: true,
+            drawn: None,
+        }
+    }
+
+    /// With a picture of these entries.
+    pub fn drawing(places: usize, span: Span) -> Manner {
+        Manner {
+            places,
+            is_strict: false,
+            is_explaining: false,
+            drawn: Some(span),
         }
     }
 }
@@ -53,7 +68,7 @@ fn read_files(rt: &HostRuntime, files: &[&str], texts: &mut Vec<PolicyText>) -> 
     Ok(())
 }
 
-// Runs a script over the policies in texts, with nothing beside its replies.
+// Runs a script over the policies in texts, with nothing beside its replies or its picture.
 fn run_plainly<R: io::Read>(
     rt: &HostRuntime,
     text: &[u8],
@@ -64,7 +79,18 @@ fn run_plainly<R: io::Read>(
     let places = manner.places;
     let mut out = rt.stdout();
     let mut err = rt.stderr();
-    if manner.is_strict {
+    if let Some(span) = manner.drawn {
+        draw_policies(
+            rt.alloc(),
+            text,
+            further,
+            places,
+            span,
+            script,
+            &mut out,
+            &mut err,
+        )
+    } else if manner.is_strict {
         run_strictly(
             rt.alloc(),
             text,
@@ -127,7 +153,11 @@ fn tell_unread(
     error: &io::Error,
 ) -> Status {
     let mut nothing = "".as_bytes();
-    match run_over(rt, file, before, manner, &mut nothing) {
+    let undrawn = Manner {
+        drawn: None,
+        ..manner
+    };
+    match run_over(rt, file, before, undrawn, &mut nothing) {
         Status::Done => {
             let name = before.names.get(before.texts.len()).unwrap_or(&file.name);
             tell_of_file(rt, name, manner, error)

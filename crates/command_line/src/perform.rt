@@ -7,7 +7,7 @@ use crate::request::{Asked, Request, Unread, read_words};
 use crate::syntax::MOST_NEXT;
 use crate::threads::{AskedLoad, run_threads};
 use clap::Error;
-use commands::{Status, check_policy, draw_policy};
+use commands::{Status, check_policy};
 use policy::MOST_POLICY_BYTES;
 use std::fs::File;
 use std::io::{self, IsTerminal, Read};
@@ -81,26 +81,6 @@ fn check_and_explain(rt: &HostRuntime, policy: &str) -> Status {
     }
 }
 
-// Draws the run of the script on standard input over the policy in a text.
-fn draw_over(rt: &HostRuntime, text: &[u8], places: usize) -> Status {
-    draw_policy(
-        rt.alloc(),
-        text,
-        places,
-        &mut rt.stdin(),
-        &mut rt.stdout(),
-        &mut rt.stderr(),
-    )
-}
-
-// Draws the run of the script on standard input over the policy in a file.
-fn draw(rt: &HostRuntime, policy: &str, places: usize) -> Status {
-    match read_file(rt, policy) {
-        Ok(text) => draw_over(rt, text.as_slice(), places),
-        Err(error) => unread_file(rt, &error),
-    }
-}
-
 // Assembles the script on standard input by the policy in a file.
 fn assemble_by(rt: &HostRuntime, policy: &str) -> Status {
     match read_file(rt, policy) {
@@ -161,7 +141,11 @@ fn perform<R: Threads + Wait + Sync>(rt: &HostRuntime, threads: &R, asked: &Aske
             let manner = Manner::explaining(places, is_strict);
             run(rt, policy, further, manner).number()
         }
-        Request::Picture { policy, places } => draw(rt, policy, places).number(),
+        Request::Picture {
+            policy,
+            places,
+            span,
+        } => run(rt, policy, further, Manner::drawing(places, span)).number(),
         Request::Kernel { file } => kernel(rt, file).number(),
         Request::Assemble { policy } => assemble_by(rt, policy).number(),
         Request::Explain { word } => match explain(rt, word) {

@@ -1,11 +1,12 @@
 //! What the words of a command line ask for.
 
 use crate::syntax::{
-    ASSEMBLE, AUDIT, CHECK, EXPLAIN, FILE, KERNEL, MOST_NEXT, NEXT, PICTURE, POLICY, PRODUCERS,
-    RUN, STRICT, THREADS, WORD, program,
+    ASSEMBLE, AUDIT, CHECK, EXPLAIN, FILE, FROM, KERNEL, MOST_NEXT, NEXT, PICTURE, POLICY,
+    PRODUCERS, RUN, STRICT, THREADS, TO, WORD, program,
 };
 use clap::error::ErrorKind;
 use clap::{ArgMatches, Error};
+use commands::Span;
 use std::alloc::{AllocError, Global};
 
 /// How many entries an audit has place for, if the command line doesn't say.
@@ -39,10 +40,12 @@ pub enum Request<'a> {
         places: usize,
         is_strict: bool,
     },
-    /// `picture POLICY [--audit N]`: to run it the same way, and to draw what the audit tells in place of the replies.
+    /// `picture POLICY [NEXT..] [--audit N] [--from N] [--to N]`: to run it the same way, and to draw what the audit tells
+    /// in place of the replies, of which the entries from one number to another.
     Picture {
         policy: &'a str,
         places: usize,
+        span: Span,
     },
     /// `kernel FILE`: to list the kernels of the text in this file.
     Kernel {
@@ -66,7 +69,7 @@ pub enum Request<'a> {
     },
 }
 
-/// What a command line asks for, and the files of the further policies of a run, at most 16, in their order (own).
+/// What a command line asks for, and the files of the further policies of a run or a picture, at most 16, in their order (own).
 #[derive(Debug, Drop)]
 pub struct Asked<'a> {
     pub request: Request<'a>,
@@ -106,6 +109,14 @@ fn places_in(asked: &ArgMatches<'_>) -> usize {
     asked.get_one(AUDIT).unwrap_or(PLACES)
 }
 
+// Which entries are to be drawn: all, if the command line doesn't say.
+fn span_in(asked: &ArgMatches<'_>) -> Span {
+    Span {
+        first: asked.get_one(FROM).unwrap_or(1),
+        last: asked.get_one(TO).unwrap_or(u64::MAX),
+    }
+}
+
 // The request of `run` with its arguments.
 fn run_request<'a>(policy: &'a str, asked: &ArgMatches<'a>) -> Request<'a> {
     let places = places_in(asked);
@@ -141,6 +152,7 @@ fn policy_request<'a>(command: &str, asked: &ArgMatches<'a>) -> Option<Request<'
         PICTURE => Some(Request::Picture {
             policy,
             places: places_in(asked),
+            span: span_in(asked),
         }),
         ASSEMBLE => Some(Request::Assemble { policy }),
         _ => None,
@@ -170,7 +182,7 @@ fn request_of<'a>(command: &str, asked: &ArgMatches<'a>) -> Option<Request<'a>> 
     }
 }
 
-// The files of further policies, which `run` alone has.
+// The files of further policies, which `run` and `picture` have.
 fn further_of<'a>(alloc: Global, asked: &ArgMatches<'a>) -> Result<Vec<&'a str>, AllocError> {
     let mut further = Vec::new(alloc);
     if let Some(files) = asked.get_strs(NEXT) {

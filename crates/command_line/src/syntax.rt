@@ -11,6 +11,15 @@ pub const CHECK: &str = "check";
 /// The name of the command that runs a script.
 pub const RUN: &str = "run";
 
+/// The name of the first entry that is drawn.
+pub const FROM: &str = "from";
+
+/// The name of the last entry that is drawn.
+pub const TO: &str = "to";
+
+/// The greatest number that an entry may have.
+pub const MOST_ENTRY: u64 = 9223372036854775807;
+
 /// The name of the command that draws the run of a script.
 pub const PICTURE: &str = "picture";
 
@@ -82,6 +91,24 @@ fn audit_places<'a>(alloc: Global) -> Arg<'a> {
         .help("How many entries the audit has place for, 1 to 1048576; 65536 if not given")
 }
 
+fn first_entry<'a>(alloc: Global) -> Arg<'a> {
+    Arg::new(alloc, FROM)
+        .long(FROM)
+        .value_name("N")
+        .action(ArgAction::Set)
+        .value_parser(ValueParser::Unsigned(1, MOST_ENTRY))
+        .help("The number of the first entry that is drawn; of more than 5000 the last 5000 are")
+}
+
+fn last_entry<'a>(alloc: Global) -> Arg<'a> {
+    Arg::new(alloc, TO)
+        .long(TO)
+        .value_name("N")
+        .action(ArgAction::Set)
+        .value_parser(ValueParser::Unsigned(1, MOST_ENTRY))
+        .help("The number of the last entry that is drawn")
+}
+
 fn strictly<'a>(alloc: Global) -> Arg<'a> {
     Arg::new(alloc, STRICT)
         .long(STRICT)
@@ -137,7 +164,10 @@ fn picture_command<'a>(alloc: Global) -> Result<Command<'a>, Error> {
             "Runs the script on standard input over a policy, and writes a picture of the run, an SVG page",
         )
         .arg(policy_file(alloc))?
-        .arg(audit_places(alloc))?;
+        .arg(further_files(alloc))?
+        .arg(audit_places(alloc))?
+        .arg(first_entry(alloc))?
+        .arg(last_entry(alloc))?;
     Ok(picture)
 }
 

@@ -15,10 +15,11 @@ mod status;
 
 pub use check::{check_policy, check_policy_noting};
 pub use command_log::CommandLog;
-pub use draw::{draw_policy, draw_policy_noting};
+pub use draw::{draw_policies, draw_policies_noting};
 pub use failure::Failure;
 pub use further::PolicyText;
 pub use kernel_judging::{KernelCause, KernelError, KernelFault, check_kernels};
 pub use laws::missing_entries_are_told;
+pub use picture::Span;
 pub use run::{run_policies, run_policies_noting, run_policy};
 pub use status::Status;

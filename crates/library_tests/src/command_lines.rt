@@ -1,6 +1,7 @@
 //! What command lines ask for, and their exit statuses.
 
 use command_line::{Request, obey, read_words};
+use commands::Span;
 use std::alloc::{AllocError, Global};
 use std::process::Abort;
 use std::sync::Wait;
@@ -73,8 +74,20 @@ fn a_command_is_asked_for_with_its_arguments(rt: HostRuntime) -> Result<(), Fail
         "brokerd run a.toml --explain --strict --audit 1048576",
         told,
     )?;
-    let picture = Some(Request::Picture { policy, places });
-    check_request(&rt, "brokerd picture a.toml --audit 1048576", picture)?;
+    let span = Span {
+        first: 7,
+        last: u64::MAX,
+    };
+    let picture = Some(Request::Picture {
+        policy,
+        places,
+        span,
+    });
+    check_request(
+        &rt,
+        "brokerd picture a.toml --from 7 --audit 1048576",
+        picture,
+    )?;
     let assemble = Some(Request::Assemble { policy });
     check_request(&rt, "brokerd assemble a.toml", assemble)?;
     let kernel = Some(Request::Kernel { file: "k.hsail" });

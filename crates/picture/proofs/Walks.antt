@@ -1,21 +1,25 @@
--- Walks over entries by index: what is left at an index is the entry there and what is left behind it.
-use Rattle.std.proofs.Common.{◌≡◌, ℕ, suc, ◌+◌, ◌-◌, ◌<◌, ◌≤◌, Bool, true, false, List, [], ◌∷◌, ◌++◌, length, get_or, take, drop, drop-cons, take-suc, add-one, Option, Some, None, if◌then◌else◌, refl, sym, ap, ◌∙◌, append_assoc, append-nil, arith}
+-- Walks over lists by index: what is left at an index is the item there and what is left behind it.
+use Rattle.std.proofs.Common.{◌≡◌, ℕ, suc, ◌+◌, ◌-◌, ◌<◌, ◌≤◌, true, false, List, ◌∷◌, ◌++◌, length, get_or, take, drop, drop-cons, add-one, Option, Some, if◌then◌else◌, refl, sym, ap, ◌∙◌, append_assoc, append-nil, ◌==◌, arith}
 use Rattle.std.proofs.lemmas.List.{drop_all, take_all, length-drop}
 use Rattle.aql_packet.specs.declared.ids.QueueId.{QueueId}
 use Rattle.aql_packet.specs.declared.ids.PacketId.{PacketId}
 use Rattle.core_model.specs.declared.entry.Entry.{Entry}
+use Rattle.core_model.specs.declared.origin.QueueOrigin.{QueueOrigin}
+use Rattle.core_model.specs.declared.origin.PacketOrigin.{PacketOrigin}
 use Rattle.policy.specs.Policy.{Declared}
+use Rattle.picture.specs.declared.arrows.Zero.{Zero}
 use Rattle.picture.specs.declared.element.Ending.TheVariants as ending
-use Rattle.picture.specs.declared.reading.End.{End}
+use Rattle.picture.specs.declared.element.Frame.{Frame}
 use Rattle.picture.specs.declared.element.Spot.{Spot}
-use Rattle.picture.specs.Reading.{releases, ending_of, end_of, zeroes, zeroed, spot_of, hands_over, dependency_handed, dependency_in}
-use Rattle.picture.specs.Pages.{is_opening, queues_opened, text_of_entry, text_of_entries}
+use Rattle.picture.specs.declared.seats.Seat.{Seat}
+use Rattle.picture.specs.Arrows.{last_zero, zeros_after}
+use Rattle.picture.specs.Frames.{is_opening, lanes_in, one_lane_more}
+use Rattle.picture.specs.Reading.{deepest_in, deepest_of, ending_of, end_of, greater, spot_of}
+use Rattle.picture.specs.Seats.{releases, seats_after, seats_of, with_seat}
+use Rattle.picture.specs.Pages.{text_of_entry, text_of_entries, text_of_queue, text_of_queues}
 
 at_index : {X : Type 0} (xs : List X) (i : ℕ) (x : X) → i < length xs → x ≡ get_or xs i x → drop i xs ≡ x ∷ drop (i + 1) xs
 at_index xs i x lt is = rw (add-one, drop-cons xs i x) (ap (λ y. y ∷ drop (suc i) xs) (sym is))
-
-up_to : {X : Type 0} (xs : List X) (i : ℕ) (x : X) → i < length xs → x ≡ get_or xs i x → take (i + 1) xs ≡ take i xs ++ x ∷ []
-up_to xs i x lt is = rw (add-one, take-suc xs i x) (ap (λ y. take i xs ++ y ∷ []) (sym is))
 
 -- ---- the entry that ends a packet
 
@@ -40,81 +44,117 @@ unfolding end_of
 end_later queue id n i m entries entry lt is later e =
     rw (at_index entries i entry lt is, later) (ap (λ k. end_of queue id k (drop (i + 1) entries)) e)
 
--- ---- the signal that a packet depends on
+-- ---- where a signal was made 0 last
 
--- the entry at an index hands it over
-pub dependency_here : (queue : QueueId) (id : PacketId) (position i : ℕ) (entries : List Entry) (entry : Entry) → i < length entries
-    → entry ≡ get_or entries i entry → hands_over queue id entry.event ≡ true
-    → dependency_in queue id position (drop i entries) ≡ dependency_handed position entry.event
-unfolding dependency_in
-dependency_here queue id position i entries entry lt is here = rw (at_index entries i entry lt is, here) refl
-
--- it doesn't
-pub dependency_later : (queue : QueueId) (id : PacketId) (position i : ℕ) (entries : List Entry) (entry : Entry) → i < length entries
-    → entry ≡ get_or entries i entry → hands_over queue id entry.event ≡ false
-    → dependency_in queue id position (drop i entries) ≡ dependency_in queue id position (drop (i + 1) entries)
-unfolding dependency_in
-dependency_later queue id position i entries entry lt is later = rw (at_index entries i entry lt is, later) refl
+-- one zero more
+pub zero_step : (signal i : ℕ) (found : Option Spot) (zeros : List Zero) (zero : Zero) → i < length zeros
+    → last_zero signal found (drop i zeros)
+    ≡ last_zero signal (if (get_or zeros i zero).signal.0 == signal then Some (get_or zeros i zero).spot else found) (drop (i + 1) zeros)
+unfolding last_zero
+zero_step signal i found zeros zero lt = rw (add-one, drop-cons zeros i zero) refl
 
 -- none left
-pub dependency_nowhere : (queue : QueueId) (id : PacketId) (position i : ℕ) (entries : List Entry) → length entries ≤ i
-    → dependency_in queue id position (drop i entries) ≡ 0
-unfolding dependency_in
-dependency_nowhere queue id position i entries le = rw (drop_all i entries le) refl
+pub zero_end : (signal i : ℕ) (found : Option Spot) (zeros : List Zero) → length zeros ≤ i → last_zero signal found (drop i zeros) ≡ found
+unfolding last_zero
+zero_end signal i found zeros le = rw (drop_all i zeros le) refl
 
--- ---- the last entry that made a signal 0
+-- ---- how many lanes there are
 
 -- one entry more
-pub zeroed_step : (signal n i : ℕ) (found : Option Spot) (entries : List Entry) (entry : Entry) → i < length entries
-    → entry ≡ get_or entries i entry
-    → zeroed signal n found (drop i entries)
-    ≡ zeroed signal (n + 1) (if zeroes signal entry then Some (spot_of (n + 1) entry) else found) (drop (i + 1) entries)
-unfolding zeroed
-zeroed_step signal n i found entries entry lt is = rw (at_index entries i entry lt is) refl
+pub lanes_step : (n i : ℕ) (entries : List Entry) (entry : Entry) → i < length entries → entry ≡ get_or entries i entry
+    → lanes_in n (drop i entries) ≡ lanes_in (if is_opening entry.event then one_lane_more n else n) (drop (i + 1) entries)
+unfolding lanes_in
+lanes_step n i entries entry lt is = rw (at_index entries i entry lt is) refl
 
 -- none left
-pub zeroed_end : (signal n i : ℕ) (found : Option Spot) (entries : List Entry) → length entries ≤ i
-    → zeroed signal n found (drop i entries) ≡ found
-unfolding zeroed
-zeroed_end signal n i found entries le = rw (drop_all i entries le) refl
+pub lanes_end : (n i : ℕ) (entries : List Entry) → length entries ≤ i → lanes_in n (drop i entries) ≡ n
+unfolding lanes_in
+lanes_end n i entries le = rw (drop_all i entries le) refl
 
--- ---- how many queues entries open
+-- ---- the lowest row
+
+-- one seat more
+pub deepest_step : (row i : ℕ) (seats : List Seat) (seat : Seat) → i < length seats
+    → deepest_of row (drop i seats) ≡ deepest_of (greater row (get_or seats i seat).row) (drop (i + 1) seats)
+unfolding deepest_of
+deepest_step row i seats seat lt = rw (add-one, drop-cons seats i seat) refl
+
+-- none left
+pub deepest_end : (row i : ℕ) (seats : List Seat) → length seats ≤ i → deepest_of row (drop i seats) ≡ row
+unfolding deepest_of
+deepest_end row i seats le = rw (drop_all i seats le) refl
 
 -- one entry more
-pub queues_step : (n i : ℕ) (entries : List Entry) (entry : Entry) → i < length entries → entry ≡ get_or entries i entry
-    → queues_opened n (drop i entries) ≡ queues_opened (if is_opening entry.event then n + 1 else n) (drop (i + 1) entries)
-unfolding queues_opened
-queues_step n i entries entry lt is = rw (at_index entries i entry lt is) refl
+pub lower_step : (row i : ℕ) (seats : List Seat) (entries : List Entry) (entry : Entry) → i < length entries → entry ≡ get_or entries i entry
+    → deepest_in row seats (drop i entries) ≡ deepest_in (greater row (spot_of seats 0 entry).row) (seats_after seats entry) (drop (i + 1) entries)
+unfolding deepest_in
+lower_step row i seats entries entry lt is = rw (at_index entries i entry lt is) refl
 
 -- none left
-pub queues_end : (n i : ℕ) (entries : List Entry) → length entries ≤ i → queues_opened n (drop i entries) ≡ n
-unfolding queues_opened
-queues_end n i entries le = rw (drop_all i entries le) refl
+pub lower_end : (row i : ℕ) (seats : List Seat) (entries : List Entry) → length entries ≤ i → deepest_in row seats (drop i entries) ≡ row
+unfolding deepest_in
+lower_end row i seats entries le = rw (drop_all i entries le) refl
+
+-- ---- the seats of packets
+
+-- one packet more
+pub seats_step : (i : ℕ) (seats : List Seat) (packets : List PacketOrigin) (packet : PacketOrigin) → i < length packets
+    → packet ≡ get_or packets i packet → seats_of seats (drop i packets) ≡ seats_of (with_seat seats packet.flying) (drop (i + 1) packets)
+unfolding seats_of
+seats_step i seats packets packet lt is = rw (at_index packets i packet lt is) refl
+
+-- none left
+pub seats_end : (i : ℕ) (seats : List Seat) (packets : List PacketOrigin) → length packets ≤ i → seats_of seats (drop i packets) ≡ seats
+unfolding seats_of
+seats_end i seats packets le = rw (drop_all i packets le) refl
+
+-- ---- the text of queues
+
+-- a lane is written, and those that are left still make the whole
+pub queues_step : (frame : Frame) (policy : Declared) (count i : ℕ) (queues : List QueueOrigin) (queue : QueueOrigin) (old : List ℕ)
+    {new whole : List ℕ} → i < length queues → queue ≡ get_or queues i queue
+    → new ≡ old ++ text_of_queue frame policy count (record { 0 = i + 1 }) queue
+    → old ++ text_of_queues frame policy count i (drop i queues) ≡ whole
+    → new ++ text_of_queues frame policy count (i + 1) (drop (i + 1) queues) ≡ whole
+unfolding text_of_queues
+queues_step frame policy count i queues queue old lt is made before =
+    rw made (append_assoc old _ _ ∙ (rw (at_index queues i queue lt is) at before))
+
+-- none left
+pub queues_all : (frame : Frame) (policy : Declared) (count i : ℕ) (queues : List QueueOrigin) {out whole : List ℕ} → length queues ≤ i
+    → out ++ text_of_queues frame policy count i (drop i queues) ≡ whole → out ≡ whole
+unfolding text_of_queues
+queues_all frame policy count i queues {out} le e = sym (append-nil out) ∙ (rw (drop_all i queues le) at e)
 
 -- ---- the text of entries
 
 -- one entry more
-entries_step : (policy : Declared) (i : ℕ) (entries : List Entry) (entry : Entry) → i < length entries → entry ≡ get_or entries i entry
-    → text_of_entries policy (take i entries) (drop i entries)
-    ≡ text_of_entry policy (take i entries) entry (drop (i + 1) entries) ++ text_of_entries policy (take (i + 1) entries) (drop (i + 1) entries)
+entries_step : (frame : Frame) (policy : Declared) (seats : List Seat) (zeros : List Zero) (i : ℕ) (entries : List Entry) (entry : Entry)
+    → i < length entries → entry ≡ get_or entries i entry
+    → text_of_entries frame policy seats zeros i (drop i entries)
+    ≡ text_of_entry frame policy seats zeros (i + 1) entry (drop (i + 1) entries)
+    ++ text_of_entries frame policy (seats_after seats entry) (zeros_after zeros (spot_of seats (i + 1) entry) entry.effects) (i + 1) (drop (i + 1) entries)
 unfolding text_of_entries
-entries_step policy i entries entry lt is = rw (at_index entries i entry lt is, up_to entries i entry lt is) refl
+entries_step frame policy seats zeros i entries entry lt is = rw (at_index entries i entry lt is) refl
 
 -- what a slice from an index on has
 rest : {X : Type 0} (xs : List X) (n : ℕ) → take (length xs - n) (drop n xs) ≡ drop n xs
 rest xs n = take_all (length xs - n) (drop n xs) (let e : length (drop n xs) ≡ length xs - n = length-drop n xs in omega arith)
 
 -- an entry is written, and those that are left still make the whole
-pub drawn_step : (policy : Declared) (i : ℕ) (entries : List Entry) (entry : Entry) (old : List ℕ) {new whole : List ℕ} → i < length entries
+pub drawn_step : (frame : Frame) (policy : Declared) (seats : List Seat) (zeros : List Zero) (i : ℕ) (entries : List Entry) (entry : Entry)
+    (old : List ℕ) {new whole : List ℕ} {zeros' : List Zero} {seats' : List Seat} → i < length entries
     → entry ≡ get_or entries i entry
-    → new ≡ old ++ text_of_entry policy (take i entries) entry (take (length entries - (i + 1)) (drop (i + 1) entries))
-    → old ++ text_of_entries policy (take i entries) (drop i entries) ≡ whole
-    → new ++ text_of_entries policy (take (i + 1) entries) (drop (i + 1) entries) ≡ whole
-drawn_step policy i entries entry old lt is made before =
-    rw (made, rest entries (i + 1)) (append_assoc old _ _ ∙ ap (λ t. old ++ t) (sym (entries_step policy i entries entry lt is)) ∙ before)
+    → new ≡ old ++ text_of_entry frame policy seats zeros (i + 1) entry (take (length entries - (i + 1)) (drop (i + 1) entries))
+    → zeros' ≡ zeros_after zeros (spot_of seats (i + 1) entry) entry.effects → seats' ≡ seats_after seats entry
+    → old ++ text_of_entries frame policy seats zeros i (drop i entries) ≡ whole
+    → new ++ text_of_entries frame policy seats' zeros' (i + 1) (drop (i + 1) entries) ≡ whole
+drawn_step frame policy seats zeros i entries entry old lt is made noted passed before =
+    rw (made, rest entries (i + 1), noted, passed)
+    (append_assoc old _ _ ∙ ap (λ t. old ++ t) (sym (entries_step frame policy seats zeros i entries entry lt is)) ∙ before)
 
 -- none left
-pub drawn_all : (policy : Declared) (before : List Entry) (i : ℕ) (entries : List Entry) {out whole : List ℕ} → length entries ≤ i
-    → out ++ text_of_entries policy before (drop i entries) ≡ whole → out ≡ whole
+pub drawn_all : (frame : Frame) (policy : Declared) (seats : List Seat) (zeros : List Zero) (i : ℕ) (entries : List Entry) {out whole : List ℕ}
+    → length entries ≤ i → out ++ text_of_entries frame policy seats zeros i (drop i entries) ≡ whole → out ≡ whole
 unfolding text_of_entries
-drawn_all policy before i entries {out} le e = sym (append-nil out) ∙ (rw (drop_all i entries le) at e)
+drawn_all frame policy seats zeros i entries {out} le e = sym (append-nil out) ∙ (rw (drop_all i entries le) at e)

@@ -1,15 +1,11 @@
 -- What is drawn of an audit, entry by entry (own). This file alone speaks of events.
-use Rattle.std.specs.Prelude.{ℕ, pos, ◌+◌, ◌%◌, ◌==◌, ◌&&◌, Bool, true, false, nat_lt, List, [], ◌∷◌, length, slice_index_or, Option, Some, None, if◌then◌else◌}
-use Rattle.std.specs.List.{list_any}
-use Rattle.std.specs.Ordering.{int_eq}
+use Rattle.std.specs.Prelude.{ℕ, ◌+◌, nat_lt, List, [], ◌∷◌, length, Option, Some, None, if◌then◌else◌}
 use Rattle.aql_packet.specs.declared.ids.QueueId.{QueueId}
 use Rattle.aql_packet.specs.declared.ids.PacketId.{PacketId}
-use Rattle.aql_packet.specs.declared.ids.SignalHandle.{SignalHandle}
 use Rattle.aql_packet.specs.declared.packet.Packet.{Packet}
 use Rattle.aql_packet.specs.declared.packet.Packet.TheVariants as packet
 use Rattle.aql_packet.specs.Reading.{decoded}
-use Rattle.aql_packet.specs.Ids.{same_packet}
-use Rattle.core_model.specs.Limits.{most_queues, most_in_flight}
+use Rattle.core_model.specs.Limits.{most_queues}
 use Rattle.core_model.specs.declared.event.Event.{Event}
 use Rattle.core_model.specs.declared.event.Event.TheVariants as event
 use Rattle.core_model.specs.declared.call.Call.{Call}
@@ -19,9 +15,7 @@ use Rattle.core_model.specs.declared.outcome.Outcome.TheVariants as outcome
 use Rattle.core_model.specs.declared.outcome.Taken.TheVariants as taken
 use Rattle.core_model.specs.declared.outcome.Worked.TheVariants as worked
 use Rattle.core_model.specs.declared.outcome.Polled.TheVariants as polled
-use Rattle.core_model.specs.declared.outcome.Satisfied.{Satisfied}
-use Rattle.core_model.specs.declared.entry.Effect.{Effect}
-use Rattle.core_model.specs.declared.entry.Effect.TheVariants as effect
+use Rattle.core_model.specs.declared.origin.Opening.{Opening}
 use Rattle.core_model.specs.declared.entry.Entry.{Entry}
 use Rattle.picture.specs.declared.element.Work.{Work}
 use Rattle.picture.specs.declared.element.Work.TheVariants as work
@@ -32,6 +26,12 @@ use Rattle.picture.specs.declared.element.Sign.TheVariants as sign
 use Rattle.picture.specs.declared.element.Spot.{Spot}
 use Rattle.picture.specs.declared.element.Element.{Element}
 use Rattle.picture.specs.declared.reading.End.{End}
+use Rattle.picture.specs.declared.seats.Seat.{Seat}
+use Rattle.picture.specs.Seats.{free_row, releases, row_at, seats_after}
+
+-- the greater of two numbers
+abbrev pub greater : ℕ → ℕ → ℕ
+greater a b = if nat_lt a b then b else a
 
 -- ---- where an entry stands
 
@@ -43,9 +43,9 @@ lane_of_queue queue = if nat_lt most_queues queue.0 then most_queues else queue.
 abbrev pub in_lane : ℕ → QueueId → Spot
 in_lane at queue = record { at = at; lane = lane_of_queue queue; row = 0 }
 
--- in the lane of a packet's queue; of its rows, one for as many packets as may be in flight, the packets take the next in turn
-abbrev pub at_packet : ℕ → QueueId → PacketId → Spot
-at_packet at queue id = record { at = at; lane = lane_of_queue queue; row = id.0 % most_in_flight }
+-- in a row of the lane of a queue
+abbrev pub in_row : ℕ → QueueId → ℕ → Spot
+in_row at queue row = record { at = at; lane = lane_of_queue queue; row = row }
 
 -- in the lane of the administrator and of clients
 abbrev pub at_hosts : ℕ → Spot
@@ -56,35 +56,35 @@ abbrev pub opened : Outcome → QueueId
 opened (outcome.Opened queue) = queue
 opened _ = record { 0 = 0 }
 
--- where an event stands, by what it came to
-abbrev pub spot_of_event : ℕ → Event → Outcome → Spot
-spot_of_event at (event.Open client agent size) out = in_lane at (opened out)
-spot_of_event at (event.Call (call.Stop queue)) out = in_lane at queue
-spot_of_event at (event.Take queue id bytes) out = at_packet at queue id
-spot_of_event at (event.Call (call.RunNext queue id)) out = at_packet at queue id
-spot_of_event at (event.Call (call.Poll queue id)) out = at_packet at queue id
-spot_of_event at (event.Call (call.Finish queue id)) out = at_packet at queue id
-spot_of_event at (event.Call (call.Grant client object rights)) out = at_hosts at
-spot_of_event at (event.Call (call.Revoke client object rights)) out = at_hosts at
-spot_of_event at (event.Call (call.HostWrite client address bytes)) out = at_hosts at
-spot_of_event at (event.Call (call.ChangeSignal client signal operation)) out = at_hosts at
-spot_of_event at (event.Reload rows) out = at_hosts at
+-- where an event stands, by what it came to and by the seats before it: a packet that is handed over in the first row that is free
+abbrev pub spot_of_event : List Seat → ℕ → Event → Outcome → Spot
+spot_of_event seats at (event.Open client agent size) out = in_lane at (opened out)
+spot_of_event seats at (event.Call (call.Stop queue)) out = in_lane at queue
+spot_of_event seats at (event.Take queue id bytes) out = in_row at queue (free_row seats queue)
+spot_of_event seats at (event.Call (call.RunNext queue id)) out = in_row at queue (row_at seats queue id)
+spot_of_event seats at (event.Call (call.Poll queue id)) out = in_row at queue (row_at seats queue id)
+spot_of_event seats at (event.Call (call.Finish queue id)) out = in_row at queue (row_at seats queue id)
+spot_of_event seats at (event.Call (call.Grant client object rights)) out = at_hosts at
+spot_of_event seats at (event.Call (call.Revoke client object rights)) out = at_hosts at
+spot_of_event seats at (event.Call (call.HostWrite client address bytes)) out = at_hosts at
+spot_of_event seats at (event.Call (call.ChangeSignal client signal operation)) out = at_hosts at
+spot_of_event seats at (event.Reload rows) out = at_hosts at
 
 -- where an entry stands
-abbrev pub spot_of : ℕ → Entry → Spot
-spot_of at entry = spot_of_event at entry.event entry.outcome
+abbrev pub spot_of : List Seat → ℕ → Entry → Spot
+spot_of seats at entry = spot_of_event seats at entry.event entry.outcome
+
+-- the lowest row that entries stand in, where so low a one is needed anyway, by the seats before them
+unfoldable pub deepest_in : ℕ → List Seat → List Entry → ℕ
+deepest_in row seats [] = row
+deepest_in row seats (entry ∷ entries) = deepest_in (greater row (spot_of seats 0 entry).row) (seats_after seats entry) entries
+
+-- the lowest row that seats are in, where so low a one is needed anyway
+unfoldable pub deepest_of : ℕ → List Seat → ℕ
+deepest_of row [] = row
+deepest_of row (seat ∷ seats) = deepest_of (greater row seat.row) seats
 
 -- ---- how far a packet's bar reaches
-
--- whether a change releases a packet
-abbrev pub is_release : QueueId → PacketId → Effect → Bool
-is_release queue id (effect.Release queue' id') = same_packet queue' id' queue id
-is_release queue id (effect.Write address bytes) = false
-is_release queue id (effect.Signal signal old new) = false
-
--- whether an entry releases a packet
-abbrev pub releases : QueueId → PacketId → Entry → Bool
-releases queue id entry = list_any (is_release queue id) entry.effects
 
 -- how a packet ended that an entry releases, by the entry's event
 abbrev pub ending_of : Event → Ending
@@ -116,25 +116,25 @@ sign_of_take id bytes end (outcome.Taken (taken.Denied error)) = sign.Denial err
 sign_of_take id bytes end _ = sign.Nothing
 
 -- what the work of a group is drawn as
-abbrev pub sign_of_work : Outcome → Sign
-sign_of_work (outcome.Worked (worked.Ran group left)) = sign.Group group
-sign_of_work (outcome.Worked (worked.Faulted error)) = sign.Fault error
-sign_of_work _ = sign.Nothing
+abbrev pub sign_of_work : PacketId → Outcome → Sign
+sign_of_work id (outcome.Worked (worked.Ran group left)) = sign.Group id group
+sign_of_work id (outcome.Worked (worked.Faulted error)) = sign.Fault error
+sign_of_work id _ = sign.Nothing
 
 -- what a poll is drawn as
-abbrev pub sign_of_poll : Outcome → Sign
-sign_of_poll (outcome.Polled (polled.Pending seen)) = sign.Look seen
-sign_of_poll (outcome.Polled (polled.Ready seen)) = sign.Look seen
-sign_of_poll (outcome.Polled (polled.Failed error)) = sign.Fault error
-sign_of_poll _ = sign.Nothing
+abbrev pub sign_of_poll : PacketId → Outcome → Sign
+sign_of_poll id (outcome.Polled (polled.Pending seen)) = sign.Look id seen
+sign_of_poll id (outcome.Polled (polled.Ready seen)) = sign.Look id seen
+sign_of_poll id (outcome.Polled (polled.Failed error)) = sign.Fault error
+sign_of_poll id _ = sign.Nothing
 
 -- what the entry of a call is drawn as
 abbrev pub sign_of_call : Call → Outcome → Sign
 sign_of_call (call.Grant client object rights) out = sign.Grant client object rights
 sign_of_call (call.Revoke client object rights) out = sign.Revocation client object rights
 sign_of_call (call.Stop queue) out = sign.Stop
-sign_of_call (call.RunNext queue id) out = sign_of_work out
-sign_of_call (call.Poll queue id) out = sign_of_poll out
+sign_of_call (call.RunNext queue id) out = sign_of_work id out
+sign_of_call (call.Poll queue id) out = sign_of_poll id out
 sign_of_call (call.Finish queue id) out = sign.Completion id
 sign_of_call (call.HostWrite client address bytes) out = sign.Write client
 sign_of_call (call.ChangeSignal client signal operation) out = sign.Change client
@@ -144,7 +144,7 @@ abbrev pub sign_of : Ending → Event → Outcome → Sign
 sign_of end (event.Open client agent size) out = sign.Lane (opened out) client agent
 sign_of end (event.Take queue id bytes) out = sign_of_take id bytes end out
 sign_of end (event.Call asked) out = sign_of_call asked out
-sign_of end (event.Reload rows) out = sign.Nothing
+sign_of end (event.Reload rows) out = sign.Reload (length rows.allows) (length rows.denies)
 
 -- how far an entry's sign reaches: a lane's to the end, a packet's to its release, any other's nowhere
 abbrev pub reach_of : ℕ → Event → List Entry → End
@@ -152,54 +152,32 @@ reach_of at (event.Open client agent size) after = record { at = at + length aft
 reach_of at (event.Take queue id bytes) after = end_of queue id at after
 reach_of at _ after = record { at = at; ending = ending.Open }
 
--- what is drawn of the entry of a number, before others
-abbrev pub element_of : ℕ → Entry → List Entry → Element
-element_of at entry after = record {
-  spot = spot_of at entry;
+-- what is drawn of the entry at a place, from 1, behind these seats and before others
+abbrev pub element_of : List Seat → ℕ → Entry → List Entry → Element
+element_of seats at entry after = record {
+  spot = spot_of seats at entry;
   until = (reach_of at entry.event after).at;
   sign = sign_of (reach_of at entry.event after).ending entry.event entry.outcome;
 }
 
--- ---- arrows: from the entry that made a signal 0 to the poll that saw it
+-- ---- what an audit begins from, at the place 0
 
--- whether a change makes a signal 0
-abbrev pub is_zeroing : ℕ → Effect → Bool
-is_zeroing signal (effect.Signal signal' old new) = signal'.0 == signal && int_eq new (pos 0)
-is_zeroing signal (effect.Write address bytes) = false
-is_zeroing signal (effect.Release queue id) = false
+-- the lane of a queue with which an audit of so many entries begins
+abbrev pub lane_from_start : ℕ → QueueId → Opening → Element
+lane_from_start count queue opening = record {
+  spot = in_lane 0 queue;
+  until = count;
+  sign = sign.Lane queue opening.client opening.agent;
+}
 
--- whether an entry makes a signal 0
-abbrev pub zeroes : ℕ → Entry → Bool
-zeroes signal entry = list_any (is_zeroing signal) entry.effects
+-- the stop of a queue that was stopped before
+abbrev pub stop_before : QueueId → Element
+stop_before queue = record { spot = in_lane 0 queue; until = 0; sign = sign.Stop }
 
--- the last entry that made a signal 0, of those behind the n-th, or the one found before
-unfoldable pub zeroed : ℕ → ℕ → Option Spot → List Entry → Option Spot
-zeroed signal n found [] = found
-zeroed signal n found (entry ∷ entries) =
-    zeroed signal (n + 1) (if zeroes signal entry then Some (spot_of (n + 1) entry) else found) entries
-
--- the signal at a position of a list, from 0; 0 is none
-abbrev pub signal_at : List SignalHandle → ℕ → SignalHandle
-signal_at signals position = slice_index_or signals position (record { 0 = 0 })
-
--- the signal that a packet depends on at a position, from 0; 0 is none
-abbrev pub dependency_of : Option Packet → ℕ → ℕ
-dependency_of (Some (packet.BarrierAnd barrier)) position = (signal_at barrier.dependencies position).0
-dependency_of (Some (packet.BarrierOr barrier)) position = (signal_at barrier.dependencies position).0
-dependency_of _ position = 0
-
--- whether an event hands over a packet
-abbrev pub hands_over : QueueId → PacketId → Event → Bool
-hands_over queue id (event.Take queue' id' bytes) = same_packet queue' id' queue id
-hands_over queue id _ = false
-
--- the signal at a position of the packet that an event hands over
-abbrev pub dependency_handed : ℕ → Event → ℕ
-dependency_handed position (event.Take queue id bytes) = dependency_of (decoded bytes) position
-dependency_handed position _ = 0
-
--- the signal at a position of a packet that entries hand over
-unfoldable pub dependency_in : QueueId → PacketId → ℕ → List Entry → ℕ
-dependency_in queue id position [] = 0
-dependency_in queue id position (entry ∷ entries) =
-    if hands_over queue id entry.event then dependency_handed position entry.event else dependency_in queue id position entries
+-- the bar of a packet that is in flight from the start on
+abbrev pub bar_from_start : List Entry → Seat → Element
+bar_from_start entries seat = record {
+  spot = in_row 0 seat.flying.queue seat.row;
+  until = (end_of seat.flying.queue seat.flying.id 0 entries).at;
+  sign = sign.Bar seat.flying.id (work_of (Some seat.flying.packet)) (end_of seat.flying.queue seat.flying.id 0 entries).ending;
+}

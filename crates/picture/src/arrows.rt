@@ -1,54 +1,75 @@
 //! Arrows: from the entry that made a signal 0 to the poll that saw it.
 
-ghost use Rattle.std.specs.Prelude.{◌≡◌, ◌+◌, ◌<◌, ◌^◌, length, Some, None, if◌then◌else◌};
-ghost use Rattle.picture.specs.Reading.{is_zeroing, zeroed, hands_over, dependency_of, dependency_handed, dependency_in, zeroes, signal_at, spot_of};
-ghost use Rattle.aql_packet.specs.Reading.{decoded};
+ghost use Rattle.std.specs.Prelude.{◌≡◌, ◌<◌, ◌==◌, ◌++◌, ◌∷◌, [], OnOk, Some, None, if◌then◌else◌};
+ghost use Rattle.picture.specs.Arrows.{zero_by, zeros_after, last_zero, signal_at, dependency_of, dependency_at, arrow_from};
 
 use crate::element::Spot;
-use crate::reading::spot_of;
-use aql_packet::{Packet, PacketId, QueueId, SignalHandle, decode};
-use core_model::{Effect, Entry, Event};
+use crate::seats::{Seat, seat_of};
+use crate::words::is_seen;
+use aql_packet::{Packet, PacketId, QueueId, SignalHandle};
+use core_model::{Effect, Satisfied};
+use std::alloc::AllocError;
 
-// Whether a change makes a signal 0.
-fn is_zeroing(effect: &Effect, wanted: u64) -> bool
-    ensures { result ≡ is_zeroing wanted effect.now }
+/// A signal that was made 0, and where.
+#[derive(Clone, Copy)]
+pub struct Zero {
+    pub signal: SignalHandle,
+    pub spot: Spot,
+}
+
+// Puts a signal behind those that were made 0.
+fn put_zero(zeros: &mut Vec<Zero>, zero: Zero) -> Result<(), AllocError>
+    ensures { OnOk result (zeros.new.items ≡ zeros.old.items ++ zero ∷ []) }
+{
+    Ok(zeros.push(zero)?)
+}
+
+// Notes the signal that a change at a place makes 0, if it makes one 0.
+fn note_zero(zeros: &mut Vec<Zero>, spot: Spot, effect: &Effect) -> Result<(), AllocError>
+    ensures { OnOk result (zeros.new.items ≡ zeros.old.items ++ zero_by spot effect.now) }
 {
     match effect {
-        Effect::Signal { signal, new, .. } => signal.0 == wanted && *new == 0,
-        _ => false,
+        Effect::Signal { signal, new, .. } if *new == 0 => {
+            let signal = *signal;
+            put_zero(zeros, Zero { signal, spot })
+        }
+        _ => Ok(()),
     }
 }
 
-// Whether an entry makes a signal 0.
-fn zeroes(entry: &Entry, wanted: u64) -> bool
-    ensures { result ≡ zeroes wanted entry.now }
+/// Notes the signals that an entry at a place makes 0.
+pub(crate) fn note_zeros(
+    zeros: &mut Vec<Zero>,
+    spot: Spot,
+    effects: &[Effect],
+) -> Result<(), AllocError>
+    ensures { OnOk result (zeros.new.items ≡ zeros_after zeros.old.items spot effects.now) }
 {
-    entry
-        .effects
-        .as_slice()
-        .iter()
-        .any(|effect| is_zeroing(effect, wanted))
+    for effect in effects {
+        note_zero(zeros, spot, effect)?;
+    }
+    Ok(())
 }
 
-// Where an entry stands, if it makes a signal 0; else the place found before.
-fn latest(found: Option<Spot>, at: u32, entry: &Entry, wanted: u64) -> Option<Spot>
-    ensures { result ≡ (if zeroes wanted entry.now then Some (spot_of at entry.now) else found) }
+// The place of a zero, if it is of a signal; else the place found before.
+fn latest(found: Option<Spot>, zero: &Zero, signal: u64) -> Option<Spot>
+    ensures { result ≡ (if zero.now.signal.0 == signal then Some zero.now.spot else found) }
 {
-    if zeroes(entry, wanted) {
-        Some(spot_of(at, entry))
+    if zero.signal.0 == signal {
+        Some(zero.spot)
     } else {
         found
     }
 }
 
-/// Where the last of these entries stands that made a signal 0, if one did; they are numbered from 1.
-pub(crate) fn zeroed(wanted: u64, entries: &[Entry]) -> Option<Spot>
-    requires { length entries.now < 2 ^ 32 }
-    ensures { result ≡ zeroed wanted 0 None entries.now }
+// Where a signal was made 0 last.
+fn last_zero(signal: u64, zeros: &[Zero]) -> Option<Spot>
+    ensures { result ≡ last_zero signal None zeros.now }
 {
     let mut found = None;
-    'entries: for index in 0..entries.len() {
-        found = latest(found, index as u32 + 1, &entries[index], wanted);
+    'zeros: for index in 0..zeros.len() {
+        let zero = &zeros[index];
+        found = latest(found, zero, signal);
     }
     found
 }
@@ -62,9 +83,9 @@ fn signal_at(signals: &[SignalHandle; 5], position: usize) -> u64
 }
 
 // The signal that a packet depends on at a position; 0 is none.
-fn dependency_within(packet: &Packet, position: usize) -> u64
+fn dependency_of(packet: &Packet, position: usize) -> u64
     requires { position < 5 }
-    ensures { result ≡ dependency_of (Some packet.now) position }
+    ensures { result ≡ dependency_of packet.now position }
 {
     match packet {
         Packet::BarrierAnd(barrier) => signal_at(&barrier.dependencies, position),
@@ -73,58 +94,32 @@ fn dependency_within(packet: &Packet, position: usize) -> u64
     }
 }
 
-// The signal that the packet of these bytes depends on at a position; 0 is none.
-#[tactic(auto, using(crate::proofs::Packets::refused))]
-fn dependency_of(bytes: &[u8; 64], position: usize) -> u64
+// The signal that a packet in flight depends on at a position; 0 is none.
+fn dependency_at(seats: &[Seat], queue: QueueId, packet: PacketId, position: usize) -> u64
     requires { position < 5 }
-    ensures { result ≡ dependency_of (decoded bytes.now) position }
+    ensures { result ≡ dependency_at seats.now queue packet position }
 {
-    match decode(bytes) {
-        Ok(packet) => dependency_within(&packet, position),
-        Err(_) => 0,
+    match seat_of(seats, queue, packet) {
+        Some(seat) => dependency_of(&seat.flying.packet, position),
+        None => 0,
     }
 }
 
-// Whether an event hands over a packet.
-fn hands_over(event: &Event, queue: QueueId, packet: PacketId) -> bool
-    ensures { result ≡ hands_over queue packet event.now }
-{
-    match event {
-        Event::Take {
-            queue: of,
-            packet: taken,
-            ..
-        } => of.0 == queue.0 && taken.0 == packet.0,
-        _ => false,
-    }
-}
-
-// The signal at a position of the packet that an event hands over.
-fn dependency_handed(event: &Event, position: usize) -> u64
-    requires { position < 5 }
-    ensures { result ≡ dependency_handed position event.now }
-{
-    match event {
-        Event::Take { bytes, .. } => dependency_of(bytes, position),
-        _ => 0,
-    }
-}
-
-/// The signal at a position of a packet that these entries hand over; 0 is none.
-pub(crate) fn dependency_in(
+/// Where the arrow comes from to a poll that saw a signal as 0, at a position from 0.
+pub(crate) fn arrow_from(
+    seats: &[Seat],
+    zeros: &[Zero],
     queue: QueueId,
     packet: PacketId,
+    seen: Satisfied,
     position: usize,
-    entries: &[Entry],
-) -> u64
+) -> Option<Spot>
     requires { position < 5 }
-    ensures { result ≡ dependency_in queue packet position entries.now }
+    ensures { result ≡ arrow_from seats.now zeros.now queue packet seen position }
 {
-    'entries: for index in 0..entries.len() {
-        let entry = &entries[index];
-        if hands_over(&entry.event, queue, packet) {
-            return dependency_handed(&entry.event, position);
-        }
+    if is_seen(seen, position) {
+        last_zero(dependency_at(seats, queue, packet, position), zeros)
+    } else {
+        None
     }
-    0
 }

@@ -62,32 +62,71 @@ pub enum Sign {
     },
     /// A denial.
     Denial(QueueError),
-    /// A group that has run.
-    Group(u32),
+    /// A group of a packet that has run.
+    Group {
+        packet: PacketId,
+        group: u32,
+    },
     /// A fault of a packet in flight.
     Fault(QueueError),
-    /// A poll that saw a signal as 0.
-    Look(Satisfied),
+    /// A poll of a packet that saw a signal as 0.
+    Look {
+        packet: PacketId,
+        seen: Satisfied,
+    },
     /// A completion.
     Completion(PacketId),
     /// A client's own write.
     Write(ClientId),
     /// A client's own change of a signal.
     Change(ClientId),
-    /// A reload, which has no sign yet, or an entry that no legal history has.
+    /// A reload of a policy with so many allow rows and deny rows.
+    Reload {
+        allows: usize,
+        denies: usize,
+    },
+    /// An entry that no legal history has.
     Nothing,
 }
 
-/// A place of the page: above an entry's number, in a lane (0 is that of the administrator and of clients, the others
-/// are those of queues), in one of the lane's eight rows.
+/// A place of the page: below the place of an entry among those of the audit, from 1, where 0 is what the audit begins
+/// from; in a lane (0 is that of the administrator and of clients, the others are those of queues), in a row of it.
 #[derive(Clone, Copy)]
 pub struct Spot {
     pub at: u32,
-    pub lane: u32,
-    pub row: u32,
+    pub lane: u8,
+    pub row: u8,
 }
 
-/// What is drawn of an entry: a sign at a place, as wide as up to another entry's number.
+/// Which entries are asked for, by their numbers.
+#[derive(Clone, Copy, Debug, PartialEq, Eq)]
+pub struct Span {
+    /// The first, and where it isn't in the audit the audit's first.
+    pub first: u64,
+    /// The last, and where it isn't in the audit the audit's last.
+    pub last: u64,
+}
+
+/// What the elements of a layer of the page are drawn by.
+#[derive(Clone, Copy)]
+pub struct Frame {
+    /// Whether the layer is that of what goes over whole lanes, behind the other.
+    pub is_behind: bool,
+    /// How many entries came before the audit's.
+    pub before: u64,
+    /// How many entries of the audit aren't drawn, on the left.
+    pub skipped: u32,
+    /// How many queues have a lane.
+    pub lanes: u8,
+    /// The lowest row that is needed in a lane, from 0.
+    pub deepest: u8,
+    /// How far entries are from each other.
+    pub step: u8,
+    /// Of how many entries between two numbers on the axis none has its own there.
+    pub bare: u8,
+}
+
+/// What is drawn of an entry: a sign at a place, as wide as up to another entry's place.
 #[derive(Clone, Copy)]
 pub struct Element {
     pub spot: Spot,

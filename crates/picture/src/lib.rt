@@ -1,5 +1,6 @@
 //! A picture of a run: one SVG page with what the audit tells, each entry drawn once. `specs/` says what the page is:
-//! what each entry is drawn as (`Reading`), and what that is as text (`Shapes`, `Words`, `Escaping`, `Pages`).
+//! what each entry is drawn as (`Reading`), where packets stand (`Seats`) and arrows begin (`Arrows`), what the page is
+//! drawn by (`Frames`), and what all that is as text (`Shapes`, `Words`, `Escaping`, `Pages`).
 
 // The check tries its tactics on what is left of each proof.
 #![tactic(auto)]
@@ -7,12 +8,16 @@
 mod arrows;
 mod element;
 mod escape;
+mod frame;
 mod laws;
 mod page;
 mod reading;
+mod seats;
 mod shapes;
 mod words;
 
-pub use element::{Element, Ending, Sign, Spot, Work};
+pub use arrows::Zero;
+pub use element::{Element, Ending, Frame, Sign, Span, Spot, Work};
 pub use laws::escaped_text_has_no_markup;
 pub use page::write_page;
+pub use seats::Seat;

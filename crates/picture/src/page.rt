@@ -1,184 +1,314 @@
-//! The page: its head, and behind it what each entry is drawn as.
+//! The page: its head, and behind it two layers of what an audit begins from and of its entries.
 
-ghost use Rattle.std.specs.Prelude.{◌≡◌, ◌++◌, ◌+◌, ◌<◌, ◌≤◌, ◌^◌, OnOk, [], string_bytes, length, if◌then◌else◌};
-ghost use Rattle.picture.specs.Pages.{arrow_from, text_of_looks, text_of_arrows, text_of_drawn, text_of_entry, is_opening, queues_opened, text_of_measures, text_of_head, text_of_page, text_of_entries};
-ghost use Rattle.picture.specs.declared.page.TheConstants.{BEGIN, STYLE};
+ghost use Rattle.std.specs.Prelude.{◌≡◌, ◌++◌, ◌+◌, ◌<◌, ◌^◌, OnOk, [], flat_map, string_bytes, length, if◌then◌else◌};
+ghost use Rattle.picture.specs.Arrows.{arrow_from, zeros_after};
+ghost use Rattle.picture.specs.Pages.{text_of_looks, text_of_arrows, text_of_shown_arrows, text_of_drawn, text_of_entry, text_of_entries, text_of_stop, text_of_queue, text_of_queues, text_of_flight, text_of_layer, text_of_box, text_of_size, text_of_shrinking, text_of_measures, text_of_style, width_of_page, text_of_head, text_of_framed, text_of_page};
+ghost use Rattle.picture.specs.declared.page.TheConstants.{BEGIN};
+ghost use Rattle.picture.specs.Reading.{spot_of};
+ghost use Rattle.picture.specs.Seats.{seats_after};
 ghost use Rattle.picture.specs.Shapes.{text_of_arrow};
 
-use crate::arrows::{dependency_in, zeroed};
-use crate::element::{Element, Sign, Spot};
-use crate::reading::element_of;
-use crate::shapes::{left_of, top_of_lane, write_arrow, write_element, write_number};
-use crate::words::is_seen;
+use crate::arrows::{Zero, arrow_from, note_zeros};
+use crate::element::{Element, Frame, Sign, Span, Spot};
+use crate::frame::{asked_of, frame_of, front_of};
+use crate::reading::{bar_from_start, element_of, lane_from_start, spot_of, stop_before};
+use crate::seats::{Seat, pass_seats, seats_of};
+use crate::shapes::{foot_of, is_shown, left_of, write_arrow, write_element, write_number};
 use aql_packet::{PacketId, QueueId};
-use core_model::{Call, Entry, Event, Satisfied};
+use core_model::{Call, Entry, Event, Origin, QueueOrigin, Satisfied};
 use policy::Policy;
 use std::alloc::{AllocError, Global};
 
-/// How each page begins, up to its width.
-pub const BEGIN: &str = "<svg xmlns=\"http://www.w3.org/2000/svg\" width=\"";
+/// How each page begins, up to its measures.
+pub const BEGIN: &str = "<svg xmlns=\"http://www.w3.org/2000/svg\" viewBox=\"0 0 ";
 
-/// What stands at the head of each page: the colours of the classes, an arrow's head, and two words on the left.
+/// How each page's first tag ends: it is shown no larger than there is room.
+pub const SHRINKING: &str = " style=\"max-width:100%;height:auto\">\n";
+
+/// What stands at the head of each page: the colours of the classes, an arrow's head, what the colours mean, and the
+/// words on the left.
 pub const STYLE: &str =
-    "<style>text{font:10px sans-serif;fill:#222}.number{fill:#999}.page{fill:#fff}.lane rect{fill:#f3f4f6}.stop rect{fill:#b91c1c}.bar rect{stroke:#555;fill-opacity:.75}.finished rect{fill:#bbe5c4}.faulted rect{fill:#f9c0bb}.stopped rect{fill:#d5d5d5}.open rect{fill:#cfe3fb}.denial rect,.fault rect{fill:#dc2626}.denial text,.fault text{fill:#b91c1c}.group rect{fill:#15803d}.look rect{fill:#7c3aed}.completion rect{fill:#166534}.grant rect{fill:#16a34a}.revocation rect{fill:#ea580c}.write rect{fill:#2563eb}.change rect{fill:#9333ea}line{stroke:#7c3aed;marker-end:url(#head)}</style>\n<defs><marker id=\"head\" markerWidth=\"7\" markerHeight=\"6\" refX=\"6\" refY=\"3\" orient=\"auto\"><path d=\"M0,0L7,3L0,6z\" fill=\"#7c3aed\"/></marker></defs>\n<rect class=\"page\" width=\"100%\" height=\"100%\"/>\n<text x=\"6\" y=\"12\">entry</text><text x=\"6\" y=\"41\">administrator, hosts</text>\n";
+    "<style>text{font:10px sans-serif;fill:#222}.number{fill:#777}.page{fill:#fff}.lane rect{fill:#f3f4f6}.stop rect{fill:#b91c1c}.reload rect{fill:#0e7490;fill-opacity:.5}.reload text{fill:#0e7490;font-size:8px}.bar rect{stroke:#555;stroke-width:.5}.finished rect{fill:#bbe5c4}.faulted rect{fill:#f9c0bb}.stopped rect{fill:#d5d5d5}.open rect{fill:#cfe3fb}.denial rect,.fault rect{fill:#dc2626}.denial text,.fault text{fill:#b91c1c}.group rect{fill:#15803d}.look rect{fill:#7c3aed}.completion rect{fill:#14532d}.grant rect{fill:#16a34a}.revocation rect{fill:#ea580c}.write rect{fill:#2563eb}.change rect{fill:#9333ea}line{stroke:#7c3aed;stroke-opacity:.7;marker-end:url(#head)}#legend text{fill:#555}</style>\n<defs><marker id=\"head\" markerWidth=\"7\" markerHeight=\"6\" refX=\"6\" refY=\"3\" orient=\"auto\"><path d=\"M0,0L7,3L0,6z\" fill=\"#7c3aed\"/></marker></defs>\n<rect class=\"page\" width=\"100%\" height=\"100%\"/>\n<g id=\"legend\"><rect x=\"6\" y=\"6\" width=\"10\" height=\"10\" fill=\"#bbe5c4\"/><text x=\"20\" y=\"15\">completed</text><rect x=\"98\" y=\"6\" width=\"10\" height=\"10\" fill=\"#f9c0bb\"/><text x=\"112\" y=\"15\">faulted</text><rect x=\"190\" y=\"6\" width=\"10\" height=\"10\" fill=\"#d5d5d5\"/><text x=\"204\" y=\"15\">stopped</text><rect x=\"282\" y=\"6\" width=\"10\" height=\"10\" fill=\"#cfe3fb\"/><text x=\"296\" y=\"15\">in flight</text><rect x=\"374\" y=\"6\" width=\"10\" height=\"10\" fill=\"#15803d\"/><text x=\"388\" y=\"15\">group run</text><rect x=\"466\" y=\"6\" width=\"10\" height=\"10\" fill=\"#14532d\"/><text x=\"480\" y=\"15\">completion</text><rect x=\"558\" y=\"6\" width=\"10\" height=\"10\" fill=\"#7c3aed\"/><text x=\"572\" y=\"15\">poll</text><rect x=\"650\" y=\"6\" width=\"10\" height=\"10\" fill=\"#dc2626\"/><text x=\"664\" y=\"15\">denial, fault</text><rect x=\"6\" y=\"22\" width=\"10\" height=\"10\" fill=\"#16a34a\"/><text x=\"20\" y=\"31\">grant</text><rect x=\"98\" y=\"22\" width=\"10\" height=\"10\" fill=\"#ea580c\"/><text x=\"112\" y=\"31\">revocation</text><rect x=\"190\" y=\"22\" width=\"10\" height=\"10\" fill=\"#2563eb\"/><text x=\"204\" y=\"31\">write</text><rect x=\"282\" y=\"22\" width=\"10\" height=\"10\" fill=\"#9333ea\"/><text x=\"296\" y=\"31\">signal</text><rect x=\"374\" y=\"22\" width=\"10\" height=\"10\" fill=\"#0e7490\"/><text x=\"388\" y=\"31\">reload</text><rect x=\"466\" y=\"22\" width=\"10\" height=\"10\" fill=\"#b91c1c\"/><text x=\"480\" y=\"31\">stop of a queue</text><line class=\"key\" x1=\"566\" y1=\"27\" x2=\"590\" y2=\"27\"/><text x=\"596\" y=\"31\">0 seen by a poll</text></g>\n<text x=\"6\" y=\"52\">entry</text><text x=\"6\" y=\"82\">administrator, clients</text>\n";
 
-// Where the arrow to a poll comes from that saw a signal as 0, at a position from 0.
-fn arrow_from(
-    before: &[Entry],
-    queue: QueueId,
-    packet: PacketId,
-    seen: Satisfied,
-    position: usize,
-) -> Option<Spot>
-    requires place { position < 5 }
-    requires count { length before.now < 2 ^ 32 }
-    ensures { result ≡ arrow_from before.now queue packet seen position }
-{
-    if is_seen(seen, position) {
-        zeroed(dependency_in(queue, packet, position, before), before)
-    } else {
-        None
-    }
-}
+/// How wide a page is at the least, which what the colours mean wants.
+pub const WIDTH: u64 = 760;
+
+/// How much stands to the right of the entries, for the words of the last of them.
+pub const END: u64 = 190;
 
 // Writes the arrow to a poll that saw a signal as 0, at a position from 0.
 fn write_look(
     out: &mut String,
-    before: &[Entry],
+    frame: &Frame,
+    seats: &[Seat],
+    zeros: &[Zero],
     to: Spot,
     queue: QueueId,
     packet: PacketId,
     seen: Satisfied,
     position: usize,
 ) -> Result<(), AllocError>
-    requires place { position < 5 }
-    requires count { length before.now < 2 ^ 32 }
-    ensures { OnOk result (string_bytes out.new ≡ string_bytes out.old ++ text_of_arrow (arrow_from before.now queue packet seen position) to) }
+    requires { position < 5 }
+    ensures { OnOk result (string_bytes out.new ≡ string_bytes out.old ++ text_of_arrow frame.now (arrow_from seats.now zeros.now queue packet seen position) to) }
 {
-    write_arrow(out, arrow_from(before, queue, packet, seen, position), to)
+    let from = arrow_from(seats, zeros, queue, packet, seen, position);
+    write_arrow(out, frame, from, to)
 }
 
 // Writes the arrows to a poll.
 fn write_looks(
     out: &mut String,
-    before: &[Entry],
+    frame: &Frame,
+    seats: &[Seat],
+    zeros: &[Zero],
     to: Spot,
     queue: QueueId,
     packet: PacketId,
     seen: Satisfied,
 ) -> Result<(), AllocError>
-    requires { length before.now < 2 ^ 32 }
-    ensures { OnOk result (string_bytes out.new ≡ string_bytes out.old ++ text_of_looks before.now to queue packet seen) }
+    ensures { OnOk result (string_bytes out.new ≡ string_bytes out.old ++ text_of_looks frame.now seats.now zeros.now to queue packet seen) }
 {
-    write_look(out, before, to, queue, packet, seen, 0)?;
-    write_look(out, before, to, queue, packet, seen, 1)?;
-    write_look(out, before, to, queue, packet, seen, 2)?;
-    write_look(out, before, to, queue, packet, seen, 3)?;
-    write_look(out, before, to, queue, packet, seen, 4)
+    write_look(out, frame, seats, zeros, to, queue, packet, seen, 0)?;
+    write_look(out, frame, seats, zeros, to, queue, packet, seen, 1)?;
+    write_look(out, frame, seats, zeros, to, queue, packet, seen, 2)?;
+    write_look(out, frame, seats, zeros, to, queue, packet, seen, 3)?;
+    write_look(out, frame, seats, zeros, to, queue, packet, seen, 4)
 }
 
 // Writes the arrows to an entry.
 fn write_arrows(
     out: &mut String,
-    before: &[Entry],
+    frame: &Frame,
+    seats: &[Seat],
+    zeros: &[Zero],
     to: Spot,
     event: &Event,
     sign: &Sign,
 ) -> Result<(), AllocError>
-    requires { length before.now < 2 ^ 32 }
-    ensures { OnOk result (string_bytes out.new ≡ string_bytes out.old ++ text_of_arrows before.now to event.now sign.now) }
+    ensures { OnOk result (string_bytes out.new ≡ string_bytes out.old ++ text_of_arrows frame.now seats.now zeros.now to event.now sign.now) }
 {
     match event {
         Event::Call(Call::Poll { queue, packet }) => match sign {
-            Sign::Look(seen) => write_looks(out, before, to, *queue, *packet, *seen),
+            Sign::Look { seen, .. } => {
+                write_looks(out, frame, seats, zeros, to, *queue, *packet, *seen)
+            }
             _ => Ok(()),
         },
         _ => Ok(()),
     }
 }
 
-// Writes an entry behind others: its number, what it is drawn as, and the arrows to it.
+// Writes the arrows to an entry that is drawn.
+fn write_shown_arrows(
+    out: &mut String,
+    frame: &Frame,
+    seats: &[Seat],
+    zeros: &[Zero],
+    event: &Event,
+    element: &Element,
+) -> Result<(), AllocError>
+    ensures { OnOk result (string_bytes out.new ≡ string_bytes out.old ++ text_of_shown_arrows frame.now seats.now zeros.now event.now element.now) }
+{
+    if is_shown(frame, element) {
+        write_arrows(out, frame, seats, zeros, element.spot, event, &element.sign)
+    } else {
+        Ok(())
+    }
+}
+
+// Writes an entry behind these seats and zeros: its number, what it is drawn as, and the arrows to it.
 #[tactic(auto, unfolding(crate::specs::Pages::text_of_drawn))]
 fn write_drawn(
     alloc: Global,
     out: &mut String,
+    frame: &Frame,
     policy: &Policy,
-    before: &[Entry],
+    seats: &[Seat],
+    zeros: &[Zero],
     at: u32,
-    event: &Event,
+    entry: &Entry,
     element: &Element,
 ) -> Result<(), AllocError>
-    requires { length before.now < 2 ^ 32 }
-    ensures { OnOk result (string_bytes out.new ≡ string_bytes out.old ++ text_of_drawn policy.now before.now at event.now element.now) }
+    ensures { OnOk result (string_bytes out.new ≡ string_bytes out.old ++ text_of_drawn frame.now policy.now seats.now zeros.now at entry.now element.now) }
 {
-    write_number(out, at)?;
-    write_element(alloc, out, policy, element)?;
-    write_arrows(out, before, element.spot, event, &element.sign)
+    write_number(out, frame, at)?;
+    write_element(alloc, out, frame, policy, element, entry.effects.as_slice())?;
+    write_shown_arrows(out, frame, seats, zeros, &entry.event, element)
 }
 
-// Writes an entry behind others, and before others.
+// Writes the entry at a place behind these seats and zeros, and before others.
 fn write_entry(
     alloc: Global,
     out: &mut String,
+    frame: &Frame,
     policy: &Policy,
-    before: &[Entry],
+    seats: &[Seat],
+    zeros: &[Zero],
+    at: u32,
     entry: &Entry,
     after: &[Entry],
 ) -> Result<(), AllocError>
-    requires { length before.now + 1 + length after.now < 2 ^ 32 }
-    ensures { OnOk result (string_bytes out.new ≡ string_bytes out.old ++ text_of_entry policy.now before.now entry.now after.now) }
+    requires { at + length after.now < 2 ^ 32 }
+    ensures { OnOk result (string_bytes out.new ≡ string_bytes out.old ++ text_of_entry frame.now policy.now seats.now zeros.now at entry.now after.now) }
 {
-    let at = before.len() as u32 + 1;
-    let element = element_of(at, entry, after);
-    write_drawn(alloc, out, policy, before, at, &entry.event, &element)
+    let element = element_of(seats, at, entry, after);
+    write_drawn(alloc, out, frame, policy, seats, zeros, at, entry, &element)
+}
+
+// Goes on behind the entry at a place: what it makes 0 is noted, and packets take and leave their seats.
+fn pass_entry(
+    seats: &mut Vec<Seat>,
+    zeros: &mut Vec<Zero>,
+    at: u32,
+    entry: &Entry,
+) -> Result<(), AllocError>
+    ensures zeros { OnOk result (zeros.new.items ≡ zeros_after zeros.old.items (spot_of seats.old.items at entry.now) entry.now.effects) }
+    ensures seats { OnOk result (seats.new.items ≡ seats_after seats.old.items entry.now) }
+{
+    let spot = spot_of(seats.as_slice(), at, entry);
+    note_zeros(zeros, spot, entry.effects.as_slice())?;
+    pass_seats(seats, entry)
 }
 
 // Writes entries, each in turn.
 fn write_entries(
     alloc: Global,
     out: &mut String,
+    frame: &Frame,
     policy: &Policy,
+    seats: Vec<Seat>,
     entries: &[Entry],
 ) -> Result<(), AllocError>
     requires { length entries.now < 2 ^ 32 }
-    ensures { OnOk result (string_bytes out.new ≡ string_bytes out.old ++ text_of_entries policy.now [] entries.now) }
+    ensures { OnOk result (string_bytes out.new ≡ string_bytes out.old ++ text_of_entries frame.now policy.now seats.items [] 0 entries.now) }
 {
+    let mut seats = seats;
+    let mut zeros = Vec::new(alloc);
     'drawn: for index in 0..entries.len() {
-        let before = &entries[..index];
+        let entry = &entries[index];
         let after = &entries[index + 1..];
-        write_entry(alloc, out, policy, before, &entries[index], after)?;
+        let at = index as u32 + 1;
+        write_entry(
+            alloc,
+            out,
+            frame,
+            policy,
+            seats.as_slice(),
+            zeros.as_slice(),
+            at,
+            entry,
+            after,
+        )?;
+        pass_entry(&mut seats, &mut zeros, at, entry)?;
     }
     Ok(())
 }
 
-// Whether an event opens a queue.
-fn is_opening(event: &Event) -> bool
-    ensures { result ≡ is_opening event.now }
+// Writes the stop of a queue that was stopped before.
+fn write_stop(
+    alloc: Global,
+    out: &mut String,
+    frame: &Frame,
+    policy: &Policy,
+    queue: QueueId,
+    was_stopped: bool,
+) -> Result<(), AllocError>
+    ensures { OnOk result (string_bytes out.new ≡ string_bytes out.old ++ text_of_stop frame.now policy.now queue was_stopped) }
 {
-    matches!(event, Event::Open { .. })
-}
-
-// So many queues, or one more if an event opens one.
-fn with_opening(count: u32, event: &Event) -> u32
-    requires { count + 1 < 2 ^ 32 }
-    ensures exact { result ≡ (if is_opening event.now then count + 1 else count) }
-    ensures bound { result ≤ count + 1 }
-{
-    if is_opening(event) { count + 1 } else { count }
-}
-
-// How many queues entries open.
-fn queues_opened(entries: &[Entry]) -> u32
-    requires { length entries.now < 2 ^ 32 }
-    ensures exact { result ≡ queues_opened 0 entries.now }
-    ensures bound { result ≤ length entries.now }
-{
-    let mut count = 0;
-    'entries: for index in 0..entries.len() {
-        let entry = &entries[index];
-        count = with_opening(count, &entry.event);
+    if was_stopped {
+        write_element(alloc, out, frame, policy, &stop_before(queue), &[])
+    } else {
+        Ok(())
     }
-    count
+}
+
+// Writes the lane of a queue with which an audit of so many entries begins.
+fn write_queue(
+    alloc: Global,
+    out: &mut String,
+    frame: &Frame,
+    policy: &Policy,
+    count: u32,
+    queue: QueueId,
+    origin: &QueueOrigin,
+) -> Result<(), AllocError>
+    ensures { OnOk result (string_bytes out.new ≡ string_bytes out.old ++ text_of_queue frame.now policy.now count queue origin.now) }
+{
+    let lane = lane_from_start(count, queue, origin.opening);
+    write_element(alloc, out, frame, policy, &lane, &[])?;
+    write_stop(alloc, out, frame, policy, queue, origin.stopped)
+}
+
+// Writes the lanes of queues, each in turn.
+fn write_queues(
+    alloc: Global,
+    out: &mut String,
+    frame: &Frame,
+    policy: &Policy,
+    count: u32,
+    queues: &[QueueOrigin],
+) -> Result<(), AllocError>
+    ensures { OnOk result (string_bytes out.new ≡ string_bytes out.old ++ text_of_queues frame.now policy.now count 0 queues.now) }
+{
+    'queues: for index in 0..queues.len() {
+        let queue = QueueId(index as u64 + 1);
+        write_queue(alloc, out, frame, policy, count, queue, &queues[index])?;
+    }
+    Ok(())
+}
+
+// Writes the bar of a packet in flight with which an audit begins.
+fn write_flight(
+    alloc: Global,
+    out: &mut String,
+    frame: &Frame,
+    policy: &Policy,
+    entries: &[Entry],
+    seat: &Seat,
+) -> Result<(), AllocError>
+    requires { length entries.now < 2 ^ 32 }
+    ensures { OnOk result (string_bytes out.new ≡ string_bytes out.old ++ text_of_flight frame.now policy.now entries.now seat.now) }
+{
+    let bar = bar_from_start(entries, seat);
+    write_element(alloc, out, frame, policy, &bar, &[])
+}
+
+// Writes the bars of packets in flight with which an audit begins.
+fn write_flights(
+    alloc: Global,
+    out: &mut String,
+    frame: &Frame,
+    policy: &Policy,
+    entries: &[Entry],
+    seats: &[Seat],
+) -> Result<(), AllocError>
+    requires { length entries.now < 2 ^ 32 }
+    ensures { OnOk result (string_bytes out.new ≡ string_bytes out.old ++ flat_map (text_of_flight frame.now policy.now entries.now) seats.now) }
+{
+    for seat in seats {
+        write_flight(alloc, out, frame, policy, entries, seat)?;
+    }
+    Ok(())
+}
+
+// Writes a layer.
+#[tactic(auto, unfolding(crate::specs::Pages::text_of_layer))]
+fn write_layer(
+    alloc: Global,
+    out: &mut String,
+    frame: &Frame,
+    origin: &Origin,
+    entries: &[Entry],
+) -> Result<(), AllocError>
+    requires { length entries.now < 2 ^ 32 }
+    ensures { OnOk result (string_bytes out.new ≡ string_bytes out.old ++ text_of_layer frame.now origin.now entries.now) }
+{
+    let policy = &origin.policy;
+    let seats = seats_of(alloc, origin.packets.as_slice())?;
+    let count = entries.len() as u32;
+    write_queues(alloc, out, frame, policy, count, origin.queues.as_slice())?;
+    write_flights(alloc, out, frame, policy, entries, seats.as_slice())?;
+    write_entries(alloc, out, frame, policy, seats, entries)
 }
 
 // Writes how each page begins.
@@ -188,45 +318,96 @@ fn write_begin(out: &mut String) -> Result<(), AllocError>
     out.push_str(BEGIN)
 }
 
+// Writes the part of the plane that the page shows.
+fn write_box(out: &mut String, width: u64, height: u64) -> Result<(), AllocError>
+    ensures { OnOk result (string_bytes out.new ≡ string_bytes out.old ++ text_of_box width height) }
+{
+    write!(out, "{width} {height}\"")
+}
+
+// Writes how large the page is shown.
+fn write_size(out: &mut String, width: u64, height: u64) -> Result<(), AllocError>
+    ensures { OnOk result (string_bytes out.new ≡ string_bytes out.old ++ text_of_size width height) }
+{
+    write!(out, " width=\"{width}\" height=\"{height}\"")
+}
+
+// Writes that the page is shown no larger than there is room.
+#[tactic(auto, unfolding(crate::specs::Pages::text_of_shrinking))]
+fn write_shrinking(out: &mut String) -> Result<(), AllocError>
+    ensures { OnOk result (string_bytes out.new ≡ string_bytes out.old ++ text_of_shrinking) }
+{
+    out.push_str(SHRINKING)
+}
+
 // Writes how wide and how high the page is.
+#[tactic(auto, unfolding(crate::specs::Pages::text_of_measures))]
 fn write_measures(out: &mut String, width: u64, height: u64) -> Result<(), AllocError>
     ensures { OnOk result (string_bytes out.new ≡ string_bytes out.old ++ text_of_measures width height) }
 {
-    writeln!(out, "{width}\" height=\"{height}\">")
+    write_box(out, width, height)?;
+    write_size(out, width, height)?;
+    write_shrinking(out)
 }
 
 // Writes what stands at the head of each page.
+#[tactic(auto, unfolding(crate::specs::Pages::text_of_style))]
 fn write_style(out: &mut String) -> Result<(), AllocError>
-    ensures { OnOk result (string_bytes out.new ≡ string_bytes out.old ++ STYLE.now) }
+    ensures { OnOk result (string_bytes out.new ≡ string_bytes out.old ++ text_of_style) }
 {
     out.push_str(STYLE)
 }
 
+// How wide the page of so many entries is.
+fn width_of_page(frame: &Frame, count: u32) -> u64
+    ensures { result ≡ width_of_page frame.now count }
+{
+    let wanted = left_of(frame, count) + END;
+    if WIDTH < wanted { wanted } else { WIDTH }
+}
+
 // Writes the page's head.
 #[tactic(auto, unfolding(crate::specs::Pages::text_of_head))]
-fn write_head(out: &mut String, entries: u32, queues: u32) -> Result<(), AllocError>
-    requires entries { entries + 6 < 2 ^ 32 }
-    requires queues { queues + 1 < 2 ^ 32 }
-    ensures { OnOk result (string_bytes out.new ≡ string_bytes out.old ++ text_of_head entries queues) }
+fn write_head(out: &mut String, frame: &Frame, count: u32) -> Result<(), AllocError>
+    ensures { OnOk result (string_bytes out.new ≡ string_bytes out.old ++ text_of_head frame.now count) }
 {
     write_begin(out)?;
-    write_measures(out, left_of(entries + 6), top_of_lane(queues + 1))?;
+    write_measures(out, width_of_page(frame, count), foot_of(frame))?;
     write_style(out)
 }
 
-/// Writes the page of an audit. It is what `text_of_page` says, whatever the audit is: each entry is drawn in turn,
-/// once, and what is said of it is escaped.
-#[tactic(auto, unfolding(crate::specs::Pages::text_of_page))]
+// Writes the page of these entries.
+#[tactic(auto, unfolding(crate::specs::Pages::text_of_framed))]
+fn write_framed(
+    alloc: Global,
+    out: &mut String,
+    frame: &Frame,
+    origin: &Origin,
+    entries: &[Entry],
+) -> Result<(), AllocError>
+    requires { length entries.now < 2 ^ 32 }
+    ensures { OnOk result (string_bytes out.new ≡ string_bytes out.old ++ text_of_framed frame.now origin.now entries.now) }
+{
+    write_head(out, frame, entries.len() as u32)?;
+    write_layer(alloc, out, frame, origin, entries)?;
+    write_layer(alloc, out, &front_of(frame), origin, entries)?;
+    out.push_str("</svg>\n")
+}
+
+/// Writes the page of an audit, by what it begins from and its entries, of which these are asked for. It is what
+/// `text_of_page` says, whatever the audit is: of 5,000 entries at the most each is drawn in turn, once, behind the
+/// queues and packets in flight from the start on, and what is said of it is escaped.
 pub fn write_page(
     alloc: Global,
     out: &mut String,
-    policy: &Policy,
+    origin: &Origin,
     entries: &[Entry],
+    span: Span,
 ) -> Result<(), AllocError>
-    requires { length entries.now + 6 < 2 ^ 32 }
-    ensures { OnOk result (string_bytes out.new ≡ string_bytes out.old ++ text_of_page policy.now entries.now) }
+    requires { length entries.now < 2 ^ 32 }
+    ensures { OnOk result (string_bytes out.new ≡ string_bytes out.old ++ text_of_page origin.now entries.now span) }
 {
-    write_head(out, entries.len() as u32, queues_opened(entries))?;
-    write_entries(alloc, out, policy, entries)?;
-    out.push_str("</svg>\n")
+    let asked = asked_of(origin.before, span, entries);
+    let frame = frame_of(alloc, origin, asked, span)?;
+    write_framed(alloc, out, &frame, origin, asked)
 }

@@ -1,14 +1,14 @@
 //! What an entry is drawn as. This file alone speaks of events.
 
-ghost use Rattle.std.specs.Prelude.{◌≡◌, ◌+◌, ◌<◌, ◌^◌, length};
-ghost use Rattle.picture.specs.Reading.{lane_of_queue, in_lane, at_packet, at_hosts, opened, spot_of, is_release, releases, ending_of, end_of, work_of, sign_of_take, sign_of_work, sign_of_call, sign_of_poll, sign_of, reach_of, element_of};
+ghost use Rattle.std.specs.Prelude.{◌≡◌, ◌+◌, ◌<◌, ◌^◌, length, Some, IfOk};
+ghost use Rattle.picture.specs.Reading.{greater, lane_of_queue, in_lane, in_row, at_hosts, opened, spot_of, deepest_in, deepest_of, ending_of, end_of, work_of, sign_of_take, sign_of_work, sign_of_call, sign_of_poll, sign_of, reach_of, element_of, lane_from_start, stop_before, bar_from_start};
 ghost use Rattle.aql_packet.specs.Reading.{decoded};
 
 use crate::element::{Element, Ending, Sign, Spot, Work};
+use crate::seats::{Seat, free_row, pass_seats, releases, row_at};
 use aql_packet::{Packet, PacketId, QueueId, decode};
-use core_model::{
-    Call, Effect, Entry, Event, MOST_IN_FLIGHT, Outcome, Polled, QUEUES, Taken, Worked,
-};
+use core_model::{Call, Entry, Event, Opening, Outcome, Polled, QUEUES, Taken, Worked};
+use std::alloc::AllocError;
 
 /// Where a sign ends, and how its packet ended.
 #[derive(Clone, Copy)]
@@ -17,14 +17,21 @@ pub(crate) struct End {
     pub ending: Ending,
 }
 
+// The greater of two numbers.
+fn greater(a: u8, b: u8) -> u8
+    ensures { result ≡ greater a b }
+{
+    if a < b { b } else { a }
+}
+
 // The lane of a queue.
-fn lane_of_queue(queue: QueueId) -> u32
+fn lane_of_queue(queue: QueueId) -> u8
     ensures { result ≡ lane_of_queue queue }
 {
     if queue.0 > QUEUES as u64 {
-        QUEUES as u32
+        QUEUES as u8
     } else {
-        queue.0 as u32
+        queue.0 as u8
     }
 }
 
@@ -39,14 +46,14 @@ fn in_lane(at: u32, queue: QueueId) -> Spot
     }
 }
 
-// In the row of a packet.
-fn at_packet(at: u32, queue: QueueId, packet: PacketId) -> Spot
-    ensures { result ≡ at_packet at queue packet }
+// In a row of the lane of a queue.
+fn in_row(at: u32, queue: QueueId, row: u8) -> Spot
+    ensures { result ≡ in_row at queue row }
 {
     Spot {
         at,
         lane: lane_of_queue(queue),
-        row: (packet.0 % MOST_IN_FLIGHT as u64) as u32,
+        row,
     }
 }
 
@@ -71,17 +78,19 @@ fn opened(outcome: &Outcome) -> QueueId
     }
 }
 
-/// Where an entry stands.
-pub(crate) fn spot_of(at: u32, entry: &Entry) -> Spot
-    ensures { result ≡ spot_of at entry.now }
+/// Where an entry stands, by the seats before it.
+pub(crate) fn spot_of(seats: &[Seat], at: u32, entry: &Entry) -> Spot
+    ensures { result ≡ spot_of seats.now at entry.now }
 {
     match &entry.event {
         Event::Open { .. } => in_lane(at, opened(&entry.outcome)),
         Event::Call(Call::Stop { queue }) => in_lane(at, *queue),
-        Event::Take { queue, packet, .. }
-        | Event::Call(Call::RunNext { queue, packet })
+        Event::Take { queue, .. } => in_row(at, *queue, free_row(seats, *queue)),
+        Event::Call(Call::RunNext { queue, packet })
         | Event::Call(Call::Poll { queue, packet })
-        | Event::Call(Call::Finish { queue, packet }) => at_packet(at, *queue, *packet),
+        | Event::Call(Call::Finish { queue, packet }) => {
+            in_row(at, *queue, row_at(seats, *queue, *packet))
+        }
         Event::Call(Call::Grant { .. })
         | Event::Call(Call::Revoke { .. })
         | Event::Reload { .. }
@@ -90,28 +99,30 @@ pub(crate) fn spot_of(at: u32, entry: &Entry) -> Spot
     }
 }
 
-// Whether a change releases a packet.
-fn is_release(effect: &Effect, queue: QueueId, packet: PacketId) -> bool
-    ensures { result ≡ is_release queue packet effect.now }
+// The lowest row that seats are in.
+fn deepest_of(seats: &[Seat]) -> u8
+    ensures { result ≡ deepest_of 0 seats.now }
 {
-    match effect {
-        Effect::Release {
-            queue: of,
-            packet: released,
-        } => of.0 == queue.0 && released.0 == packet.0,
-        _ => false,
+    let mut deepest = 0;
+    'seats: for index in 0..seats.len() {
+        let seat = &seats[index];
+        deepest = greater(deepest, seat.row);
     }
+    deepest
 }
 
-// Whether an entry releases a packet.
-fn releases(entry: &Entry, queue: QueueId, packet: PacketId) -> bool
-    ensures { result ≡ releases queue packet entry.now }
+/// The lowest row that entries and the seats before them stand in.
+pub(crate) fn deepest_in(seats: Vec<Seat>, entries: &[Entry]) -> Result<u8, AllocError>
+    ensures { IfOk result (λ row. row ≡ deepest_in (deepest_of 0 seats.items) seats.items entries.now) }
 {
-    entry
-        .effects
-        .as_slice()
-        .iter()
-        .any(|effect| is_release(effect, queue, packet))
+    let mut seats = seats;
+    let mut deepest = deepest_of(seats.as_slice());
+    'entries: for index in 0..entries.len() {
+        let entry = &entries[index];
+        deepest = greater(deepest, spot_of(seats.as_slice(), 0, entry).row);
+        pass_seats(&mut seats, entry)?;
+    }
+    Ok(deepest)
 }
 
 // How a packet ended that an entry releases.
@@ -151,10 +162,7 @@ fn work_of(bytes: &[u8; 64]) -> Work
     ensures { result ≡ work_of (decoded bytes.now) }
 {
     match decode(bytes) {
-        Ok(Packet::Kernel(dispatch)) => Work::Kernel(dispatch.kernel_object),
-        Ok(Packet::Agent(dispatch)) => Work::Agent(dispatch.function),
-        Ok(Packet::BarrierAnd(_)) => Work::BarrierAnd,
-        Ok(Packet::BarrierOr(_)) => Work::BarrierOr,
+        Ok(packet) => work_in(&packet),
         Err(_) => Work::Agent(0),
     }
 }
@@ -175,23 +183,32 @@ fn sign_of_take(packet: PacketId, bytes: &[u8; 64], ending: Ending, outcome: &Ou
 }
 
 // What the work of a group is drawn as.
-fn sign_of_work(outcome: &Outcome) -> Sign
-    ensures { result ≡ sign_of_work outcome.now }
+fn sign_of_work(packet: PacketId, outcome: &Outcome) -> Sign
+    ensures { result ≡ sign_of_work packet outcome.now }
 {
     match outcome {
-        Outcome::Worked(Worked::Ran { group, .. }) => Sign::Group(*group),
+        Outcome::Worked(Worked::Ran { group, .. }) => Sign::Group {
+            packet,
+            group: *group,
+        },
         Outcome::Worked(Worked::Faulted(error)) => Sign::Fault(*error),
         _ => Sign::Nothing,
     }
 }
 
 // What a poll is drawn as.
-fn sign_of_poll(outcome: &Outcome) -> Sign
-    ensures { result ≡ sign_of_poll outcome.now }
+fn sign_of_poll(packet: PacketId, outcome: &Outcome) -> Sign
+    ensures { result ≡ sign_of_poll packet outcome.now }
 {
     match outcome {
-        Outcome::Polled(Polled::Pending(seen)) => Sign::Look(*seen),
-        Outcome::Polled(Polled::Ready(seen)) => Sign::Look(*seen),
+        Outcome::Polled(Polled::Pending(seen)) => Sign::Look {
+            packet,
+            seen: *seen,
+        },
+        Outcome::Polled(Polled::Ready(seen)) => Sign::Look {
+            packet,
+            seen: *seen,
+        },
         Outcome::Polled(Polled::Failed(error)) => Sign::Fault(*error),
         _ => Sign::Nothing,
     }
@@ -221,8 +238,8 @@ fn sign_of_call(call: &Call, outcome: &Outcome) -> Sign
             rights: *rights,
         },
         Call::Stop { .. } => Sign::Stop,
-        Call::RunNext { .. } => sign_of_work(outcome),
-        Call::Poll { .. } => sign_of_poll(outcome),
+        Call::RunNext { packet, .. } => sign_of_work(*packet, outcome),
+        Call::Poll { packet, .. } => sign_of_poll(*packet, outcome),
         Call::Finish { packet, .. } => Sign::Completion(*packet),
         Call::HostWrite { client, .. } => Sign::Write(*client),
         Call::ChangeSignal { client, .. } => Sign::Change(*client),
@@ -241,7 +258,10 @@ fn sign_of(ending: Ending, event: &Event, outcome: &Outcome) -> Sign
         },
         Event::Take { packet, bytes, .. } => sign_of_take(*packet, bytes, ending, outcome),
         Event::Call(call) => sign_of_call(call, outcome),
-        Event::Reload { .. } => Sign::Nothing,
+        Event::Reload { rows } => Sign::Reload {
+            allows: rows.allows.len(),
+            denies: rows.denies.len(),
+        },
     }
 }
 
@@ -263,15 +283,72 @@ fn reach_of(at: u32, event: &Event, after: &[Entry]) -> End
     }
 }
 
-/// What is drawn of the entry of a number, before others.
-pub(crate) fn element_of(at: u32, entry: &Entry, after: &[Entry]) -> Element
+/// What is drawn of the entry at a place, from 1, behind these seats and before others.
+pub(crate) fn element_of(seats: &[Seat], at: u32, entry: &Entry, after: &[Entry]) -> Element
     requires { at + length after.now < 2 ^ 32 }
-    ensures { result ≡ element_of at entry.now after.now }
+    ensures { result ≡ element_of seats.now at entry.now after.now }
 {
     let reach = reach_of(at, &entry.event, after);
     Element {
-        spot: spot_of(at, entry),
+        spot: spot_of(seats, at, entry),
         until: reach.at,
         sign: sign_of(reach.ending, &entry.event, &entry.outcome),
+    }
+}
+
+/// The lane of a queue with which an audit of so many entries begins.
+pub(crate) fn lane_from_start(count: u32, queue: QueueId, opening: Opening) -> Element
+    ensures { result ≡ lane_from_start count queue opening }
+{
+    Element {
+        spot: in_lane(0, queue),
+        until: count,
+        sign: Sign::Lane {
+            queue,
+            client: opening.client,
+            agent: opening.agent,
+        },
+    }
+}
+
+/// The stop of a queue that was stopped before.
+pub(crate) fn stop_before(queue: QueueId) -> Element
+    ensures { result ≡ stop_before queue }
+{
+    Element {
+        spot: in_lane(0, queue),
+        until: 0,
+        sign: Sign::Stop,
+    }
+}
+
+// What a packet is.
+fn work_in(packet: &Packet) -> Work
+    ensures { result ≡ work_of (Some packet.now) }
+{
+    match packet {
+        Packet::Kernel(dispatch) => Work::Kernel(dispatch.kernel_object),
+        Packet::Agent(dispatch) => Work::Agent(dispatch.function),
+        Packet::BarrierAnd(_) => Work::BarrierAnd,
+        Packet::BarrierOr(_) => Work::BarrierOr,
+    }
+}
+
+/// The bar of a packet that is in flight from the start on.
+pub(crate) fn bar_from_start(entries: &[Entry], seat: &Seat) -> Element
+    requires { length entries.now < 2 ^ 32 }
+    ensures { result ≡ bar_from_start entries.now seat.now }
+{
+    let queue = seat.flying.queue;
+    let packet = seat.flying.id;
+    let end = end_of(queue, packet, 0, entries);
+    Element {
+        spot: in_row(0, queue, seat.row),
+        until: end.at,
+        sign: Sign::Bar {
+            packet,
+            work: work_in(&seat.flying.packet),
+            ending: end.ending,
+        },
     }
 }

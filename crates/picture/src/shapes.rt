@@ -1,109 +1,192 @@
 //! What is drawn, as text of SVG.
 
-ghost use Rattle.std.specs.Prelude.{◌≡◌, ◌++◌, ◌-◌, ◌<◌, ◌^◌, OnOk, IfOk, string_bytes};
-ghost use Rattle.picture.specs.Shapes.{left_of, top_of_lane, top_of_row, width_of, is_of_lane, top_of, height_of, class_of_ending, class_of, is_labelled, indent_of, text_of_rectangle, text_of_words, text_of_label, text_of_opening, text_of_outline, text_with, text_of_element, text_of_arrow, text_of_number};
-ghost use Rattle.picture.specs.Words.{words_of};
+ghost use Rattle.std.specs.Prelude.{◌≡◌, ◌++◌, ◌<◌, ◌^◌, ◌+◌, ◌*◌, OnOk, IfOk, not, nat_lt, string_bytes};
+ghost use Rattle.picture.specs.Shapes.{left_of, height_of_lane, top_of_lane, foot_of, top_of_row, width_of_mark, width_of_tick, reach_of, width_of, is_behind, is_tick, drop_of, top_of, height_of, class_of_ending, class_of, is_labelled, left_of_words, line_of_words, label_of, text_of_rectangle, text_of_words, text_of_label, number_of, text_of_place, text_of_opening, text_of_outline, text_with, is_in_layer, is_shown, text_of_element, text_of_arrow, is_numbered, text_of_number};
+ghost use Rattle.picture.specs.Words.{words_of, told_of};
+ghost use Rattle.picture.specs.declared.shapes.TheConstants.{LETTER, THIN};
 
-use crate::element::{Element, Ending, Sign, Spot};
+use crate::element::{Element, Ending, Frame, Sign, Spot};
 use crate::escape::write_escaped;
-use crate::words::write_words;
+use crate::words::{write_told, write_words};
+use core_model::Effect;
 use policy::Policy;
 use std::alloc::{AllocError, Global};
 
 /// How much stands to the left of the entries.
-pub const MARGIN: u64 = 120;
+pub const MARGIN: u64 = 150;
 
-/// How far entries are from each other.
-pub const STEP: u64 = 26;
+/// How far from the page's left edge words stand.
+pub const EDGE: u64 = 6;
+
+/// On which line the numbers of entries stand.
+pub const AXIS: u64 = 52;
+
+/// Where the lane of the administrator and of clients begins.
+pub const HOSTS: u64 = 56;
 
 /// Where the lanes of queues begin.
-pub const LANES: u64 = 58;
-
-/// How high the lane of a queue is.
-pub const LANE: u64 = 134;
+pub const LANES: u64 = 94;
 
 /// How much of a lane stands above its rows.
 pub const HEAD: u64 = 16;
 
 /// How high a row is.
-pub const ROW: u64 = 14;
+pub const ROW: u64 = 22;
 
-/// How high and wide a mark is.
+/// How far lanes are from each other.
+pub const GAP: u64 = 6;
+
+/// How high a bar is.
+pub const BAR: u64 = 18;
+
+/// How far below the begin of a bar its ticks begin.
+pub const DROP: u64 = 12;
+
+/// How high a tick is.
+pub const TICK: u64 = 6;
+
+/// How high a mark is.
 pub const MARK: u64 = 12;
 
-/// How wide a bar between things is.
-pub const BAR: u64 = 3;
+/// How wide a tick is, at most.
+pub const THIN: u64 = 3;
 
-/// Where an entry's number stands.
-pub(crate) fn left_of(at: u32) -> u64
-    ensures { result ≡ left_of at }
+/// How wide a letter is, about.
+pub const LETTER: u64 = 6;
+
+/// How far to the right an entry's place is.
+pub(crate) fn left_of(frame: &Frame, at: u32) -> u64
+    ensures exact { result ≡ left_of frame.now at }
+    ensures bound { result < 2 ^ 42 }
 {
-    MARGIN + STEP * at as u64
+    MARGIN + frame.step as u64 * at.saturating_sub(frame.skipped) as u64
 }
 
-/// Where a lane begins.
-pub(crate) fn top_of_lane(lane: u32) -> u64
-    ensures exact { result ≡ top_of_lane lane }
-    ensures bound { result < 2 ^ 50 }
+// How high the lane of a queue is.
+fn height_of_lane(frame: &Frame) -> u64
+    ensures exact { result ≡ height_of_lane frame.now }
+    ensures bound { result < 2 ^ 13 }
+{
+    HEAD + ROW * (frame.deepest as u64 + 1)
+}
+
+// Where a lane begins.
+fn top_of_lane(frame: &Frame, lane: u8) -> u64
+    ensures exact { result ≡ top_of_lane frame.now lane }
+    ensures bound { result < 2 ^ 22 }
 {
     if lane == 0 {
-        HEAD
+        HOSTS
     } else {
-        LANES + LANE * (lane as u64 - 1)
+        LANES + (height_of_lane(frame) + GAP) * (lane as u64 - 1)
     }
+}
+
+/// Where the lanes end.
+pub(crate) fn foot_of(frame: &Frame) -> u64
+    ensures exact { result ≡ foot_of frame.now }
+    ensures bound { result < 2 ^ 22 }
+{
+    LANES + (height_of_lane(frame) + GAP) * frame.lanes as u64
 }
 
 // Where a row of a lane begins.
-fn top_of_row(spot: Spot) -> u64
-    ensures exact { result ≡ top_of_row spot }
-    ensures bound { result < 2 ^ 60 }
+fn top_of_row(frame: &Frame, spot: Spot) -> u64
+    ensures exact { result ≡ top_of_row frame.now spot }
+    ensures bound { result < 2 ^ 23 }
 {
-    top_of_lane(spot.lane) + HEAD + ROW * spot.row as u64
+    top_of_lane(frame, spot.lane) + HEAD + ROW * spot.row as u64
 }
 
-// How wide a sign is that reaches so many entries further.
-fn width_of(reach: u32, sign: &Sign) -> u64
-    ensures { result ≡ width_of reach sign.now }
+// How wide a mark is.
+fn width_of_mark(frame: &Frame) -> u64
+    ensures exact { result ≡ width_of_mark frame.now }
+    ensures bound { result < 2 ^ 8 }
+{
+    frame.step as u64 / 2
+}
+
+// How wide a tick is.
+fn width_of_tick(frame: &Frame) -> u64
+    ensures exact { result ≡ width_of_tick frame.now }
+    ensures bound { result < 2 ^ 8 }
+{
+    let mark = width_of_mark(frame);
+    if mark < THIN { mark } else { THIN }
+}
+
+// How many of the entries that aren't skipped an element reaches further.
+fn reach_of(frame: &Frame, element: &Element) -> u32
+    ensures { result ≡ reach_of frame.now element.now }
+{
+    let from = element.spot.at.saturating_sub(frame.skipped);
+    element
+        .until
+        .saturating_sub(frame.skipped)
+        .saturating_sub(from)
+}
+
+// How wide an element is.
+fn width_of(frame: &Frame, element: &Element) -> u64
+    ensures { result ≡ width_of frame.now element.now element.now.sign }
+{
+    let step = frame.step as u64;
+    let reach = reach_of(frame, element) as u64;
+    match &element.sign {
+        Sign::Lane { .. } => step * reach + step,
+        Sign::Bar { .. } => step * reach + width_of_mark(frame),
+        Sign::Group { .. } | Sign::Reload { .. } | Sign::Stop => width_of_tick(frame),
+        _ => width_of_mark(frame),
+    }
+}
+
+// Whether a sign goes over its lane, or over all lanes, behind the others.
+fn is_behind(sign: &Sign) -> bool
+    ensures { result ≡ is_behind sign.now }
+{
+    matches!(sign, Sign::Lane { .. } | Sign::Reload { .. } | Sign::Stop)
+}
+
+// Whether a sign is a tick, in the lower part of a bar.
+fn is_tick(sign: &Sign) -> bool
+    ensures { result ≡ is_tick sign.now }
+{
+    matches!(
+        sign,
+        Sign::Group { .. } | Sign::Look { .. } | Sign::Completion(_) | Sign::Fault(_)
+    )
+}
+
+// How far below the begin of its row a sign begins.
+fn drop_of(sign: &Sign) -> u64
+    ensures exact { result ≡ drop_of sign.now }
+    ensures bound { result < 2 ^ 8 }
+{
+    if is_tick(sign) { DROP } else { 0 }
+}
+
+// Where an element begins.
+fn top_of(frame: &Frame, element: &Element) -> u64
+    ensures { result ≡ top_of frame.now element.now }
+{
+    if is_behind(&element.sign) {
+        top_of_lane(frame, element.spot.lane)
+    } else {
+        top_of_row(frame, element.spot) + drop_of(&element.sign)
+    }
+}
+
+// How high a sign is.
+fn height_of(frame: &Frame, sign: &Sign) -> u64
+    ensures { result ≡ height_of frame.now sign.now }
 {
     match sign {
-        Sign::Lane { .. } => STEP * reach as u64 + STEP,
-        Sign::Bar { .. } => STEP * reach as u64 + MARK,
-        Sign::Group(_) | Sign::Stop => BAR,
+        Sign::Lane { .. } | Sign::Stop => height_of_lane(frame),
+        Sign::Reload { .. } => foot_of(frame).saturating_sub(HOSTS + GAP),
+        Sign::Bar { .. } => BAR,
+        Sign::Group { .. } | Sign::Look { .. } | Sign::Completion(_) | Sign::Fault(_) => TICK,
         _ => MARK,
     }
-}
-
-// Whether a sign goes over its lane, and not over one row of it.
-fn is_of_lane(sign: &Sign) -> bool
-    ensures { result ≡ is_of_lane sign.now }
-{
-    matches!(sign, Sign::Lane { .. } | Sign::Stop)
-}
-
-// Where a sign begins.
-fn top_of(element: &Element) -> u64
-    ensures exact { result ≡ top_of element.now }
-    ensures bound { result < 2 ^ 60 }
-{
-    if is_of_lane(&element.sign) {
-        top_of_lane(element.spot.lane)
-    } else {
-        top_of_row(element.spot)
-    }
-}
-
-// How many entries an element reaches further.
-fn reach_of(element: &Element) -> u32
-    ensures { result ≡ element.now.until - element.now.spot.at }
-{
-    element.until.saturating_sub(element.spot.at)
-}
-
-// How high it is.
-fn height_of(sign: &Sign) -> u64
-    ensures { result ≡ height_of sign.now }
-{
-    if is_of_lane(sign) { LANE - BAR } else { MARK }
 }
 
 // How a bar's packet ended.
@@ -129,33 +212,67 @@ fn class_of(sign: &Sign) -> &'static str
         Sign::Stop => "stop",
         Sign::Bar { ending, .. } => class_of_ending(*ending),
         Sign::Denial(_) => "denial",
-        Sign::Group(_) => "group",
+        Sign::Group { .. } => "group",
         Sign::Fault(_) => "fault",
-        Sign::Look(_) => "look",
+        Sign::Look { .. } => "look",
         Sign::Completion(_) => "completion",
         Sign::Write(_) => "write",
         Sign::Change(_) => "change",
+        Sign::Reload { .. } => "reload",
         Sign::Nothing => "nothing",
     }
 }
 
-// Whether a sign's words stand on the page.
-fn is_labelled(sign: &Sign) -> bool
-    ensures { result ≡ is_labelled sign.now }
+// Whether so many letters are as wide as an element, at most.
+fn is_room(frame: &Frame, element: &Element, letters: usize) -> bool
+    ensures { result ≡ not (nat_lt (width_of frame.now element.now element.now.sign) (LETTER * letters + THIN + THIN)) }
 {
-    matches!(
-        sign,
-        Sign::Lane { .. } | Sign::Bar { .. } | Sign::Denial(_) | Sign::Fault(_)
-    )
+    let wanted = LETTER as u128 * letters as u128 + THIN as u128 + THIN as u128;
+    wanted <= width_of(frame, element) as u128
 }
 
-// How far its words stand from its begin: behind a mark.
-fn indent_of(sign: &Sign) -> u64
-    ensures { result ≡ indent_of sign.now }
+// Whether words of so many letters stand on the page.
+fn is_labelled(frame: &Frame, element: &Element, letters: usize) -> bool
+    ensures { result ≡ is_labelled frame.now element.now letters element.now.sign }
+{
+    match &element.sign {
+        Sign::Bar { .. } => is_room(frame, element, letters),
+        Sign::Lane { .. } | Sign::Denial(_) | Sign::Fault(_) | Sign::Reload { .. } => true,
+        _ => false,
+    }
+}
+
+// Where an element's words begin.
+fn left_of_words(frame: &Frame, element: &Element) -> u64
+    ensures { result ≡ left_of_words frame.now element.now element.now.sign }
+{
+    let left = left_of(frame, element.spot.at);
+    match &element.sign {
+        Sign::Lane { .. } => EDGE,
+        Sign::Denial(_) | Sign::Fault(_) => left + width_of_mark(frame) + THIN,
+        Sign::Reload { .. } => left + width_of_tick(frame) + 1,
+        _ => left + THIN,
+    }
+}
+
+// On which line they stand.
+fn line_of_words(frame: &Frame, element: &Element) -> u64
+    ensures { result ≡ line_of_words frame.now element.now }
+{
+    if is_behind(&element.sign) {
+        top_of_lane(frame, element.spot.lane) + MARK
+    } else {
+        top_of_row(frame, element.spot) + DROP - THIN
+    }
+}
+
+// What stands on the page of a sign's words.
+fn label_of<'w>(sign: &Sign, words: &'w str) -> &'w str
+    ensures { result.now ≡ label_of sign.now words.now }
 {
     match sign {
-        Sign::Denial(_) | Sign::Fault(_) => MARK + BAR,
-        _ => BAR,
+        Sign::Reload { .. } => "reload",
+        _ => words,
     }
 }
 
@@ -185,13 +302,19 @@ fn write_text(out: &mut String, x: u64, y: u64, words: &str) -> Result<(), Alloc
 }
 
 // Writes an element's words, where they stand on the page.
-fn write_label(out: &mut String, element: &Element, words: &str) -> Result<(), AllocError>
-    ensures { OnOk result (string_bytes out.new ≡ string_bytes out.old ++ text_of_label element.now words.now) }
+#[tactic(auto, unfolding(crate::specs::Shapes::text_of_label))]
+fn write_label(
+    out: &mut String,
+    frame: &Frame,
+    element: &Element,
+    words: &str,
+) -> Result<(), AllocError>
+    ensures { OnOk result (string_bytes out.new ≡ string_bytes out.old ++ text_of_label frame.now element.now words.now) }
 {
-    if is_labelled(&element.sign) {
-        let x = left_of(element.spot.at) + indent_of(&element.sign);
-        let y = top_of(element) + MARK - BAR;
-        write_text(out, x, y, words)
+    if is_labelled(frame, element, words.len()) {
+        let x = left_of_words(frame, element);
+        let y = line_of_words(frame, element);
+        write_text(out, x, y, label_of(&element.sign, words))
     } else {
         Ok(())
     }
@@ -206,62 +329,138 @@ fn words(alloc: Global, policy: &Policy, sign: &Sign) -> Result<String, AllocErr
     Ok(words)
 }
 
-// Writes an element's begin: its class, its entry's number and words.
-fn write_opening(out: &mut String, element: &Element, words: &str) -> Result<(), AllocError>
-    ensures { OnOk result (string_bytes out.new ≡ string_bytes out.old ++ text_of_opening element.now words.now) }
+// What is said under the pointer of an element whose entry made these changes.
+fn told(
+    alloc: Global,
+    policy: &Policy,
+    element: &Element,
+    effects: &[Effect],
+) -> Result<String, AllocError>
+    ensures { IfOk result (λ told. string_bytes told ≡ told_of policy.now element.now effects.now) }
+{
+    let mut told = String::new(alloc);
+    write_told(&mut told, policy, element, effects)?;
+    Ok(told)
+}
+
+// The number of the entry at a place, in the whole history.
+fn number_of(frame: &Frame, at: u32) -> u128
+    ensures { result ≡ number_of frame.now at }
+{
+    frame.before as u128 + at as u128
+}
+
+// Writes an entry's number, or that the place is what the audit begins from.
+fn write_place(out: &mut String, frame: &Frame, at: u32) -> Result<(), AllocError>
+    ensures { OnOk result (string_bytes out.new ≡ string_bytes out.old ++ text_of_place frame.now at) }
+{
+    if at == 0 {
+        out.push_str("start")
+    } else {
+        write!(out, "{}", number_of(frame, at))
+    }
+}
+
+// Writes an element's begin: its class, its entry's number and what is said under the pointer.
+#[tactic(auto, unfolding(crate::specs::Shapes::text_of_opening))]
+fn write_opening(
+    out: &mut String,
+    frame: &Frame,
+    element: &Element,
+    told: &str,
+) -> Result<(), AllocError>
+    ensures { OnOk result (string_bytes out.new ≡ string_bytes out.old ++ text_of_opening frame.now element.now told.now) }
 {
     let class = class_of(&element.sign);
-    let at = element.spot.at;
-    write!(out, "<g class=\"{class}\"><title>{at} ")?;
-    write_escaped(out, words)?;
+    write!(out, "<g class=\"{class}\"><title>")?;
+    write_place(out, frame, element.spot.at)?;
+    out.push_str(" ")?;
+    write_escaped(out, told)?;
     out.push_str("</title>")
 }
 
 // Writes an element's rectangle.
-fn write_outline(out: &mut String, element: &Element) -> Result<(), AllocError>
-    ensures { OnOk result (string_bytes out.new ≡ string_bytes out.old ++ text_of_outline element.now) }
+#[tactic(auto, unfolding(crate::specs::Shapes::text_of_outline))]
+fn write_outline(out: &mut String, frame: &Frame, element: &Element) -> Result<(), AllocError>
+    ensures { OnOk result (string_bytes out.new ≡ string_bytes out.old ++ text_of_outline frame.now element.now) }
 {
-    let x = left_of(element.spot.at);
-    let y = top_of(element);
-    let width = width_of(reach_of(element), &element.sign);
-    write_rectangle(out, x, y, width, height_of(&element.sign))
+    let x = left_of(frame, element.spot.at);
+    let y = top_of(frame, element);
+    let width = width_of(frame, element);
+    write_rectangle(out, x, y, width, height_of(frame, &element.sign))
 }
 
-// Writes an element with words.
+// Writes an element with what is said under the pointer and words.
 #[tactic(auto, unfolding(crate::specs::Shapes::text_with))]
-fn write_with(out: &mut String, element: &Element, words: &str) -> Result<(), AllocError>
-    ensures { OnOk result (string_bytes out.new ≡ string_bytes out.old ++ text_with element.now words.now) }
+fn write_with(
+    out: &mut String,
+    frame: &Frame,
+    element: &Element,
+    told: &str,
+    words: &str,
+) -> Result<(), AllocError>
+    ensures { OnOk result (string_bytes out.new ≡ string_bytes out.old ++ text_with frame.now element.now told.now words.now) }
 {
-    write_opening(out, element, words)?;
-    write_outline(out, element)?;
-    write_label(out, element, words)?;
+    write_opening(out, frame, element, told)?;
+    write_outline(out, frame, element)?;
+    write_label(out, frame, element, words)?;
     out.push_str("</g>\n")
 }
 
-/// Writes an element.
+// Whether a sign is in the layer that is drawn.
+fn is_in_layer(frame: &Frame, sign: &Sign) -> bool
+    ensures { result ≡ is_in_layer frame.now sign.now }
+{
+    if frame.is_behind {
+        is_behind(sign)
+    } else {
+        !is_behind(sign)
+    }
+}
+
+/// Whether an element is drawn.
+pub(crate) fn is_shown(frame: &Frame, element: &Element) -> bool
+    ensures { result ≡ is_shown frame.now element.now }
+{
+    is_in_layer(frame, &element.sign) && (frame.skipped == 0 || frame.skipped < element.until)
+}
+
+/// Writes an element whose entry made these changes, where it is drawn.
 pub(crate) fn write_element(
     alloc: Global,
     out: &mut String,
+    frame: &Frame,
     policy: &Policy,
     element: &Element,
+    effects: &[Effect],
 ) -> Result<(), AllocError>
-    ensures { OnOk result (string_bytes out.new ≡ string_bytes out.old ++ text_of_element policy.now element.now) }
+    ensures { OnOk result (string_bytes out.new ≡ string_bytes out.old ++ text_of_element frame.now policy.now element.now effects.now) }
 {
-    let words = words(alloc, policy, &element.sign)?;
-    write_with(out, element, words.as_str())
+    if is_shown(frame, element) {
+        let told = told(alloc, policy, element, effects)?;
+        let words = words(alloc, policy, &element.sign)?;
+        write_with(out, frame, element, told.as_str(), words.as_str())
+    } else {
+        Ok(())
+    }
 }
 
 /// Writes an arrow from one place to another, if there is one.
-pub(crate) fn write_arrow(out: &mut String, from: Option<Spot>, to: Spot) -> Result<(), AllocError>
-    ensures { OnOk result (string_bytes out.new ≡ string_bytes out.old ++ text_of_arrow from to) }
+pub(crate) fn write_arrow(
+    out: &mut String,
+    frame: &Frame,
+    from: Option<Spot>,
+    to: Spot,
+) -> Result<(), AllocError>
+    ensures { OnOk result (string_bytes out.new ≡ string_bytes out.old ++ text_of_arrow frame.now from to) }
 {
     match from {
         None => Ok(()),
         Some(from) => {
-            let x1 = left_of(from.at) + MARK;
-            let y1 = top_of_row(from) + BAR;
-            let x2 = left_of(to.at);
-            let y2 = top_of_row(to) + BAR;
+            let x1 = left_of(frame, from.at) + width_of_mark(frame);
+            let y1 = top_of_row(frame, from) + DROP;
+            let x2 = left_of(frame, to.at);
+            let y2 = top_of_row(frame, to) + DROP;
             writeln!(
                 out,
                 "<line x1=\"{x1}\" y1=\"{y1}\" x2=\"{x2}\" y2=\"{y2}\"/>"
@@ -270,14 +469,26 @@ pub(crate) fn write_arrow(out: &mut String, from: Option<Spot>, to: Spot) -> Res
     }
 }
 
-/// Writes an entry's number, on the axis.
-pub(crate) fn write_number(out: &mut String, at: u32) -> Result<(), AllocError>
-    ensures { OnOk result (string_bytes out.new ≡ string_bytes out.old ++ text_of_number at) }
+// Whether an entry has its number on the axis.
+fn is_numbered(frame: &Frame, at: u32) -> bool
+    ensures { result ≡ is_numbered frame.now at }
 {
-    let x = left_of(at);
-    let y = MARK;
-    writeln!(
-        out,
-        "<text class=\"number\" x=\"{x}\" y=\"{y}\">{at}</text>"
-    )
+    frame.is_behind && frame.skipped < at && number_of(frame, at) % (frame.bare as u128 + 1) == 0
+}
+
+/// Writes an entry's number on the axis, where it has one there.
+pub(crate) fn write_number(out: &mut String, frame: &Frame, at: u32) -> Result<(), AllocError>
+    ensures { OnOk result (string_bytes out.new ≡ string_bytes out.old ++ text_of_number frame.now at) }
+{
+    if is_numbered(frame, at) {
+        let x = left_of(frame, at);
+        let y = AXIS;
+        let number = number_of(frame, at);
+        writeln!(
+            out,
+            "<text class=\"number\" x=\"{x}\" y=\"{y}\">{number}</text>"
+        )
+    } else {
+        Ok(())
+    }
 }

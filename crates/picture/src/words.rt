@@ -1,15 +1,16 @@
 //! What is said of an entry in words.
 
 ghost use Rattle.std.specs.Prelude.{◌≡◌, ◌++◌, ◌≤◌, OnOk, flat_map, string_bytes, slice_index_or, false};
-ghost use Rattle.picture.specs.Words.{words_of_client, words_of_object, right_in, words_of_rights, words_of_function, words_of_work, position_in, words_of_seen, words_of_error, words_of};
+ghost use Rattle.picture.specs.Words.{words_of_client, words_of_object, right_in, words_of_rights, words_of_function, words_of_work, position_in, words_of_seen, words_of_error, words_of, lead_of, has_queue, words_of_queue, words_of_effect, told_of};
 ghost use Rattle.policy.specs.Rights.{all_rights};
 ghost use Rattle.picture.specs.declared.element.Sign.TheVariants as signs;
 
-use crate::element::{Sign, Work};
+use crate::element::{Element, Sign, Work};
 use aql_packet::{AgentHandle, ClientId, QueueId};
-use core_model::{ADD64, COPY, FILL, Satisfied};
+use core_model::{ADD64, COPY, Effect, FILL, Satisfied};
 use policy::{Object, Policy, Right, Rights};
 use queue_error::QueueError;
+use regions::region_of;
 use std::alloc::AllocError;
 
 // Writes the name of a client.
@@ -189,10 +190,10 @@ pub(crate) fn write_words(out: &mut String, policy: &Policy, sign: &Sign) -> Res
             write_work(out, policy, *work)
         }
         Sign::Denial(error) => write_error(out, error),
-        Sign::Group(group) => write!(out, "group {group}"),
+        Sign::Group { packet, group } => write!(out, "{} group {group}", packet.0),
         Sign::Fault(error) => write_error(out, error),
-        Sign::Look(seen) => {
-            out.push_str("seen")?;
+        Sign::Look { packet, seen } => {
+            write!(out, "{} seen", packet.0)?;
             write_seen(out, *seen)
         }
         Sign::Completion(packet) => write!(out, "{} completed", packet.0),
@@ -204,6 +205,82 @@ pub(crate) fn write_words(out: &mut String, policy: &Policy, sign: &Sign) -> Res
             out.push_str("signal ")?;
             write_client(out, policy, *client)
         }
+        Sign::Reload { allows, denies } => write!(out, "reload {allows} allow {denies} deny"),
         Sign::Nothing => Ok(()),
     }
+}
+
+// What stands before a sign's words, where they begin with a packet's id.
+fn lead_of(sign: &Sign) -> &'static str
+    ensures { result.now ≡ lead_of sign.now }
+{
+    match sign {
+        Sign::Denial(_) => "denied packet ",
+        Sign::Fault(_) => "faulted packet ",
+        Sign::Bar { .. } | Sign::Group { .. } | Sign::Look { .. } | Sign::Completion(_) => {
+            "packet "
+        }
+        _ => "",
+    }
+}
+
+// Whether a sign's words tell its queue.
+fn has_queue(sign: &Sign) -> bool
+    ensures { result ≡ has_queue sign.now }
+{
+    matches!(sign, Sign::Lane { .. })
+}
+
+// Writes the queue in whose lane an element stands, where its words don't tell it.
+fn write_queue(out: &mut String, element: &Element) -> Result<(), AllocError>
+    ensures { OnOk result (string_bytes out.new ≡ string_bytes out.old ++ words_of_queue element.now) }
+{
+    if has_queue(&element.sign) || element.spot.lane == 0 {
+        Ok(())
+    } else {
+        write!(out, "queue {} ", element.spot.lane)
+    }
+}
+
+// Writes a change, behind a semicolon.
+fn write_effect(out: &mut String, policy: &Policy, effect: &Effect) -> Result<(), AllocError>
+    ensures { OnOk result (string_bytes out.new ≡ string_bytes out.old ++ words_of_effect policy.now effect.now) }
+{
+    match effect {
+        Effect::Write { address, bytes } => {
+            write!(out, "; {} bytes of ", bytes.len())?;
+            write_object(out, policy, Object::Region(region_of(*address)))
+        }
+        Effect::Signal { signal, old, new } => {
+            out.push_str("; signal ")?;
+            write_object(out, policy, Object::Signal(*signal))?;
+            write!(out, " {old} to {new}")
+        }
+        Effect::Release { packet, .. } => write!(out, "; releases packet {}", packet.0),
+    }
+}
+
+// Writes changes, each behind a semicolon.
+fn write_effects(out: &mut String, policy: &Policy, effects: &[Effect]) -> Result<(), AllocError>
+    ensures { OnOk result (string_bytes out.new ≡ string_bytes out.old ++ flat_map (words_of_effect policy.now) effects.now) }
+{
+    for effect in effects {
+        write_effect(out, policy, effect)?;
+    }
+    Ok(())
+}
+
+/// Writes what is said under the pointer of an element whose entry made these changes.
+pub(crate) fn write_told(
+    out: &mut String,
+    policy: &Policy,
+    element: &Element,
+    effects: &[Effect],
+) -> Result<(), AllocError>
+    ensures { OnOk result (string_bytes out.new ≡ string_bytes out.old ++ told_of policy.now element.now effects.now) }
+{
+    write_queue(out, element)?;
+    out.push_str(lead_of(&element.sign))?;
+    write_words(out, policy, &element.sign)?;
+    write_effects(out, policy, effects)
 }

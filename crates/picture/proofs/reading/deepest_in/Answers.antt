@@ -1,0 +1,13 @@
+-- The lowest row is found.
+use Rattle.std.proofs.Common.{sym, ◌∙◌, arith}
+use Rattle.picture.proofs.Walks.{lower_step, lower_end}
+use Rattle.picture.proofs.reading.deepest_in.Goals as goal
+
+pub entries-preserved : goal.entries-preserved
+entries-preserved c =
+    rw (c.in_ok-pass_seats.ensures, c.greater-deepest.ensures, c.spot_of.ensures, c.as_slice-in-entries.ensures.value)
+    (c.entries.invariant ∙ lower_step c.entries.deepest c.entries.index c.entries.seats.items c.args.entries.now
+    c.index-entries-index.result (omega arith) c.index-entries-index.is)
+
+pub returns : goal.returns
+returns c = sym (c.entries.invariant ∙ lower_end c.entries.deepest c.entries.index c.entries.seats.items c.args.entries.now (omega arith))

@@ -1,0 +1,204 @@
+//! What a page is drawn by.
+
+ghost use Rattle.std.specs.Prelude.{◌≡◌, ◌+◌, ◌<◌, ◌≤◌, ◌^◌, IfOk, length, take, if◌then◌else◌};
+ghost use Rattle.core_model.specs.Limits.{most_queues};
+ghost use Rattle.picture.specs.Frames.{lesser, asked_of, skipped_of, step_of, room_of_number, bare_for, is_opening, one_lane_more, lanes_in, front_of, frame_of};
+ghost use Rattle.picture.specs.Reading.{greater};
+
+use crate::element::{Frame, Span};
+use crate::reading::deepest_in;
+use crate::seats::seats_of;
+use core_model::{Entry, Event, Origin, QUEUES};
+use std::alloc::{AllocError, Global};
+
+/// How many entries are drawn at the most.
+pub const MOST_DRAWN: u64 = 5000;
+
+/// How much room the entries are to fill.
+pub const ROOM: u64 = 1400;
+
+/// How far entries are from each other at the most.
+pub const WIDEST: u64 = 26;
+
+/// How far they are from each other at the least.
+pub const NARROWEST: u64 = 2;
+
+/// How much room a number of up to three digits wants on the axis.
+pub const THREE: u64 = 22;
+
+/// How much room one of up to six digits wants.
+pub const SIX: u64 = 40;
+
+/// How much room any number wants.
+pub const ALL: u64 = 124;
+
+// The lesser of two numbers.
+fn lesser(a: u64, b: u64) -> u64
+    ensures { result ≡ lesser a b }
+{
+    if a < b { a } else { b }
+}
+
+// The greater of two numbers.
+fn greater(a: u64, b: u64) -> u64
+    ensures { result ≡ greater a b }
+{
+    if a < b { b } else { a }
+}
+
+// The first entries, at most so many.
+fn up_to(entries: &[Entry], most: u64) -> &[Entry]
+    ensures { result.now ≡ take most entries.now }
+{
+    if most < entries.len() as u64 {
+        &entries[..most as usize]
+    } else {
+        entries
+    }
+}
+
+/// The entries up to the last that is asked for, behind so many.
+pub(crate) fn asked_of(before: u64, span: Span, entries: &[Entry]) -> &[Entry]
+    ensures { result.now ≡ asked_of before span entries.now }
+{
+    up_to(entries, span.last.saturating_sub(before))
+}
+
+// How many of so many entries aren't drawn.
+fn skipped_of(before: u64, count: u64, span: Span) -> u64
+    ensures exact { result ≡ skipped_of before count span }
+    ensures bound { result ≤ count }
+{
+    let asked = span.first.saturating_sub(1).saturating_sub(before);
+    let least = count.saturating_sub(MOST_DRAWN);
+    lesser(count.saturating_sub(1), greater(asked, least))
+}
+
+// How far so many entries are from each other.
+fn step_of(count: u32) -> u64
+    ensures exact { result ≡ step_of count }
+    ensures bound { result < 2 ^ 8 }
+{
+    lesser(WIDEST, greater(NARROWEST, ROOM / (count as u64 + 1)))
+}
+
+// How much room a number on the axis wants.
+fn room_of_number(number: u128) -> u64
+    ensures { result ≡ room_of_number number }
+{
+    if number < 1000 {
+        THREE
+    } else if number < 1000000 {
+        SIX
+    } else {
+        ALL
+    }
+}
+
+// Of how many entries between two numbers on the axis none has its own.
+fn bare_for(step: u64, room: u64) -> u8
+    requires { step < 2 ^ 8 }
+    ensures { result ≡ bare_for step room }
+{
+    if room < step {
+        0
+    } else if room < step * 5 {
+        4
+    } else if room < step * 10 {
+        9
+    } else if room < step * 20 {
+        19
+    } else if room < step * 50 {
+        49
+    } else {
+        99
+    }
+}
+
+// Whether an event opens a queue.
+fn is_opening(event: &Event) -> bool
+    ensures { result ≡ is_opening event.now }
+{
+    matches!(event, Event::Open { .. })
+}
+
+// One lane more.
+fn one_lane_more(count: u8) -> u8
+    ensures { result ≡ one_lane_more count }
+{
+    if (count as usize) < QUEUES {
+        count + 1
+    } else {
+        QUEUES as u8
+    }
+}
+
+// So many lanes, or one more if an event opens a queue.
+fn with_opening(count: u8, event: &Event) -> u8
+    ensures { result ≡ (if is_opening event.now then one_lane_more count else count) }
+{
+    if is_opening(event) {
+        one_lane_more(count)
+    } else {
+        count
+    }
+}
+
+// How many lanes there are behind entries.
+fn lanes_in(count: u8, entries: &[Entry]) -> u8
+    ensures { result ≡ lanes_in count entries.now }
+{
+    let mut lanes = count;
+    'entries: for index in 0..entries.len() {
+        let entry = &entries[index];
+        lanes = with_opening(lanes, &entry.event);
+    }
+    lanes
+}
+
+// How many lanes so many queues have.
+fn lanes_of(queues: usize) -> u8
+    ensures { result ≡ lesser most_queues queues }
+{
+    if QUEUES < queues {
+        QUEUES as u8
+    } else {
+        queues as u8
+    }
+}
+
+/// What the layer before that behind is drawn by.
+pub(crate) fn front_of(frame: &Frame) -> Frame
+    ensures { result ≡ front_of frame.now }
+{
+    Frame {
+        is_behind: false,
+        ..*frame
+    }
+}
+
+/// What the layer behind is drawn by, of these entries.
+pub(crate) fn frame_of(
+    alloc: Global,
+    origin: &Origin,
+    entries: &[Entry],
+    span: Span,
+) -> Result<Frame, AllocError>
+    requires { length entries.now < 2 ^ 32 }
+    ensures { IfOk result (λ frame. frame ≡ frame_of origin.now entries.now span) }
+{
+    let before = origin.before;
+    let count = entries.len() as u32;
+    let skipped = skipped_of(before, count as u64, span) as u32;
+    let step = step_of(count - skipped);
+    let seats = seats_of(alloc, origin.packets.as_slice())?;
+    Ok(Frame {
+        is_behind: true,
+        before,
+        skipped,
+        lanes: lanes_in(lanes_of(origin.queues.len()), entries),
+        deepest: deepest_in(seats, entries)?,
+        step: step as u8,
+        bare: bare_for(step, room_of_number(before as u128 + count as u128)),
+    })
+}
