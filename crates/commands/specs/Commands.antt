@@ -15,7 +15,8 @@ use Rattle.script.specs.declared.io_log.IoLog.{IoLog}
 use Rattle.script.specs.declared.fault.ScriptFault.{ScriptFault}
 use Rattle.script.specs.declared.fault.ScriptFault.TheVariants as why
 use Rattle.script.specs.IoLogs.{AppendsBeginning, IsCaused, NoneFailed, none_yet}
-use Rattle.script.specs.Runs.{worlds}
+use Rattle.script.specs.declared.watch.Flow.{Flow}
+use Rattle.script.specs.Runs.{Told, watched}
 use Rattle.script.specs.Scripts.{RunsScript}
 use Rattle.world.specs.Starting.{Begins}
 use Rattle.world.specs.States.{Joined}
@@ -25,7 +26,7 @@ use Rattle.commands.specs.declared.check.Setup.{Setup}
 use Rattle.commands.specs.declared.failure.Failure.TheVariants.{OutOfMemory, Policy, Kernel, KernelCount, NoEntry, Capacity, Line, Read, Write}
 use Rattle.commands.specs.declared.status.Status.{Status}
 use Rattle.commands.specs.declared.status.Status.TheVariants.{Done}
-use Rattle.commands.specs.Failures.{NamesFailure, failure_of_opening, failure_of_reading, failure_of_script}
+use Rattle.commands.specs.Failures.{NamesFailure, TellsFailure, failure_of_opening, failure_of_reading, failure_of_script}
 use Rattle.commands.specs.Further.{ReadsEach}
 use Rattle.commands.specs.Kernels.{AreLaunchable, IsFirstRefused, IsWantedAt}
 
@@ -61,10 +62,10 @@ PassesPolicy policy (Err Write) = ⊥
 abbrev pub none_noted : CommandLog
 none_noted = record { asked = none_yet; faults = none_yet }
 
--- how what was asked ended: all is done, or a failure is named
+-- how what was asked ended: all is done, a failure is named, or whoever watches ended it and nothing is told
 abbrev pub TellsEnd : Result ⊤ ScriptFault → IoLog → (before after : Option (List ℕ)) → Status → Type 0
 TellsEnd (Ok done) faults before after status = (after ≡ before) × (status ≡ Done)
-TellsEnd (Err fault) faults before after status = NamesFailure (failure_of_script fault) faults before after status
+TellsEnd (Err fault) faults before after status = TellsFailure (failure_of_script fault) faults before after status
 
 -- ---- `check`
 
@@ -93,6 +94,7 @@ WritesText text (Err why.OutOfMemory) answers before after = after ≡ before
 WritesText text (Err why.Write) answers before after = AppendsBeginning before after text × (answers.write_failed ≡ true)
 WritesText text (Err why.Read) answers before after = ⊥
 WritesText text (Err (why.BadLine number)) answers before after = ⊥
+WritesText text (Err (why.Stopped number)) answers before after = ⊥
 
 -- the counts are written, or it is named why they aren't
 abbrev pub TellsCounts : Declared → CommandLog → (out counted err named : Option (List ℕ)) → Status → Type 0
@@ -120,14 +122,18 @@ pub record Streams : Type 0 where
 abbrev pub streams : Option (List ℕ) → Option (List ℕ) → Option (List ℕ) → Streams
 streams script replies faults = record { script = script; replies = replies; faults = faults }
 
--- a script runs over a world with these further policies, once: what is left of it, and its replies
-unfoldable pub RunsOver : List Declared → Joined → Joined → (script left replies replied : Option (List ℕ)) → Result ⊤ ScriptFault → Type 0
-RunsOver later old new script left replies replied ended =
-    RunsScript (worlds later) old new replies replied script left ended
+-- what a watcher may say to a reply
+abbrev pub Saying : Type 1
+Saying = Told → Flow → Type 0
+
+-- a script runs over a world with these further policies, once, and a watcher that may say so: what is left of it, and its replies
+unfoldable pub RunsOver : Saying → List Declared → Joined → Joined → (script left replies replied : Option (List ℕ)) → Result ⊤ ScriptFault → Type 0
+RunsOver says later old new script left replies replied ended =
+    RunsScript (watched says later) old new replies replied script left ended
 
 -- the same, whatever becomes of the world
-abbrev pub RunsFrom : List Declared → Joined → (script left replies replied : Option (List ℕ)) → Result ⊤ ScriptFault → Type 0
-RunsFrom later old script left replies replied ended = (new : Joined) × RunsOver later old new script left replies replied ended
+abbrev pub RunsFrom : Saying → List Declared → Joined → (script left replies replied : Option (List ℕ)) → Result ⊤ ScriptFault → Type 0
+RunsFrom says later old script left replies replied ended = (new : Joined) × RunsOver says later old new script left replies replied ended
 
 -- nothing was read and no reply written, and a failure is named
 abbrev pub StopsBefore : Failure → CommandLog → (before after : Streams) → Status → Type 0
@@ -139,40 +145,40 @@ abbrev pub IsTold : Result ⊤ ScriptFault → IoLog → Type 0
 IsTold ended asked = IfErr ended (IsCaused asked) × OnOk ended (NoneFailed asked)
 
 -- a script runs over a world that is newly open, with these further policies
-abbrev pub RunsIn : List Declared → Joined → CommandLog → (before after : Streams) → Status → Type 0
-RunsIn later world noted before after status =
-    (ended : Result ⊤ ScriptFault) × RunsFrom later world before.script after.script before.replies after.replies ended
+abbrev pub RunsIn : Saying → List Declared → Joined → CommandLog → (before after : Streams) → Status → Type 0
+RunsIn says later world noted before after status =
+    (ended : Result ⊤ ScriptFault) × RunsFrom says later world before.script after.script before.replies after.replies ended
     × IsTold ended noted.asked × TellsEnd ended noted.faults before.faults after.faults status
 
 -- the script runs over a world with the further policies, where they are read; else it is named why they aren't
-abbrev pub RunsLater : Joined → Result (List Declared) ReadPolicyError → CommandLog → (before after : Streams) → Status → Type 0
-RunsLater world (Ok later) noted before after status = RunsIn later world noted before after status
-RunsLater world (Err why) noted before after status = StopsBefore (failure_of_reading why) noted before after status
+abbrev pub RunsLater : Saying → Joined → Result (List Declared) ReadPolicyError → CommandLog → (before after : Streams) → Status → Type 0
+RunsLater says world (Ok later) noted before after status = RunsIn says later world noted before after status
+RunsLater says world (Err why) noted before after status = StopsBefore (failure_of_reading why) noted before after status
 
 -- the texts of the further policies are read in order, and the script runs over a world that is newly open
-abbrev pub RunsBehind : Joined → List (List ℕ) → CommandLog → (before after : Streams) → Status → Type 0
-RunsBehind world further noted before after status =
-    (read : Result (List Declared) ReadPolicyError) × ReadsEach further read × RunsLater world read noted before after status
+abbrev pub RunsBehind : Saying → Joined → List (List ℕ) → CommandLog → (before after : Streams) → Status → Type 0
+RunsBehind says world further noted before after status =
+    (read : Result (List Declared) ReadPolicyError) × ReadsEach further read × RunsLater says world read noted before after status
 
 -- the further policies are read, and the script runs over the world, where one was opened; else the failure is named: that of the first
 -- kernel without its entry, where there is one
-abbrev pub RunsWorld : Result Joined OpenFault → List (List ℕ) → CommandLog → (before after : Streams) → Status → Type 0
-RunsWorld (Ok world) further noted before after status = RunsBehind world further noted before after status
-RunsWorld (Err fault) further noted before after status = StopsBefore (failure_of_opening fault) noted before after status
+abbrev pub RunsWorld : Saying → Result Joined OpenFault → List (List ℕ) → CommandLog → (before after : Streams) → Status → Type 0
+RunsWorld says (Ok world) further noted before after status = RunsBehind says world further noted before after status
+RunsWorld says (Err fault) further noted before after status = StopsBefore (failure_of_opening fault) noted before after status
 
 -- a world is opened under a policy, with what packets may launch and so many places in its audit, and the script runs over it
-abbrev pub RunsUnder : Declared → List cores.Kernel → List (List ℕ) → ℕ → CommandLog → (before after : Streams) → Status → Type 0
-RunsUnder policy kernels further places noted before after status =
-    (opened : Result Joined OpenFault) × Begins policy kernels places opened × RunsWorld opened further noted before after status
+abbrev pub RunsUnder : Saying → Declared → List cores.Kernel → List (List ℕ) → ℕ → CommandLog → (before after : Streams) → Status → Type 0
+RunsUnder says policy kernels further places noted before after status =
+    (opened : Result Joined OpenFault) × Begins policy kernels places opened × RunsWorld says opened further noted before after status
 
 -- the same, where the policy is good
-abbrev pub RunsVerdict : Result Setup Failure → List (List ℕ) → ℕ → CommandLog → (before after : Streams) → Status → Type 0
-RunsVerdict (Ok setup) further places noted before after status =
-    RunsUnder setup.policy setup.kernels.items further places noted before after status
-RunsVerdict (Err failure) further places noted before after status = StopsBefore failure noted before after status
+abbrev pub RunsVerdict : Saying → Result Setup Failure → List (List ℕ) → ℕ → CommandLog → (before after : Streams) → Status → Type 0
+RunsVerdict says (Ok setup) further places noted before after status =
+    RunsUnder says setup.policy setup.kernels.items further places noted before after status
+RunsVerdict says (Err failure) further places noted before after status = StopsBefore failure noted before after status
 
 -- a policy is judged, then further ones are read, and the script runs, or the first failure is named: what the reader and the writers
 -- answered, and their bytes before and after
-abbrev pub RunsPolicies : List ℕ → List (List ℕ) → ℕ → CommandLog → (before after : Streams) → Status → Type 0
-RunsPolicies text further places noted before after status =
-    (verdict : Result Setup Failure) × JudgesPolicy text verdict × RunsVerdict verdict further places noted before after status
+abbrev pub RunsPolicies : Saying → List ℕ → List (List ℕ) → ℕ → CommandLog → (before after : Streams) → Status → Type 0
+RunsPolicies says text further places noted before after status =
+    (verdict : Result Setup Failure) × JudgesPolicy text verdict × RunsVerdict says verdict further places noted before after status

@@ -9,6 +9,7 @@ use Rattle.picture.specs.Pages.{text_of_page}
 use Rattle.script.specs.declared.io_log.IoLog.{IoLog}
 use Rattle.script.specs.declared.fault.ScriptFault.{ScriptFault}
 use Rattle.script.specs.IoLogs.{IsCaused}
+use Rattle.script.specs.Watchers.{goes_on}
 use Rattle.world.specs.Starting.{Begins}
 use Rattle.world.specs.States.{Joined}
 use Rattle.commands.specs.declared.check.Setup.{Setup}
@@ -32,7 +33,7 @@ DrawsEnd span world (Err fault) asked page drawn ended = (drawn ≡ page) × (en
 -- a script runs over a world with these further policies, once, its replies are kept by nobody, and what the audit tells then is drawn
 abbrev pub DrawsFrom : List Declared → Span → Joined → IoLog → (script left page drawn : Option (List ℕ)) → Result ⊤ ScriptFault → Type 0
 DrawsFrom later span old asked script left page drawn ended =
-    (new : Joined) × (ran : Result ⊤ ScriptFault) × RunsOver later old new script left None None ran × DrawsEnd span new ran asked page drawn ended
+    (new : Joined) × (ran : Result ⊤ ScriptFault) × RunsOver goes_on later old new script left None None ran × DrawsEnd span new ran asked page drawn ended
 
 -- so it does over a world that is newly open. The page stands where the replies of a run stand
 abbrev pub DrawsIn : List Declared → Span → Joined → CommandLog → (before after : Streams) → Status → Type 0

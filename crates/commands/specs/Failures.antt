@@ -1,5 +1,5 @@
 -- Why a command fails: its text on standard error, and the status that it ends with (own).
-use Rattle.std.specs.Prelude.{ℕ, ◌≡◌, ◌⊎◌, Bool, true, false, List, [], ◌∷◌, ◌++◌, codes, Option}
+use Rattle.std.specs.Prelude.{ℕ, ◌≡◌, ◌⊎◌, Bool, true, false, List, [], ◌∷◌, ◌++◌, codes, Option, Some, None}
 use Rattle.std.specs.Fmt.{decimal}
 use Rattle.std.specs.Io.KnownBytes.{Appends}
 use Rattle.policy.specs.declared.fault.ReadPolicyError.{ReadPolicyError}
@@ -89,9 +89,15 @@ failure_of_opening opening.KernelCount = KernelCount
 failure_of_opening (opening.NoEntry kernel) = NoEntry kernel
 failure_of_opening opening.BadCapacity = Capacity
 
--- the failure of the run of a script
-abbrev pub failure_of_script : ScriptFault → Failure
-failure_of_script script.OutOfMemory = OutOfMemory
-failure_of_script (script.BadLine number) = Line number
-failure_of_script script.Read = Read
-failure_of_script script.Write = Write
+-- the failure of the run of a script; none where whoever watches ended it
+abbrev pub failure_of_script : ScriptFault → Option Failure
+failure_of_script script.OutOfMemory = Some OutOfMemory
+failure_of_script (script.BadLine number) = Some (Line number)
+failure_of_script script.Read = Some Read
+failure_of_script script.Write = Some Write
+failure_of_script (script.Stopped number) = None
+
+-- a failure is named; where there is none nothing is told, and what was asked wasn't done
+abbrev pub TellsFailure : Option Failure → IoLog → Option (List ℕ) → Option (List ℕ) → Status → Type 0
+TellsFailure (Some failure) answers told tells status = NamesFailure failure answers told tells status
+TellsFailure None answers told tells status = (tells ≡ told) × (status ≡ Refused)

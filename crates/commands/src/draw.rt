@@ -5,6 +5,7 @@ ghost use Rattle.commands.specs.Commands.{IsTold, RunsOver, WritesText, none_not
 ghost use Rattle.commands.specs.Drawing.{DrawsBehind, DrawsFrom, DrawsUnder, DrawsPolicies, page_of};
 ghost use Rattle.commands.specs.declared.command_log.CommandLog.{CommandLog};
 ghost use Rattle.script.specs.IoLogs.{none_yet};
+ghost use Rattle.script.specs.Watchers.{goes_on};
 
 use crate::check::{Setup, judge, pass_on};
 use crate::command_log::CommandLog;
@@ -14,7 +15,7 @@ use crate::run::{open_world, run_through};
 use crate::status::Status;
 use picture::{Span, write_page};
 use policy::Policy;
-use script::{IoLog, ScriptFault};
+use script::{IoLog, Nobody, ScriptFault};
 use std::alloc::{AllocError, Global};
 use std::io;
 use world::World;
@@ -55,10 +56,18 @@ fn run_unheard<R: io::Read>(
     answers: &mut IoLog,
 ) -> Result<(), ScriptFault>
     requires { answers.old ≡ none_yet }
-    ensures outcome { RunsOver later.now world.old world.new (R.remaining script.old) (R.remaining script.new) None None result }
+    ensures outcome { RunsOver goes_on later.now world.old world.new (R.remaining script.old) (R.remaining script.new) None None result }
     ensures told { IsTold result answers.new }
 {
-    run_through(alloc, world, later, script, &mut io::sink(), answers)
+    run_through(
+        alloc,
+        world,
+        later,
+        script,
+        &mut io::sink(),
+        &mut Nobody,
+        answers,
+    )
 }
 
 // Runs a script over a world, draws what the audit tells then, and lets the world go.
@@ -139,7 +148,7 @@ fn draw_under<R: io::Read, O: io::Write, E: io::Write>(
 }
 
 /// Draws the run of a script over policies as `draw_policies` does, and notes what the reader and the writers answered. It
-/// fails only where `run_policies_noting` does, or where there is no memory for the page, which `no memory` on `err` tells.
+/// fails only where `run_policies_watched` does, or where there is no memory for the page, which `no memory` on `err` tells.
 pub fn draw_policies_noting<R: io::Read, O: io::Write, E: io::Write>(
     alloc: Global,
     text: &[u8],

@@ -68,8 +68,8 @@ impl Failure {
         }
     }
 
-    // The failure of the reading of a policy.
-    pub(crate) fn of_reading(why: ReadPolicyError) -> Failure
+    /// The failure of the reading of a policy.
+    pub fn of_reading(why: ReadPolicyError) -> Failure
         ensures { result ≡ failure_of_reading why }
     {
         match why {
@@ -78,8 +78,8 @@ impl Failure {
         }
     }
 
-    // The failure of the check of its kernels.
-    pub(crate) fn of_kernels(why: KernelError) -> Failure
+    /// The failure of the check of its kernels.
+    pub fn of_kernels(why: KernelError) -> Failure
         ensures { result ≡ failure_of_kernels why }
     {
         match why {
@@ -88,8 +88,8 @@ impl Failure {
         }
     }
 
-    // The failure of the opening of its core.
-    pub(crate) fn of_opening(why: OpenFault) -> Failure
+    /// The failure of the opening of its core.
+    pub fn of_opening(why: OpenFault) -> Failure
         ensures { result ≡ failure_of_opening why }
     {
         match why {
@@ -100,15 +100,16 @@ impl Failure {
         }
     }
 
-    // The failure of the run of a script.
-    pub(crate) fn of_script(why: ScriptFault) -> Failure
+    // The failure of the run of a script; none where whoever watches ended it.
+    pub(crate) fn of_script(why: ScriptFault) -> Option<Failure>
         ensures { result ≡ failure_of_script why }
     {
         match why {
-            ScriptFault::OutOfMemory => Failure::OutOfMemory,
-            ScriptFault::BadLine(number) => Failure::Line(number),
-            ScriptFault::Read => Failure::Read,
-            ScriptFault::Write => Failure::Write,
+            ScriptFault::OutOfMemory => Some(Failure::OutOfMemory),
+            ScriptFault::BadLine(number) => Some(Failure::Line(number)),
+            ScriptFault::Read => Some(Failure::Read),
+            ScriptFault::Write => Some(Failure::Write),
+            ScriptFault::Stopped(_) => None,
         }
     }
 }
@@ -161,7 +162,7 @@ fn tell_line<E: io::Write>(line: &str, ending: Status, err: &mut E, answers: &mu
 
 /// Names a failure in a line, and tells how the command ends. Where there is no memory for a line with a number in it,
 /// that is named.
-pub(crate) fn name_failure<E: io::Write>(
+pub fn name_failure<E: io::Write>(
     alloc: Global,
     failure: Failure,
     err: &mut E,
@@ -179,8 +180,8 @@ pub(crate) fn name_failure<E: io::Write>(
     }
 }
 
-/// Names why what was asked wasn't done, if it wasn't.
-pub(crate) fn tell_end<E: io::Write>(
+/// Names why what was asked wasn't done, if it wasn't and nobody who watches ended it.
+pub fn tell_end<E: io::Write>(
     alloc: Global,
     ended: Result<(), ScriptFault>,
     err: &mut E,
@@ -191,6 +192,9 @@ pub(crate) fn tell_end<E: io::Write>(
 {
     match ended {
         Ok(()) => Status::Done,
-        Err(why) => name_failure(alloc, Failure::of_script(why), err, answers),
+        Err(why) => match Failure::of_script(why) {
+            Some(failure) => name_failure(alloc, failure, err, answers),
+            None => Status::Refused,
+        },
     }
 }

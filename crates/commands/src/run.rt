@@ -4,6 +4,7 @@ ghost use Rattle.std.specs.Prelude.{◌≡◌, []};
 ghost use Rattle.commands.specs.Commands.{IsTold, RunsBehind, RunsOver, RunsFrom, RunsUnder, RunsPolicies, none_noted, streams};
 ghost use Rattle.commands.specs.declared.command_log.CommandLog.{CommandLog};
 ghost use Rattle.script.specs.IoLogs.{none_yet};
+ghost use Rattle.script.specs.Watchers.{ends_strictly, goes_on};
 ghost use Rattle.world.specs.Starting.{Begins};
 
 use crate::check::{Setup, judge};
@@ -13,7 +14,7 @@ use crate::further::{PolicyText, read_further};
 use crate::status::Status;
 use access_core::{Kernel, OpenFault};
 use policy::Policy;
-use script::{IoLog, ScriptFault, run_noting};
+use script::{IoLog, Nobody, ScriptFault, Strict, Watch, run_watched};
 use std::alloc::Global;
 use std::io;
 use world::World;
@@ -35,50 +36,53 @@ pub(crate) fn open_world(
 
 /// Runs a script.
 #[tactic(auto, unfolding(crate::specs::Commands::RunsOver))]
-pub(crate) fn run_through<R: io::Read, O: io::Write>(
+pub(crate) fn run_through<R: io::Read, O: io::Write, V: Watch>(
     alloc: Global,
     world: &mut World,
     later: &[Policy],
     script: &mut R,
     out: &mut O,
+    watcher: &mut V,
     answers: &mut IoLog,
 ) -> Result<(), ScriptFault>
     requires { answers.old ≡ none_yet }
-    ensures outcome { RunsOver later.now world.old world.new (R.remaining script.old) (R.remaining script.new) (O.contents out.old) (O.contents out.new) result }
+    ensures outcome { RunsOver V.says later.now world.old world.new (R.remaining script.old) (R.remaining script.new) (O.contents out.old) (O.contents out.new) result }
     ensures told { IsTold result answers.new }
 {
-    run_noting(alloc, script, out, world, later, answers)
+    run_watched(alloc, script, out, world, later, watcher, answers)
 }
 
 // Runs a script over a world, and lets the world go.
-fn run_in<R: io::Read, O: io::Write>(
+fn run_in<R: io::Read, O: io::Write, V: Watch>(
     alloc: Global,
     world: World,
     later: &[Policy],
     script: &mut R,
     out: &mut O,
+    watcher: &mut V,
     answers: &mut IoLog,
 ) -> Result<(), ScriptFault>
     requires { answers.old ≡ none_yet }
-    ensures outcome { RunsFrom later.now world (R.remaining script.old) (R.remaining script.new) (O.contents out.old) (O.contents out.new) result }
+    ensures outcome { RunsFrom V.says later.now world (R.remaining script.old) (R.remaining script.new) (O.contents out.old) (O.contents out.new) result }
     ensures told { IsTold result answers.new }
 {
     let mut world = world;
-    run_through(alloc, &mut world, later, script, out, answers)
+    run_through(alloc, &mut world, later, script, out, watcher, answers)
 }
 
 // Reads the texts of further policies, and runs a script over a world.
-fn run_behind<R: io::Read, O: io::Write, E: io::Write>(
+fn run_behind<R: io::Read, O: io::Write, E: io::Write, V: Watch>(
     alloc: Global,
     world: World,
     further: &[PolicyText],
     script: &mut R,
     out: &mut O,
     err: &mut E,
+    watcher: &mut V,
     noted: &mut CommandLog,
 ) -> Status
     requires { noted.old ≡ none_noted }
-    ensures { RunsBehind world further.now noted.new
+    ensures { RunsBehind V.says world further.now noted.new
         (streams (R.remaining script.old) (O.contents out.old) (E.contents err.old))
         (streams (R.remaining script.new) (O.contents out.new) (E.contents err.new)) result }
 {
@@ -90,6 +94,7 @@ fn run_behind<R: io::Read, O: io::Write, E: io::Write>(
                 later.policies(),
                 script,
                 out,
+                watcher,
                 &mut noted.asked,
             );
             tell_end(alloc, ended, err, &mut noted.faults)
@@ -99,7 +104,7 @@ fn run_behind<R: io::Read, O: io::Write, E: io::Write>(
 }
 
 // Runs a script over a policy that was let pass.
-fn run_under<R: io::Read, O: io::Write, E: io::Write>(
+fn run_under<R: io::Read, O: io::Write, E: io::Write, V: Watch>(
     alloc: Global,
     setup: Setup,
     further: &[PolicyText],
@@ -107,24 +112,26 @@ fn run_under<R: io::Read, O: io::Write, E: io::Write>(
     script: &mut R,
     out: &mut O,
     err: &mut E,
+    watcher: &mut V,
     noted: &mut CommandLog,
 ) -> Status
     requires { noted.old ≡ none_noted }
-    ensures { RunsUnder setup.policy setup.kernels.items further.now places noted.new
+    ensures { RunsUnder V.says setup.policy setup.kernels.items further.now places noted.new
         (streams (R.remaining script.old) (O.contents out.old) (E.contents err.old))
         (streams (R.remaining script.new) (O.contents out.new) (E.contents err.new)) result }
 {
     let Setup { policy, kernels } = setup;
     match open_world(alloc, policy, kernels, places) {
-        Ok(world) => run_behind(alloc, world, further, script, out, err, noted),
+        Ok(world) => run_behind(alloc, world, further, script, out, err, watcher, noted),
         Err(why) => name_failure(alloc, Failure::of_opening(why), err, &mut noted.faults),
     }
 }
 
-/// Runs a script over policies as `run_policies` does, and notes what the reader and the writers answered. It fails
-/// only where `no memory` stands on `err`, or `read fault` or `write fault`, each with its cause (`run_noting` in
-/// `script`), or where the writer of faults failed.
-pub fn run_policies_noting<R: io::Read, O: io::Write, E: io::Write>(
+/// Runs a script over policies as `run_policies` does, shows each reply to a watcher, who may end the run there with
+/// `Status::Refused` and nothing told, and notes what the reader and the writers answered. It fails only where `no memory`
+/// stands on `err`, or `read fault` or `write fault`, each with its cause (`run_watched` in `script`), or where the writer
+/// of faults failed.
+pub fn run_policies_watched<R: io::Read, O: io::Write, E: io::Write, V: Watch>(
     alloc: Global,
     text: &[u8],
     further: &[PolicyText],
@@ -132,14 +139,17 @@ pub fn run_policies_noting<R: io::Read, O: io::Write, E: io::Write>(
     script: &mut R,
     out: &mut O,
     err: &mut E,
+    watcher: &mut V,
     noted: &mut CommandLog,
 ) -> Status
     requires { noted.old ≡ none_noted }
-    ensures { RunsPolicies text.now further.now places noted.new (streams (R.remaining script.old) (O.contents out.old) (E.contents err.old))
+    ensures { RunsPolicies V.says text.now further.now places noted.new (streams (R.remaining script.old) (O.contents out.old) (E.contents err.old))
         (streams (R.remaining script.new) (O.contents out.new) (E.contents err.new)) result }
 {
     match judge(alloc, text) {
-        Ok(setup) => run_under(alloc, setup, further, places, script, out, err, noted),
+        Ok(setup) => run_under(
+            alloc, setup, further, places, script, out, err, watcher, noted,
+        ),
         Err(why) => name_failure(alloc, why, err, &mut noted.faults),
     }
 }
@@ -159,11 +169,21 @@ pub fn run_policies<R: io::Read, O: io::Write, E: io::Write>(
     out: &mut O,
     err: &mut E,
 ) -> Status
-    ensures { (noted : CommandLog) × RunsPolicies text.now further.now places noted (streams (R.remaining script.old) (O.contents out.old) (E.contents err.old))
+    ensures { (noted : CommandLog) × RunsPolicies goes_on text.now further.now places noted (streams (R.remaining script.old) (O.contents out.old) (E.contents err.old))
         (streams (R.remaining script.new) (O.contents out.new) (E.contents err.new)) result }
 {
     let mut noted = CommandLog::none();
-    run_policies_noting(alloc, text, further, places, script, out, err, &mut noted)
+    run_policies_watched(
+        alloc,
+        text,
+        further,
+        places,
+        script,
+        out,
+        err,
+        &mut Nobody,
+        &mut noted,
+    )
 }
 
 /// Runs a script over the policy in a text as `run_policies` does, with no further policies.
@@ -175,8 +195,36 @@ pub fn run_policy<R: io::Read, O: io::Write, E: io::Write>(
     out: &mut O,
     err: &mut E,
 ) -> Status
-    ensures { (noted : CommandLog) × RunsPolicies text.now [] places noted (streams (R.remaining script.old) (O.contents out.old) (E.contents err.old))
+    ensures { (noted : CommandLog) × RunsPolicies goes_on text.now [] places noted (streams (R.remaining script.old) (O.contents out.old) (E.contents err.old))
         (streams (R.remaining script.new) (O.contents out.new) (E.contents err.new)) result }
 {
     run_policies(alloc, text, &[], places, script, out, err)
+}
+
+/// Runs a script over the policies in texts as `run_policies` does, and ends with `Status::Refused` behind the first reply
+/// that tells that a line was refused, or that a packet was denied or failed, or a group faulted: no further line is served.
+pub fn run_strictly<R: io::Read, O: io::Write, E: io::Write>(
+    alloc: Global,
+    text: &[u8],
+    further: &[PolicyText],
+    places: usize,
+    script: &mut R,
+    out: &mut O,
+    err: &mut E,
+) -> Status
+    ensures { (noted : CommandLog) × RunsPolicies ends_strictly text.now further.now places noted (streams (R.remaining script.old) (O.contents out.old) (E.contents err.old))
+        (streams (R.remaining script.new) (O.contents out.new) (E.contents err.new)) result }
+{
+    let mut noted = CommandLog::none();
+    run_policies_watched(
+        alloc,
+        text,
+        further,
+        places,
+        script,
+        out,
+        err,
+        &mut Strict,
+        &mut noted,
+    )
 }

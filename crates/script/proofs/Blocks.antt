@@ -4,15 +4,15 @@ use Rattle.std.specs.Prelude.{⊤, MatchResult, IfErr}
 use Rattle.std.specs.Io.KnownBytes.{Appends, Consumes, Keeps, IsAtEnd}
 use Rattle.script.specs.declared.io_log.IoLog.{IoLog}
 use Rattle.script.specs.declared.fault.ScriptFault.{ScriptFault}
-use Rattle.script.specs.declared.fault.ScriptFault.TheVariants.{OutOfMemory, BadLine, Read, Write}
+use Rattle.script.specs.declared.fault.ScriptFault.TheVariants.{OutOfMemory, BadLine, Read, Write, Stopped}
 use Rattle.script.specs.declared.session.Session.{Session}
 use Rattle.script.specs.Words.{nonempty_before}
 use Rattle.script.specs.IoLogs.{AppendsBeginning, IsCaused, NoneFailed, ReadsBlock, read_more}
-use Rattle.script.specs.Runs.{Law, Runs, StopsNear, lines_from, lines_of}
+use Rattle.script.specs.Runs.{Law, Runs, StopsNear, lines_from, lines_of, unheard}
 use Rattle.script.specs.Sessions.{Took, Failed, Ended, Why, begun, pending, with_further, at_end}
 use Rattle.script.specs.Scripts.{Outcome, Replies, RunsScript, Tells}
 use Rattle.script.proofs.Appending.{appends_more, appends_none}
-use Rattle.script.proofs.Running.{runs_append, lines_end}
+use Rattle.script.proofs.Running.{ends_unheard, runs_append, runs_one, runs_unheard, lines_end}
 
 -- between reads: the lines that ended in what was read are done, and their replies were handed over
 pub record Going {S : Type 0} (law : Law S) (old new : S) (held holds had left : Option (List ℕ)) (session : Session) : Type 0 where
@@ -119,30 +119,88 @@ going_block law old mid new held holds handed had left further before between af
       number = omega (arith, number, took.number, so.number, length-append so.done took.done);
     }
 
--- why lines could not all be served leaves some of them, and the broker with the next served at most
-served_before : {S : Type 0} (law : Law S) (mid new : S) (number : ℕ) (done lines : List (List ℕ)) (fault : ScriptFault) → Why law mid new number done lines fault →
-    (further : List (List ℕ)) × (lines ≡ done ++ further) × StopsNear law mid new further
-served_before law mid new number done lines (BadLine bad) why = (why.2.0 ∷ why.2.1, why.2.2, inl why.1)
-served_before law mid new number done lines OutOfMemory why = (why.0, why.1, inr why.2)
-served_before law mid new number done lines Read why = absurd why
-served_before law mid new number done lines Write why = absurd why
+-- a text, where nothing follows it
+nothing_follows : (text last : List ℕ) → last ≡ [] → text ++ last ≡ text
+nothing_follows text last none = ap (λ end. text ++ end) none ∙ append-nil text
 
-outcome_why : {S : Type 0} (law : Law S) (old mid new : S) (held holds left : Option (List ℕ)) (script : List ℕ) (number : ℕ) (before done lines : List (List ℕ)) (fault : ScriptFault) →
-    lines_of script ≡ before ++ lines → number ≡ length before + 1 → Replies law old mid held holds (before ++ done) → Why law mid new number done lines fault →
-    Outcome law old new held holds left script (Err fault)
-outcome_why law old mid new held holds left script number before done lines (BadLine bad) e n so why = (
+-- why lines could not all be served leaves some of them, and the broker with the next served at most
+record Before {S : Type 0} (law : Law S) (old new : S) (lines : List (List ℕ)) (text : List ℕ) : Type 0 where
+  pub done : List (List ℕ)
+  pub further : List (List ℕ)
+  pub at : S
+  pub parts : lines ≡ done ++ further
+  pub runs : Runs (unheard law) old done text at
+  pub stops : StopsNear law at new further
+
+served_before : {S : Type 0} (law : Law S) (old mid new : S) (number : ℕ) (done lines : List (List ℕ)) (text last : List ℕ) (fault : ScriptFault) →
+    Runs law old done text mid → Why law mid new number done lines last fault → Before law old new lines (text ++ last)
+served_before law old mid new number done lines text last (BadLine bad) runs why = record {
+  done = done;
+  further = why.2.0 ∷ why.2.1;
+  at = mid;
+  parts = why.2.2;
+  runs = subst (λ text. Runs (unheard law) old done text mid) (sym (nothing_follows text last why.3)) (runs_unheard law old mid done text runs);
+  stops = inl why.1;
+}
+served_before law old mid new number done lines text last OutOfMemory runs why = record {
+  done = done;
+  further = why.0.0;
+  at = mid;
+  parts = why.0.1;
+  runs = subst (λ text. Runs (unheard law) old done text mid) (sym (nothing_follows text last why.1)) (runs_unheard law old mid done text runs);
+  stops = inr why.0.2;
+}
+served_before law old mid new number done lines text last (Stopped at) runs why = record {
+  done = done ++ why.1.0 ∷ [];
+  further = why.1.1;
+  at = new;
+  parts = why.1.2 ∙ sym (append_assoc done (why.1.0 ∷ []) why.1.1);
+  runs = runs_append (unheard law) old mid new done (why.1.0 ∷ []) text last (runs_unheard law old mid done text runs)
+      (runs_one (unheard law) mid new why.1.0 last (ends_unheard law mid new why.1.0 last why.1.3));
+  stops = inl refl;
+}
+served_before law old mid new number done lines text last Read runs why = absurd why
+served_before law old mid new number done lines text last Write runs why = absurd why
+
+outcome_why : {S : Type 0} (law : Law S) (old mid new : S) (held holds left : Option (List ℕ)) (script : List ℕ) (number : ℕ) (before done lines : List (List ℕ)) (text last : List ℕ) (fault : ScriptFault) →
+    lines_of script ≡ before ++ lines → number ≡ length before + 1 → Runs law old (before ++ done) text mid → Appends held holds (text ++ last) →
+    Why law mid new number done lines last fault → Outcome law old new held holds left script (Err fault)
+outcome_why law old mid new held holds left script number before done lines text last (BadLine bad) e n runs given why = (
   before ++ done,
   why.2.0,
   why.2.1,
   e ∙ ap (λ lines. before ++ lines) why.2.2 ∙ sym (append_assoc before done (why.2.0 ∷ why.2.1)),
   omega (arith, why.0, n, length-append before done),
   why.2.3,
-  subst (λ broker. Replies law old broker held holds (before ++ done)) (sym why.1) so,
+  (
+    text,
+    subst (λ broker. Runs law old (before ++ done) text broker) (sym why.1) runs,
+    subst (λ text. Appends held holds text) (nothing_follows text last why.3) given,
+  ),
 )
-outcome_why law old mid new held holds left script number before done lines OutOfMemory e n so why =
-    (before ++ done, why.0, mid, e ∙ ap (λ lines. before ++ lines) why.1 ∙ sym (append_assoc before done why.0), so, why.2)
-outcome_why law old mid new held holds left script number before done lines Read e n so why = absurd why
-outcome_why law old mid new held holds left script number before done lines Write e n so why = absurd why
+outcome_why law old mid new held holds left script number before done lines text last OutOfMemory e n runs given why = (
+  before ++ done,
+  why.0.0,
+  mid,
+  e ∙ ap (λ lines. before ++ lines) why.0.1 ∙ sym (append_assoc before done why.0.0),
+  (text, runs, subst (λ text. Appends held holds text) (nothing_follows text last why.1) given),
+  why.0.2,
+)
+outcome_why law old mid new held holds left script number before done lines text last (Stopped at) e n runs given why = (
+  before ++ done,
+  why.1.0,
+  why.1.1,
+  mid,
+  text,
+  last,
+  e ∙ ap (λ lines. before ++ lines) why.1.2 ∙ sym (append_assoc before done (why.1.0 ∷ why.1.1)),
+  omega (arith, why.0, n, length-append before done),
+  runs,
+  why.1.3,
+  given,
+)
+outcome_why law old mid new held holds left script number before done lines text last Read e n runs given why = absurd why
+outcome_why law old mid new held holds left script number before done lines text last Write e n runs given why = absurd why
 
 -- ---- a block, or the end, was read: `bytes` came, and `lines` are those to be served
 
@@ -161,42 +219,41 @@ module _ {S : Type 0} (law : Law S) (old mid new : S) (held holds handed had lef
   -- lines could not all be served, and the replies of those done were handed over
   pub outcome_failed : (fault : ScriptFault) → Failed law mid new before after lines fault → Appends holds handed (pending after) → RunsScript law old new held handed had further (Err fault)
   outcome_failed fault failed given =
-      let out : pending after ≡ failed.text = failed.out ∙ ap (λ front. front ++ failed.text) empty in (
+      let out : pending after ≡ failed.text ++ failed.last = failed.out ∙ ap (λ front. front ++ (failed.text ++ failed.last)) empty in (
         (so.read ++ bytes) ++ rest_of further,
         tells,
-        outcome_why law old failed.mid new held handed further ((so.read ++ bytes) ++ rest_of further) before.number so.done failed.done (lines (rest_of further)) fault all so.number (
-          so.text ++ failed.text,
-          runs_append law old mid failed.mid so.done failed.done so.text failed.text so.runs failed.runs,
-          appends_more held holds handed so.text failed.text so.handed (subst (λ text. Appends holds handed text) out given),
-        )
+        outcome_why law old failed.mid new held handed further ((so.read ++ bytes) ++ rest_of further) before.number so.done failed.done (lines (rest_of further))
+            (so.text ++ failed.text) failed.last fault all so.number
+            (runs_append law old mid failed.mid so.done failed.done so.text failed.text so.runs failed.runs)
+            (subst (λ text. Appends held handed text) (sym (append_assoc so.text failed.text failed.last))
+            (appends_more held holds handed so.text (failed.text ++ failed.last) so.handed (subst (λ text. Appends holds handed text) out given)))
             (failed.why (rest_of further)),
       )
 
   -- some of the lines were served, and the writer failed
-  written : (done : List (List ℕ)) (text : List ℕ) (last : S) → Runs law mid done text last → pending after ≡ pending before ++ text →
-      (others : List (List ℕ)) × (lines (rest_of further) ≡ done ++ others) × StopsNear law last new others → AppendsBeginning holds handed (pending after) → RunsScript law old new held handed had further (Err Write)
-  written done text last runs waits others given =
+  written : (text : List ℕ) → pending after ≡ pending before ++ text → Before law mid new (lines (rest_of further)) text → AppendsBeginning holds handed (pending after) → RunsScript law old new held handed had further (Err Write)
+  written text waits some given =
       let out : pending after ≡ text = waits ∙ ap (λ front. front ++ text) empty in (
         (so.read ++ bytes) ++ rest_of further,
         tells,
         (
-          so.done ++ done,
-          others.0,
-          last,
-          all ∙ ap (λ lines. so.done ++ lines) others.1 ∙ sym (append_assoc so.done done others.0),
+          so.done ++ some.done,
+          some.further,
+          some.at,
+          all ∙ ap (λ lines. so.done ++ lines) some.parts ∙ sym (append_assoc so.done some.done some.further),
           (
             so.text ++ text,
-            runs_append law old mid last so.done done so.text text so.runs runs,
+            runs_append (unheard law) old mid some.at so.done some.done so.text text (runs_unheard law old mid so.done so.text so.runs) some.runs,
             begins_more held holds handed so.text text so.handed (subst (λ text. AppendsBeginning holds handed text) out given),
           ),
-          others.2,
+          some.stops,
         ),
       )
 
   written_failed : (fault : ScriptFault) → Failed law mid new before after lines fault → AppendsBeginning holds handed (pending after) → RunsScript law old new held handed had further (Err Write)
   written_failed fault failed given =
-      written failed.done failed.text failed.mid failed.runs failed.out
-      (served_before law failed.mid new before.number failed.done (lines (rest_of further)) fault (failed.why (rest_of further))) given
+      written (failed.text ++ failed.last) failed.out
+      (served_before law mid failed.mid new before.number failed.done (lines (rest_of further)) failed.text failed.last fault failed.runs (failed.why (rest_of further))) given
 
 -- a block that could not all be taken
 pub outcome_block : {S : Type 0} (law : Law S) (old mid new : S) (held holds handed had left further : Option (List ℕ)) (before after : Session) (bytes : List ℕ) (fault : ScriptFault) →
@@ -211,8 +268,14 @@ pub written_block : {S : Type 0} (law : Law S) (old mid new : S) (held holds han
     MatchResult taken (λ _. Took law mid new before after bytes) (Failed law mid new before after (with_further before bytes)) →
     AppendsBeginning holds handed (pending after) → RunsScript law old new held handed had further (Err Write)
 written_block law old mid new held holds handed had left further before after bytes (Ok done) so k empty took given =
-    written law old mid new held holds handed had left further before after bytes (with_further before bytes) so k empty refl took.done took.text new took.runs took.out
-    (lines_from (begun after) (rest_of further), took.lines (rest_of further), inl refl) given
+    written law old mid new held holds handed had left further before after bytes (with_further before bytes) so k empty refl took.text took.out (record {
+      done = took.done;
+      further = lines_from (begun after) (rest_of further);
+      at = new;
+      parts = took.lines (rest_of further);
+      runs = runs_unheard law mid new took.done took.text took.runs;
+      stops = inl refl;
+    }) given
 written_block law old mid new held holds handed had left further before after bytes (Err fault) so k empty failed given =
     written_failed law old mid new held holds handed had left further before after bytes (with_further before bytes) so k empty refl fault failed given
 
@@ -253,8 +316,14 @@ pub written_end : {S : Type 0} (law : Law S) (old mid new : S) (held holds hande
     MatchResult ended (λ _. Ended law mid new before after) (Failed law mid new before after (at_end before)) →
     AppendsBeginning holds handed (pending after) → RunsScript law old new held handed had further (Err Write)
 written_end law old mid new held holds handed had left further before after (Ok done) so k at empty ended given =
-    written law old mid new held holds handed had left further before after [] (at_end before) so k empty (at_end_lines before further at) (nonempty_before (begun before) []) ended.text new ended.runs ended.out
-    ([], sym (append-nil (nonempty_before (begun before) [])), inl refl) given
+    written law old mid new held holds handed had left further before after [] (at_end before) so k empty (at_end_lines before further at) ended.text ended.out (record {
+      done = nonempty_before (begun before) [];
+      further = [];
+      at = new;
+      parts = sym (append-nil (nonempty_before (begun before) []));
+      runs = runs_unheard law mid new (nonempty_before (begun before) []) ended.text ended.runs;
+      stops = inl refl;
+    }) given
 written_end law old mid new held holds handed had left further before after (Err fault) so k at empty failed given =
     written_failed law old mid new held holds handed had left further before after [] (at_end before) so k empty (at_end_lines before further at) fault failed given
 
@@ -293,6 +362,7 @@ pub caused_fault : {S : Type 0} (law : Law S) (old new : S) (before after : Sess
     Failed law old new before after lines fault → IsCaused answers fault
 caused_fault law old new before after lines answers OutOfMemory failed = tt
 caused_fault law old new before after lines answers (BadLine number) failed = tt
+caused_fault law old new before after lines answers (Stopped number) failed = tt
 caused_fault law old new before after lines answers Read failed = absurd (failed.why [])
 caused_fault law old new before after lines answers Write failed = absurd (failed.why [])
 

@@ -6,6 +6,7 @@ pub mod Auditing
 pub mod Splitting
 pub mod Reading
 pub mod Running
+pub mod Watching
 pub mod Appending
 pub mod Writing
 pub mod Blocks

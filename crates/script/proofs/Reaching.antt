@@ -24,7 +24,7 @@ use Rattle.script.specs.declared.lines.Line.{Line}
 use Rattle.script.specs.declared.lines.Line.TheVariants as lines
 use Rattle.script.specs.Expansions.{ask, copies, does, meaning_of, raised, reload, served_or_empty, shown_or_empty}
 use Rattle.script.specs.Lines.{line_of}
-use Rattle.script.specs.Runs.{RepliedAs, Runs, Told, parts_told, worlds}
+use Rattle.script.specs.Runs.{RepliedAs, Runs, Told, parts_told, watched, worlds}
 
 -- ---- any line
 
@@ -94,7 +94,7 @@ line_reaches later (command.Reload number) old told new done = reload_reaches (n
 
 replied_reaches : (later : List Declared) (old new : Joined) (stands : Option Line) (reply : List ℕ) → RepliedAs (worlds later) old stands reply new →
     (parts : List Part) × Reaches old parts new
-unfolding worlds
+unfolding watched
 replied_reaches later old new None reply done = absurd done
 replied_reaches later old new (Some lines.Quiet) reply done = ([], reaches_none old new done.1)
 replied_reaches later old new (Some (lines.Asks asked)) reply done = (parts_told done.0, line_reaches later asked old done.0 new done.1)

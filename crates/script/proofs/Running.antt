@@ -1,18 +1,19 @@
 -- Runs over lines and bytes, one more at a time.
-use Rattle.std.proofs.Common.{◌≡◌, ℕ, suc, ◌+◌, ◌<◌, ◌≤◌, true, false, List, [], ◌∷◌, ◌++◌, length, Some, None, refl, sym, ap, ◌∙◌, subst, inl, inr, ◌⊎◌, eqb, append_assoc, append-nil, length-append, arith}
+use Rattle.std.proofs.Common.{◌≡◌, ℕ, suc, ◌+◌, ◌<◌, ◌≤◌, true, false, List, [], ◌∷◌, ◌++◌, length, Option, Some, None, refl, sym, ap, ◌∙◌, subst, inl, inr, ◌⊎◌, eqb, append_assoc, append-nil, length-append, arith}
 use Rattle.std.specs.Prelude.{◌==◌, nat_lt}
 use Rattle.std.proofs.lemmas.Bool.Decides.{nat_tests, eqb_tells}
 use Rattle.script.specs.declared.fault.ScriptFault.{ScriptFault}
-use Rattle.script.specs.declared.fault.ScriptFault.TheVariants.{OutOfMemory, BadLine, Read, Write}
+use Rattle.script.specs.declared.fault.ScriptFault.TheVariants.{OutOfMemory, BadLine, Read, Write, Stopped}
 use Rattle.script.specs.declared.command.Command.{Command}
+use Rattle.script.specs.declared.lines.Line.{Line}
 use Rattle.script.specs.declared.lines.Line.TheVariants as lines
 use Rattle.script.specs.declared.session.Session.{Session}
 use Rattle.policy.specs.Policy.{Declared}
 use Rattle.script.specs.Words.{nonempty_before}
 use Rattle.script.specs.Lines.{line_of}
 use Rattle.script.specs.Replies.{text_of_line}
-use Rattle.script.specs.Runs.{Law, Told, Runs, Replied, RepliedAs, StopsAt, Wanted, lines_from}
-use Rattle.script.specs.Sessions.{Took, Failed, Ended, EndedLine, FailedLine, FailedPart, FeedBetween, HasNoFeed, TookPart, WhyLine, WhyPart, Why, at_end, begun, pending, with_further}
+use Rattle.script.specs.Runs.{Law, Told, Ends, EndsAs, Runs, Replied, RepliedAs, StopsAt, Wanted, lines_from, unheard}
+use Rattle.script.specs.Sessions.{Took, Failed, Ended, EndedLine, FailedLine, FailedPart, FeedBetween, HasNoFeed, TookPart, WhyPart, Why, at_end, begun, pending, with_further}
 use Rattle.script.proofs.Splitting.{kept_begun}
 
 pub lines_end : (line : List ℕ) → lines_from line [] ≡ nonempty_before line []
@@ -64,8 +65,33 @@ wanted_reply law old new line command told before after is serves same = (
   same,
   inr (
     text_of_line (law.names new) told,
-    subst (λ found. RepliedAs law old found (text_of_line (law.names new) told) new) (sym is) (told, serves, refl),
+    subst (λ found. RepliedAs (unheard law) old found (text_of_line (law.names new) told) new) (sym is) (told, serves, refl, tt),
   ),
+)
+
+-- what is replied is replied whatever is said
+replied_unheard : {S : Type 0} (law : Law S) (old new : S) (stands : Option Line) (reply : List ℕ) → RepliedAs law old stands reply new → RepliedAs (unheard law) old stands reply new
+replied_unheard law old new None reply r = r
+replied_unheard law old new (Some lines.Quiet) reply r = r
+replied_unheard law old new (Some (lines.Asks command)) reply r = (r.0, r.1, r.2, tt)
+
+ends_unheard_as : {S : Type 0} (law : Law S) (old new : S) (stands : Option Line) (reply : List ℕ) → EndsAs law old stands reply new → RepliedAs (unheard law) old stands reply new
+ends_unheard_as law old new None reply r = r
+ends_unheard_as law old new (Some lines.Quiet) reply r = absurd r
+ends_unheard_as law old new (Some (lines.Asks command)) reply r = (r.0, r.1, r.2, tt)
+
+pub ends_unheard : {S : Type 0} (law : Law S) (old new : S) (line reply : List ℕ) → Ends law old line reply new → Replied (unheard law) old line reply new
+ends_unheard law old new line reply r = ends_unheard_as law old new (line_of (law.names old) law.later line) reply r
+
+pub runs_unheard : {S : Type 0} (law : Law S) (old new : S) (script : List (List ℕ)) (text : List ℕ) → Runs law old script text new → Runs (unheard law) old script text new
+runs_unheard law old new [] text r = r
+runs_unheard law old new (line ∷ script) text r = (
+  r.0,
+  r.1,
+  r.2,
+  replied_unheard law old r.0 (line_of (law.names old) law.later line) r.1 r.3,
+  runs_unheard law r.0 new script r.2 r.4,
+  r.5,
 )
 
 pub runs_one : {S : Type 0} (law : Law S) (old new : S) (line reply : List ℕ) → Replied law old line reply new → Runs law old (line ∷ []) reply new
@@ -92,25 +118,49 @@ took_line law old new before after part plain ended = record {
   few = omega (arith, length-append part (10 ∷ []));
 }
 
-pub why_line : {S : Type 0} (law : Law S) (old new : S) (line : List ℕ) (before : Session) (lines further : List (List ℕ)) (fault : ScriptFault) →
-    lines ≡ line ∷ further → WhyLine law old new line before fault → Why law old new before.number [] lines fault
-why_line law old new line before lines further (BadLine bad) e why =
-    (why.0 ∙ omega arith, why.1, (line, further, e, subst (λ broker. line_of (law.names broker) law.later line ≡ None) (sym why.1) why.2))
-why_line law old new line before lines further OutOfMemory e why = (line ∷ further, e, why)
-why_line law old new line before lines further Read e why = why
-why_line law old new line before lines further Write e why = why
-
-pub failed_line : {S : Type 0} (law : Law S) (old new : S) (before after : Session) (part : List ℕ) (fault : ScriptFault) → HasNoFeed part →
-    FailedLine law old new (begun before ++ part) before after fault → Failed law old new before after (with_further before (part ++ 10 ∷ [])) fault
-failed_line law old new before after part fault plain failed = record {
+-- the first of some lines is one at which they stop
+first_fails : {S : Type 0} (law : Law S) (old new : S) (before after : Session) (all : List ℕ → List (List ℕ)) (line : List ℕ) (further : List ℕ → List (List ℕ)) (fault : ScriptFault) →
+    ((more : List ℕ) → all more ≡ line ∷ further more) → FailedLine law old new line before after fault → Failed law old new before after all fault
+first_fails law old new before after all line further (BadLine bad) e failed = record {
   done = [];
   text = [];
+  last = [];
   mid = old;
   runs = (refl, refl);
   out = failed.0 ∙ sym (append-nil (pending before));
-  why = λ more. why_line law old new (begun before ++ part) before (lines_from (begun before) ((part ++ 10 ∷ []) ++ more)) (lines_from [] more) fault
-      (lines_line (begun before) part more plain) failed.1;
+  why = λ more. (
+    failed.1 ∙ omega arith,
+    failed.2,
+    (line, further more, e more, subst (λ broker. line_of (law.names broker) law.later line ≡ None) (sym failed.2) failed.3),
+    refl,
+  );
 }
+first_fails law old new before after all line further OutOfMemory e failed = record {
+  done = [];
+  text = [];
+  last = [];
+  mid = old;
+  runs = (refl, refl);
+  out = failed.0 ∙ sym (append-nil (pending before));
+  why = λ more. ((line ∷ further more, e more, failed.1), refl);
+}
+first_fails law old new before after all line further (Stopped at) e failed = record {
+  done = [];
+  text = [];
+  last = failed.0;
+  mid = old;
+  runs = (refl, refl);
+  out = failed.1;
+  why = λ more. (failed.2 ∙ omega arith, (line, further more, e more, failed.3));
+}
+first_fails law old new before after all line further Read e failed = absurd failed
+first_fails law old new before after all line further Write e failed = absurd failed
+
+pub failed_line : {S : Type 0} (law : Law S) (old new : S) (before after : Session) (part : List ℕ) (fault : ScriptFault) → HasNoFeed part →
+    FailedLine law old new (begun before ++ part) before after fault → Failed law old new before after (with_further before (part ++ 10 ∷ [])) fault
+failed_line law old new before after part fault plain failed =
+    first_fails law old new before after (with_further before (part ++ 10 ∷ [])) (begun before ++ part) (λ more. lines_from [] more) fault
+    (λ more. lines_line (begun before) part more plain) failed
 
 -- the end ends a line that has a byte
 pub ended_last : {S : Type 0} (law : Law S) (old new : S) (before after : Session) → 0 < length (begun before) →
@@ -124,33 +174,29 @@ ended_last law old new before after some ended = record {
 
 pub failed_last : {S : Type 0} (law : Law S) (old new : S) (before after : Session) (fault : ScriptFault) → 0 < length (begun before) →
     FailedLine law old new (begun before) before after fault → Failed law old new before after (at_end before) fault
-failed_last law old new before after fault some failed = record {
-  done = [];
-  text = [];
-  mid = old;
-  runs = (refl, refl);
-  out = failed.0 ∙ sym (append-nil (pending before));
-  why = λ more. why_line law old new (begun before) before (at_end before more) [] fault (kept_begun (begun before) [] some) failed.1;
-}
+failed_last law old new before after fault some failed =
+    first_fails law old new before after (at_end before) (begun before) (λ more. []) fault (λ more. kept_begun (begun before) [] some) failed
 
 -- a part that could not be taken: it makes the line too long, or finds no room
 why_part : {S : Type 0} (law : Law S) (broker : S) (before : Session) (part more : List ℕ) (fault : ScriptFault) → HasNoFeed part →
-    WhyPart before part fault → Why law broker broker before.number [] (with_further before part more) fault
+    WhyPart before part fault → Why law broker broker before.number [] (with_further before part more) [] fault
 why_part law broker before part more (BadLine bad) plain why =
     let longer : 16384 < length (begun before ++ part) = omega (arith, why.1, length-append (begun before) part) in
     let first = first_line (begun before ++ part) more (omega (arith, longer)) in
-    (why.0 ∙ omega arith, refl, (first.0, first.1, lines_part (begun before) part more plain ∙ first.2, no_form (law.names broker) law.later first.0 (omega (arith, longer, first.3))))
+    (why.0 ∙ omega arith, refl, (first.0, first.1, lines_part (begun before) part more plain ∙ first.2, no_form (law.names broker) law.later first.0 (omega (arith, longer, first.3))), refl)
 why_part law broker before part more OutOfMemory plain why =
     let first = first_line (begun before ++ part) more (omega (arith, why, length-append (begun before) part)) in
-    (first.0 ∷ first.1, lines_part (begun before) part more plain ∙ first.2, inl refl)
+    ((first.0 ∷ first.1, lines_part (begun before) part more plain ∙ first.2, inl refl), refl)
 why_part law broker before part more Read plain why = why
 why_part law broker before part more Write plain why = why
+why_part law broker before part more (Stopped at) plain why = absurd why
 
 pub failed_part : {S : Type 0} (law : Law S) (broker : S) (before after : Session) (part : List ℕ) (fault : ScriptFault) → HasNoFeed part →
     FailedPart before after part fault → Failed law broker broker before after (with_further before part) fault
 failed_part law broker before after part fault plain failed = record {
   done = [];
   text = [];
+  last = [];
   mid = broker;
   runs = (refl, refl);
   out = failed.0 ∙ sym (append-nil (pending before));
@@ -181,18 +227,24 @@ ended_part law old new before between after part took ended = record {
   number = ended.number ∙ ap (λ number. number + 1) took.number;
 }
 
-why_ended : {S : Type 0} (law : Law S) (old new : S) (before between : Session) (part : List ℕ) (fault : ScriptFault) → TookPart before between part →
-    WhyLine law old new (begun between) between fault → WhyLine law old new (begun before ++ part) before fault
-why_ended law old new before between part (BadLine bad) took why =
-    (why.0 ∙ took.number, why.1, subst (λ line. line_of (law.names old) law.later line ≡ None) took.line why.2)
-why_ended law old new before between part OutOfMemory took why = subst (λ line. StopsAt law old new (line ∷ [])) took.line why
-why_ended law old new before between part Read took why = why
-why_ended law old new before between part Write took why = why
-
 pub failed_ended : {S : Type 0} (law : Law S) (old new : S) (before between after : Session) (part : List ℕ) (fault : ScriptFault) → TookPart before between part →
     FailedLine law old new (begun between) between after fault → FailedLine law old new (begun before ++ part) before after fault
-failed_ended law old new before between after part fault took failed =
-    (failed.0 ∙ took.out, why_ended law old new before between part fault took failed.1)
+failed_ended law old new before between after part (BadLine bad) took failed = (
+  failed.0 ∙ took.out,
+  failed.1 ∙ took.number,
+  failed.2,
+  subst (λ line. line_of (law.names old) law.later line ≡ None) took.line failed.3,
+)
+failed_ended law old new before between after part OutOfMemory took failed =
+    (failed.0 ∙ took.out, subst (λ line. StopsAt law old new (line ∷ [])) took.line failed.1)
+failed_ended law old new before between after part (Stopped at) took failed = (
+  failed.0,
+  failed.1 ∙ ap (λ front. front ++ failed.0) took.out,
+  failed.2 ∙ took.number,
+  subst (λ line. Ends law old line failed.0 new) took.line failed.3,
+)
+failed_ended law old new before between after part Read took failed = absurd failed
+failed_ended law old new before between after part Write took failed = absurd failed
 
 no_length : (bytes : List ℕ) → length bytes ≡ 0 → bytes ≡ []
 no_length [] none = refl
@@ -229,17 +281,22 @@ took_behind law old mid new before between after bytes further a b = record {
   few = omega (arith, a.few, b.few, length-append bytes further, length-append a.done b.done);
 }
 
-pub why_behind : {S : Type 0} (law : Law S) (mid new : S) (first number : ℕ) (before done lines all : List (List ℕ)) (fault : ScriptFault) →
-    number ≡ first + length before → all ≡ before ++ lines → Why law mid new number done lines fault → Why law mid new first (before ++ done) all fault
-why_behind law mid new first number before done lines all (BadLine bad) n e why = (
-  omega (arith, why.0, length-append before done),
+pub why_behind : {S : Type 0} (law : Law S) (mid new : S) (first number : ℕ) (before done lines all : List (List ℕ)) (last : List ℕ) (fault : ScriptFault) →
+    number ≡ first + length before → all ≡ before ++ lines → Why law mid new number done lines last fault → Why law mid new first (before ++ done) all last fault
+why_behind law mid new first number before done lines all last (BadLine bad) n e why = (
+  omega (arith, why.0, n, length-append before done),
   why.1,
   (why.2.0, why.2.1, e ∙ ap (λ further. before ++ further) why.2.2 ∙ sym (append_assoc before done (why.2.0 ∷ why.2.1)), why.2.3),
+  why.3,
 )
-why_behind law mid new first number before done lines all OutOfMemory n e why =
-    (why.0, e ∙ ap (λ further. before ++ further) why.1 ∙ sym (append_assoc before done why.0), why.2)
-why_behind law mid new first number before done lines all Read n e why = why
-why_behind law mid new first number before done lines all Write n e why = why
+why_behind law mid new first number before done lines all last OutOfMemory n e why =
+    ((why.0.0, e ∙ ap (λ further. before ++ further) why.0.1 ∙ sym (append_assoc before done why.0.0), why.0.2), why.1)
+why_behind law mid new first number before done lines all last (Stopped at) n e why = (
+  omega (arith, why.0, n, length-append before done),
+  (why.1.0, why.1.1, e ∙ ap (λ further. before ++ further) why.1.2 ∙ sym (append_assoc before done (why.1.0 ∷ why.1.1)), why.1.3),
+)
+why_behind law mid new first number before done lines all last Read n e why = why
+why_behind law mid new first number before done lines all last Write n e why = why
 
 -- bytes, and further bytes that could not be taken
 pub failed_behind : {S : Type 0} (law : Law S) (old mid new : S) (before between after : Session) (bytes further : List ℕ) (fault : ScriptFault) →
@@ -248,12 +305,14 @@ pub failed_behind : {S : Type 0} (law : Law S) (old mid new : S) (before between
 failed_behind law old mid new before between after bytes further fault a b = record {
   done = a.done ++ b.done;
   text = a.text ++ b.text;
+  last = b.last;
   mid = b.mid;
   runs = runs_append law old mid b.mid a.done b.done a.text b.text a.runs b.runs;
-  out = b.out ∙ ap (λ front. front ++ b.text) a.out ∙ append_assoc (pending before) a.text b.text;
+  out = b.out ∙ ap (λ front. front ++ (b.text ++ b.last)) a.out ∙ append_assoc (pending before) a.text (b.text ++ b.last)
+      ∙ ap (λ text. pending before ++ text) (sym (append_assoc a.text b.text b.last));
   why = λ more.
       why_behind law b.mid new before.number between.number a.done b.done (with_further between further more)
-      (with_further before (bytes ++ further) more) fault a.number
+      (with_further before (bytes ++ further) more) b.last fault a.number
       (ap (lines_from (begun before)) (append_assoc bytes further more) ∙ a.lines (further ++ more))
       (b.why more);
 }
@@ -264,10 +323,11 @@ pub failed_front : {S : Type 0} (law : Law S) (old new : S) (before after : Sess
 failed_front law old new before after bytes further fault failed = record {
   done = failed.done;
   text = failed.text;
+  last = failed.last;
   mid = failed.mid;
   runs = failed.runs;
   out = failed.out;
-  why = λ more. subst (λ lines. Why law failed.mid new before.number failed.done lines fault)
+  why = λ more. subst (λ lines. Why law failed.mid new before.number failed.done lines failed.last fault)
       (ap (lines_from (begun before)) (sym (append_assoc bytes further more))) (failed.why (further ++ more));
 }
 

@@ -8,7 +8,7 @@ use Rattle.script.specs.declared.io_log.ReadAnswer.TheVariants as read
 use Rattle.script.specs.declared.io_log.WriteAnswer.{WriteAnswer}
 use Rattle.script.specs.declared.io_log.WriteAnswer.TheVariants as write
 use Rattle.script.specs.declared.fault.ScriptFault.{ScriptFault}
-use Rattle.script.specs.declared.fault.ScriptFault.TheVariants.{OutOfMemory, BadLine, Read, Write}
+use Rattle.script.specs.declared.fault.ScriptFault.TheVariants.{OutOfMemory, BadLine, Read, Write, Stopped}
 
 -- neither was asked yet
 abbrev pub none_yet : IoLog
@@ -53,6 +53,7 @@ IsCaused answers Read = (answers.read_failed ≡ true) ⊎ (answers.reads ≡ mo
 IsCaused answers Write = answers.write_failed ≡ true
 IsCaused answers OutOfMemory = ⊤
 IsCaused answers (BadLine number) = ⊤
+IsCaused answers (Stopped number) = ⊤
 
 -- what a read left: it gave bytes, of which there are none only at the end; or it gave nothing
 abbrev pub HasRead : Option (List ℕ) → Option (List ℕ) → ReadAnswer → List ℕ → Type 0

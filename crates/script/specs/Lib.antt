@@ -5,6 +5,7 @@ pub mod Replies
 pub mod Words
 pub mod Lines
 pub mod Expansions
+pub mod Watchers
 pub mod Runs
 pub mod Splitting
 pub mod Faults

@@ -2,10 +2,10 @@
 use Rattle.std.specs.Prelude.{ℕ, ◌≡◌, ◌+◌, List, ◌∷◌, ◌++◌, length, Option, Some, None, Result, Ok, Err, ⊤}
 use Rattle.std.specs.Io.KnownBytes.{Appends, IsAtEnd}
 use Rattle.script.specs.declared.fault.ScriptFault.{ScriptFault}
-use Rattle.script.specs.declared.fault.ScriptFault.TheVariants.{OutOfMemory, BadLine, Read, Write}
+use Rattle.script.specs.declared.fault.ScriptFault.TheVariants.{OutOfMemory, BadLine, Read, Write, Stopped}
 use Rattle.script.specs.IoLogs.{AppendsBeginning}
 use Rattle.script.specs.Lines.{line_of}
-use Rattle.script.specs.Runs.{Law, Runs, StopsAt, StopsNear, lines_from, lines_of}
+use Rattle.script.specs.Runs.{Law, Ends, Runs, StopsAt, StopsNear, lines_from, lines_of, unheard}
 
 -- the bytes that a reader has left are these, where it tells them
 abbrev pub Tells : Option (List ℕ) → List ℕ → Type 0
@@ -36,10 +36,15 @@ Outcome law old new held holds left script (Err Read) =
 Outcome law old new held holds left script (Err OutOfMemory) =
     (before : List (List ℕ)) × (after : List (List ℕ)) × (mid : _) × (lines_of script ≡ before ++ after)
     × Replies law old mid held holds before × StopsAt law mid new after
--- some lines were served, their replies handed over in part, and the next was served at most
+-- behind the reply to the line of the number whoever watches ended the run; that reply is the last
+Outcome law old new held holds left script (Err (Stopped number)) =
+    (before : List (List ℕ)) × (line : List ℕ) × (after : List (List ℕ)) × (mid : _) × (text : List ℕ) × (reply : List ℕ)
+    × (lines_of script ≡ before ++ line ∷ after) × (number ≡ length before + 1) × Runs law old before text mid × Ends law mid line reply new
+    × Appends held holds (text ++ reply)
+-- some lines were served, whatever was said to their replies, these handed over in part, and the next was served at most
 Outcome law old new held holds left script (Err Write) =
     (before : List (List ℕ)) × (after : List (List ℕ)) × (mid : _) × (lines_of script ≡ before ++ after)
-    × RepliesInPart law old mid held holds before × StopsNear law mid new after
+    × RepliesInPart (unheard law) old mid held holds before × StopsNear law mid new after
 
 -- what a run comes to, whatever the reader and the writer are: the script is what the reader gives, and just that
 -- where it tells its bytes; `had` and `left` are the reader's bytes before and after

@@ -1,11 +1,13 @@
 -- What a run in its course has done.
-use Rattle.std.specs.Prelude.{ℕ, ◌≡◌, ◌≢◌, ◌+◌, ◌<◌, ◌≤◌, List, [], ◌∷◌, ◌++◌, length, None, slice_index, string_bytes}
+use Rattle.std.specs.Prelude.{ℕ, ◌≡◌, ◌≢◌, ◌+◌, ◌<◌, ◌≤◌, List, [], ◌∷◌, ◌++◌, length, Option, Some, None, Result, Ok, Err, ⊤, slice_index, string_bytes}
 use Rattle.script.specs.declared.fault.ScriptFault.{ScriptFault}
-use Rattle.script.specs.declared.fault.ScriptFault.TheVariants.{OutOfMemory, BadLine, Read, Write}
+use Rattle.script.specs.declared.fault.ScriptFault.TheVariants.{OutOfMemory, BadLine, Read, Write, Stopped}
 use Rattle.script.specs.declared.session.Session.{Session}
+use Rattle.script.specs.declared.watch.Flow.{Flow}
+use Rattle.script.specs.declared.watch.Flow.TheVariants.{GoOn, End}
 use Rattle.script.specs.Words.{nonempty_before}
 use Rattle.script.specs.Lines.{line_of}
-use Rattle.script.specs.Runs.{Law, Runs, Replied, StopsAt, lines_from}
+use Rattle.script.specs.Runs.{Law, Ends, Runs, Replied, StopsAt, lines_from}
 
 -- the bytes of the line that is begun
 abbrev pub begun : Session → List ℕ
@@ -33,12 +35,17 @@ HasBadLine law broker done lines = (line : List ℕ) × (further : List (List �
 abbrev pub StopsBehind : {S : Type 0} → Law S → S → S → List (List ℕ) → List (List ℕ) → Type 0
 StopsBehind law mid new done lines = (further : List (List ℕ)) × (lines ≡ done ++ further) × StopsAt law mid new further
 
--- why some lines could not all be served, after those done; `number` is the first one's
-abbrev pub Why : {S : Type 0} → Law S → S → S → ℕ → List (List ℕ) → List (List ℕ) → ScriptFault → Type 0
-Why law mid new number done lines (BadLine bad) = (bad ≡ number + length done) × (new ≡ mid) × HasBadLine law new done lines
-Why law mid new number done lines OutOfMemory = StopsBehind law mid new done lines
-Why law mid new number done lines Read = ⊥
-Why law mid new number done lines Write = ⊥
+-- some lines begin with those done, and behind the reply to the further one whoever watches ends the run
+abbrev pub EndsBehind : {S : Type 0} → Law S → S → S → List (List ℕ) → List (List ℕ) → List ℕ → Type 0
+EndsBehind law mid new done lines reply = (line : List ℕ) × (further : List (List ℕ)) × (lines ≡ done ++ line ∷ further) × Ends law mid line reply new
+
+-- why some lines could not all be served, after those done; `number` is the first one's, and `last` the reply to one that ends the run
+abbrev pub Why : {S : Type 0} → Law S → S → S → ℕ → List (List ℕ) → List (List ℕ) → List ℕ → ScriptFault → Type 0
+Why law mid new number done lines last (BadLine bad) = (bad ≡ number + length done) × (new ≡ mid) × HasBadLine law new done lines × (last ≡ [])
+Why law mid new number done lines last OutOfMemory = StopsBehind law mid new done lines × (last ≡ [])
+Why law mid new number done lines last (Stopped at) = (at ≡ number + length done) × EndsBehind law mid new done lines last
+Why law mid new number done lines last Read = ⊥
+Why law mid new number done lines last Write = ⊥
 
 -- the lines that come when further bytes follow some, or when none follow the line that is begun
 abbrev pub with_further : Session → List ℕ → List ℕ → List (List ℕ)
@@ -47,14 +54,15 @@ with_further session bytes more = lines_from (begun session) (bytes ++ more)
 abbrev pub at_end : Session → List ℕ → List (List ℕ)
 at_end session more = nonempty_before (begun session) []
 
--- lines could not all be served: the replies of those done before wait
+-- lines could not all be served: the replies of those done before wait, and that of one that ends the run
 pub record Failed {S : Type 0} (law : Law S) (old new : S) (before after : Session) (lines : List ℕ → List (List ℕ)) (fault : ScriptFault) : Type 0 where
   pub done : List (List ℕ)
   pub text : List ℕ
+  pub last : List ℕ
   pub mid : S
   pub runs : Runs law old done text mid
-  pub out : pending after ≡ pending before ++ text
-  pub why : (more : List ℕ) → Why law mid new before.number done (lines more) fault
+  pub out : pending after ≡ pending before ++ (text ++ last)
+  pub why : (more : List ℕ) → Why law mid new before.number done (lines more) last fault
 
 -- the end was taken: the line that was begun is done
 pub record Ended {S : Type 0} (law : Law S) (old new : S) (before after : Session) : Type 0 where
@@ -83,6 +91,7 @@ WhyPart before part (BadLine bad) = (bad ≡ before.number) × (16384 < length (
 WhyPart before part OutOfMemory = 0 < length part
 WhyPart before part Read = ⊥
 WhyPart before part Write = ⊥
+WhyPart before part (Stopped at) = ⊥
 
 abbrev pub FailedPart : Session → Session → List ℕ → ScriptFault → Type 0
 FailedPart before after part fault = (pending after ≡ pending before) × WhyPart before part fault
@@ -95,12 +104,18 @@ pub record EndedLine {S : Type 0} (law : Law S) (old new : S) (line : List ℕ) 
   pub fresh : begun after ≡ []
   pub number : after.number ≡ before.number + 1
 
--- a line could not be served
-abbrev pub WhyLine : {S : Type 0} → Law S → S → S → List ℕ → Session → ScriptFault → Type 0
-WhyLine law old new line before (BadLine bad) = (bad ≡ before.number) × (new ≡ old) × (line_of (law.names old) law.later line ≡ None)
-WhyLine law old new line before OutOfMemory = StopsAt law old new (line ∷ [])
-WhyLine law old new line before Read = ⊥
-WhyLine law old new line before Write = ⊥
+-- what follows from what was said to a line: the next one begins, or the run ends, and nothing changes
+abbrev pub Follows : Option Flow → Session → Session → Result ⊤ ScriptFault → Type 0
+Follows (Some GoOn) before after ended = (ended ≡ Ok tt) × (begun after ≡ []) × (after.number ≡ before.number + 1) × (pending after ≡ pending before)
+Follows (Some End) before after ended = (ended ≡ Err (Stopped before.number)) × (after ≡ before)
+Follows None before after ended = (ended ≡ Err (BadLine before.number)) × (after ≡ before)
 
+-- a line could not be served, or is one that ends the run
 abbrev pub FailedLine : {S : Type 0} → Law S → S → S → List ℕ → Session → Session → ScriptFault → Type 0
-FailedLine law old new line before after fault = (pending after ≡ pending before) × WhyLine law old new line before fault
+FailedLine law old new line before after (BadLine bad) =
+    (pending after ≡ pending before) × (bad ≡ before.number) × (new ≡ old) × (line_of (law.names old) law.later line ≡ None)
+FailedLine law old new line before after OutOfMemory = (pending after ≡ pending before) × StopsAt law old new (line ∷ [])
+FailedLine law old new line before after (Stopped at) =
+    (reply : List ℕ) × (pending after ≡ pending before ++ reply) × (at ≡ before.number) × Ends law old line reply new
+FailedLine law old new line before after Read = ⊥
+FailedLine law old new line before after Write = ⊥

@@ -1,19 +1,20 @@
 //! The engine: it reads a line, does what it asks, and writes the reply.
 
-ghost use Rattle.std.specs.Prelude.{◌≡◌, ◌++◌, MatchResult, OnOk, OnErr, Result, string_bytes, true};
+ghost use Rattle.std.specs.Prelude.{◌≡◌, ◌++◌, IfOk, MatchResult, OnOk, OnErr, Result, string_bytes, true};
 ghost use Rattle.core_model.specs.History.{beginning};
 ghost use Rattle.world.specs.declared.reply.Refusal.{Refusal};
 ghost use Rattle.script.specs.declared.command.LineAnswer.{LineAnswer};
 ghost use Rattle.script.specs.Expansions.{does};
 ghost use Rattle.script.specs.Entries.{text_of_audit};
 ghost use Rattle.script.specs.Replies.{text_of_line};
-ghost use Rattle.script.specs.Runs.{worlds, Served, Wanted};
+ghost use Rattle.script.specs.Runs.{watched, Served, Wanted};
 
-use crate::command::Command;
+use crate::command::{Command, LineReply};
 use crate::entries::write_audit;
 use crate::expansions::perform;
 use crate::lines::{Line, read_line};
 use crate::replies::write_line;
+use crate::watch::{Flow, Watch};
 use core_model::Query;
 use policy::Policy;
 use std::alloc::{AllocError, Global};
@@ -49,47 +50,68 @@ fn tell_audit(alloc: Global, world: &World, out: &mut String) -> Result<(), Allo
     out.push_str(reply.as_str())
 }
 
-// Does what a line asks, and puts the reply behind the others; for want of memory nothing is written.
-fn serve(
+// Puts a reply behind the others; for want of memory nothing is written.
+fn put_reply(
     alloc: Global,
-    world: &mut World,
-    later: &[Policy],
-    command: Command,
+    world: &World,
+    told: &LineReply,
     out: &mut String,
 ) -> Result<(), AllocError>
-    ensures served { (told : Result LineAnswer Refusal) × does later.now command world.old told world.new
-        × OnOk result (string_bytes out.new ≡ string_bytes out.old ++ text_of_line world.new.core.origin.policy told) }
+    ensures told { OnOk result (string_bytes out.new ≡ string_bytes out.old ++ text_of_line world.now.core.origin.policy told.now) }
     ensures wanted { OnErr result (string_bytes out.new ≡ string_bytes out.old) }
 {
-    if asks_for_audit(&command) {
-        return tell_audit(alloc, world, out);
-    }
-    let told = perform(alloc, world, later, command);
     let mut reply = String::with_capacity(alloc, REPLY_ROOM)?;
-    write_line(&mut reply, world.policy(), &told)?;
+    write_line(&mut reply, world.policy(), told)?;
     out.push_str(reply.as_str())
 }
 
-/// Does what a line asks, and puts its reply behind the others; false where the line has no form. Where it wants memory
-/// nothing is written, and what the line asks is done or nothing is.
-#[tactic(auto, unfolding(crate::specs::Runs::worlds))]
-pub fn answer(
+// Does what the line of a number asks, puts the reply behind the others, and shows it to the watcher; for want of memory
+// nothing is written or shown.
+fn serve<V: Watch>(
     alloc: Global,
     world: &mut World,
     later: &[Policy],
+    watcher: &mut V,
+    number: u64,
+    command: Command,
+    out: &mut String,
+) -> Result<Flow, AllocError>
+    ensures served { (told : Result LineAnswer Refusal) × does later.now command world.old told world.new
+        × IfOk result (λ flow. (string_bytes out.new ≡ string_bytes out.old ++ text_of_line world.new.core.origin.policy told) × V.says told flow) }
+    ensures wanted { OnErr result (string_bytes out.new ≡ string_bytes out.old) }
+{
+    if asks_for_audit(&command) {
+        tell_audit(alloc, world, out)?;
+        return Ok(Flow::GoOn);
+    }
+    watcher.asks(&command);
+    let told = perform(alloc, world, later, command);
+    put_reply(alloc, world, &told, out)?;
+    Ok(watcher.seen(world, number, told))
+}
+
+/// Does what the line of a number asks, puts its reply behind the others, and answers what the watcher says to it; none
+/// where the line has no form. Where it wants memory nothing is written, and what the line asks is done or nothing is.
+#[tactic(auto, unfolding(crate::specs::Runs::watched))]
+pub fn answer<V: Watch>(
+    alloc: Global,
+    world: &mut World,
+    later: &[Policy],
+    watcher: &mut V,
+    number: u64,
     line: &[u8],
     out: &mut String,
-) -> Result<bool, AllocError>
+) -> Result<Option<Flow>, AllocError>
     ensures { MatchResult result
-        (Served (worlds later.now) world.old world.new line.now (string_bytes out.old) (string_bytes out.new))
-        (λ _. Wanted (worlds later.now) world.old world.new line.now (string_bytes out.old) (string_bytes out.new)) }
+        (Served (watched V.says later.now) world.old world.new line.now (string_bytes out.old) (string_bytes out.new))
+        (λ _. Wanted (watched V.says later.now) world.old world.new line.now (string_bytes out.old) (string_bytes out.new)) }
 {
     match read_line(alloc, world.policy(), later.len(), line)? {
-        None => Ok(false),
-        Some(Line::Quiet) => Ok(true),
+        None => Ok(None),
+        Some(Line::Quiet) => Ok(Some(Flow::GoOn)),
         Some(Line::Asks(command)) => {
-            serve(alloc, world, later, command, out)?;
-            Ok(true)
+            let flow = serve(alloc, world, later, watcher, number, command, out)?;
+            Ok(Some(flow))
         }
     }
 }

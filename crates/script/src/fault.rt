@@ -17,6 +17,9 @@ pub enum ScriptFault {
     /// The writer failed.
     #[error("writing failed")]
     Write,
+    /// Whoever watches it stopped it behind the reply to the line of this number, from 1.
+    #[error("stopped behind line {0}")]
+    Stopped(u64),
 }
 
 impl ScriptFault {
@@ -32,6 +35,7 @@ impl ScriptFault {
             ScriptFault::BadLine(_) => 1,
             ScriptFault::Read => 2,
             ScriptFault::Write => 3,
+            ScriptFault::Stopped(_) => 4,
         }
     }
 }

@@ -16,10 +16,11 @@ ghost use Rattle.script.specs.declared.lines.TheConstants.{LONGEST_LINE};
 ghost use Rattle.script.specs.declared.run.TheConstants.{MOST_READS};
 ghost use Rattle.script.specs.Expansions.{does};
 ghost use Rattle.script.specs.Limits.{longest_line, most_reads};
-ghost use Rattle.script.specs.Runs.{Runs, Told, lines_of, parts_told, worlds};
+ghost use Rattle.script.specs.Runs.{Ends, Replied, Runs, Told, lines_of, parts_told, watched, worlds};
 ghost use Rattle.script.specs.Splitting.{digits_of, ended, is_line, joined, sum_of_digits};
 ghost use Rattle.script.specs.Words.{address_word, decimal_word};
 
+use crate::watch::Watch;
 use policy::Policy;
 use world::{each_run_goes_on, the_headline};
 
@@ -51,6 +52,15 @@ pub fn scripts_are_requests(policy: &Policy)
     the_headline(policy);
     each_run_goes_on();
 }
+
+/// Whatever a watcher says, the lines that it lets go by and the one at which it ends a run do what they do unwatched, and
+/// are replied to so.
+pub fn watched_runs_are_runs<V: Watch>()
+    ensures runs { (later : List Declared) (old : Joined) (lines : List (List ℕ)) (text : List ℕ) (new : Joined) →
+        Runs (watched V.says later) old lines text new → Runs (worlds later) old lines text new }
+    ensures ends { (later : List Declared) (old : Joined) (line : List ℕ) (reply : List ℕ) (new : Joined) →
+        Ends (watched V.says later) old line reply new → Replied (worlds later) old line reply new }
+{}
 
 /// The code's limits of a line and of a run's reads are those of the rules.
 pub fn numbers_are_those_of_the_rules()

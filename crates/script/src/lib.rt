@@ -18,6 +18,8 @@ mod session;
 mod streams;
 mod texts;
 mod verbs;
+mod watch;
+mod watchers;
 mod words;
 
 pub use command::{Command, LineAnswer, LineReply, NumberMeaning};
@@ -26,9 +28,11 @@ pub use fault::ScriptFault;
 pub use io_log::{IoLog, flush_once};
 pub use laws::{
     lines_give_their_text_back, numbers_are_sums_of_their_digits, numbers_are_those_of_the_rules,
-    scripts_are_requests,
+    scripts_are_requests, watched_runs_are_runs,
 };
 pub use lines::{LONGEST_LINE, Line, read_line};
 pub use replies::write_line;
-pub use run::{run_noting, run_script};
+pub use run::{run_script, run_watched};
 pub use streams::write_through;
+pub use watch::{Flow, Watch};
+pub use watchers::{Nobody, Strict, strictly};

@@ -3,7 +3,7 @@
 ghost use Rattle.std.specs.Prelude.{◌≡◌, [], IfErr, OnErr, OnOk, string_bytes};
 ghost use Rattle.std.specs.Io.KnownBytes.{Appends};
 ghost use Rattle.script.specs.IoLogs.{none_yet, AppendsBeginning, IsCaused, NoneFailed, write_failing};
-ghost use Rattle.script.specs.Runs.{worlds};
+ghost use Rattle.script.specs.Runs.{watched, worlds};
 ghost use Rattle.script.specs.Scripts.{RunsScript};
 ghost use Rattle.script.specs.declared.fault.ScriptFault.TheVariants.{Write};
 
@@ -11,6 +11,8 @@ use crate::fault::ScriptFault;
 use crate::io_log::{IoLog, flush_once};
 use crate::session::{Session, take_bytes, take_end};
 use crate::streams::{read_once, write_through};
+use crate::watch::Watch;
+use crate::watchers::Nobody;
 use policy::Policy;
 use std::alloc::Global;
 use std::io;
@@ -43,19 +45,26 @@ fn hand_over<W: io::Write>(
     }
 }
 
-/// Runs a script as `run_script` does, and notes what the reader and the writer answered. It tells `Read` only
-/// where the reader failed or 2^40 reads were made, and `Write` only where the writer failed; where it ends well,
-/// neither failed.
-pub fn run_noting<R: io::Read, W: io::Write>(
+/// Runs a script: reads its lines, does what each asks in turn, writes the replies, and shows each to a watcher, who may end
+/// the run there. Whatever the reader, the writer and the watcher are, the world is one that doing some lines in turn leads
+/// to, and the writer gained just the replies that are owed to them; where the reader tells its bytes, those are the lines
+/// of its bytes. After `Write` the writer gained a beginning of the replies; after `Stopped` all up to that of its line, to
+/// which the watcher said that the run ends, as to none before it; after another fault, all replies of the lines before it.
+/// After `OutOfMemory` and `Write` the next line may have been served too, and nothing else.
+/// A run makes at most 2^40 reads. The line `reload N` hands in a copy of the N-th of the later policies.
+/// What the reader and the writer answered is noted: it tells `Read` only where the reader failed or 2^40 reads were made,
+/// and `Write` only where the writer failed; where it ends well, neither failed.
+pub fn run_watched<R: io::Read, W: io::Write, V: Watch>(
     alloc: Global,
     reader: &mut R,
     writer: &mut W,
     world: &mut World,
     later: &[Policy],
+    watcher: &mut V,
     answers: &mut IoLog,
 ) -> Result<(), ScriptFault>
     requires { answers.old ≡ none_yet }
-    ensures outcome { RunsScript (worlds later.now) world.old world.new (W.contents writer.old) (W.contents writer.new)
+    ensures outcome { RunsScript (watched V.says later.now) world.old world.new (W.contents writer.old) (W.contents writer.new)
         (R.remaining reader.old) (R.remaining reader.new) result }
     ensures caused { IfErr result (IsCaused answers.new) }
     ensures fine { OnOk result (NoneFailed answers.new) }
@@ -71,23 +80,18 @@ pub fn run_noting<R: io::Read, W: io::Write>(
             continue;
         };
         if count == 0 {
-            let ended = take_end(alloc, world, later, &mut session);
+            let ended = take_end(alloc, world, later, watcher, &mut session);
             hand_over(writer, &mut session.out, answers)?;
             return ended;
         }
-        let taken = take_bytes(alloc, world, later, &mut session, &block[..count]);
+        let taken = take_bytes(alloc, world, later, watcher, &mut session, &block[..count]);
         hand_over(writer, &mut session.out, answers)?;
         taken?;
     }
     Err(ScriptFault::Read)
 }
 
-/// Runs a script: reads its lines, does what each asks in turn, and writes the replies. Whatever the reader and the
-/// writer are, the world is one that doing some lines in turn leads to, and the writer gained just the replies
-/// that are owed to them; where the reader tells its bytes, those are the lines of its bytes. After
-/// `Write` the writer gained a beginning of the replies; after another fault, all replies of the lines before it.
-/// After `OutOfMemory` and `Write` the next line may have been served too, and nothing else.
-/// A run makes at most 2^40 reads. The line `reload N` hands in a copy of the N-th of the later policies.
+/// Runs a script as `run_watched` does, with nobody who would end the run, and without notes.
 pub fn run_script<R: io::Read, W: io::Write>(
     alloc: Global,
     reader: &mut R,
@@ -99,5 +103,13 @@ pub fn run_script<R: io::Read, W: io::Write>(
         (R.remaining reader.old) (R.remaining reader.new) result }
 {
     let mut answers = IoLog::none();
-    run_noting(alloc, reader, writer, world, later, &mut answers)
+    run_watched(
+        alloc,
+        reader,
+        writer,
+        world,
+        later,
+        &mut Nobody,
+        &mut answers,
+    )
 }

@@ -1,14 +1,14 @@
 use Rattle.std.proofs.Common.{◌≡◌, ◌++◌, length, subst, arith}
 use Rattle.std.proofs.lemmas.Bool.Decides.{nat_tests}
 use Rattle.std.proofs.lemmas.Result.{MatchResult-weaker, err_from_is_err_and}
-use Rattle.script.specs.Runs.{worlds}
+use Rattle.script.specs.Runs.{watched}
 use Rattle.script.specs.Sessions.{EndedLine, FailedLine, begun}
 use Rattle.script.proofs.Running.{ended_part, failed_ended, failed_front, failed_line, failed_part, none_begun, took_line}
 use Rattle.script.proofs.session.take_line.Goals as goal
 
 pub returns-then-is_empty : goal.returns-then-is_empty
-returns-then-is_empty c =
-    let law = worlds c.args.later.now in
+returns-then-is_empty g c =
+    let law = watched g.V.Watch.says c.args.later.now in
     let old = c.args.world.now in
     let new = c.serve_line.new.world in
     let before = c.args.session.now in
@@ -20,14 +20,14 @@ returns-then-is_empty c =
     (λ fault. λ failed. failed_line law old new before after c.args.part.now fault c.requires.part (subst (λ line. FailedLine law old new line before after fault) whole failed))
 
 pub returns-in_err-take_part : goal.returns-in_err-take_part
-returns-in_err-take_part c =
+returns-in_err-take_part g c =
     let p = err_from_is_err_and c.from_residual.result c.from_residual.ensures.1 in
     rw (p.1, p.2)
-    (failed_front (worlds c.args.later.now) _ _ _ _ _ _ _ (failed_part (worlds c.args.later.now) c.args.world.now _ _ c.args.part.now _ c.requires.part c.in_err-take_part.ensures))
+    (failed_front (watched g.V.Watch.says c.args.later.now) _ _ _ _ _ _ _ (failed_part (watched g.V.Watch.says c.args.later.now) c.args.world.now _ _ c.args.part.now _ c.requires.part c.in_err-take_part.ensures))
 
 pub returns : goal.returns
-returns c =
-    let law = worlds c.args.later.now in
+returns g c =
+    let law = watched g.V.Watch.says c.args.later.now in
     let old = c.args.world.now in
     let new = c.end_line.new.world in
     let before = c.args.session.now in
