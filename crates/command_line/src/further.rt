@@ -1,9 +1,9 @@
 //! Runs the script on standard input over the policy in a file, with the policies in further files behind it.
 
-use crate::explaining::{Further, PolicyFile, run_explaining};
+use crate::explained_run::{Further, run_explaining};
+use crate::explaining::PolicyFile;
 use crate::perform::{read_file, unread_file, unread_policy};
-use crate::strict::run_strictly;
-use commands::{PolicyText, Span, Status, draw_policies, run_policies};
+use commands::{PolicyText, Span, Status, draw_policies, run_policies, run_strictly};
 use std::io;
 
 /// How a script is run: with places for so many entries in the audit, up to the first line that isn't done, if it is

@@ -7,21 +7,23 @@
 #![tactic(auto)]
 
 mod author;
+mod explained_run;
 mod explaining;
 mod further;
 mod help;
+mod line_reader;
 mod meanings;
 mod perform;
 mod request;
-mod strict;
 mod syntax;
 mod threads;
 mod writers;
 
 pub use author::{assemble_policy, list_kernel};
-pub use explaining::{PolicyFile, check_explaining, run_explaining};
+pub use commands::run_strictly;
+pub use explained_run::run_explaining;
+pub use explaining::{PolicyFile, check_explaining};
 pub use meanings::explained;
 pub use perform::{obey, out_of_memory};
 pub use request::{Asked, Request, Unread, read_words};
-pub use strict::run_strictly;
 pub use threads::{AskedLoad, run_threads};

@@ -1,7 +1,7 @@
 //! The command that runs the load of threads over a policy.
 
 use crate::author::{fails, told};
-use crate::explaining::{PolicyFile, policy_told, tell, unchecked, unopened, unread};
+use crate::explaining::{PolicyFile, policy_told, tell};
 use aql_packet::{PacketId, QueueId};
 use commands::{Failure, Status, check_kernels};
 use policy::{Policy, read_policy};
@@ -43,7 +43,7 @@ fn refused<E: io::Write>(alloc: Global, err: &mut E, failure: Failure) -> Status
 fn unreported<E: io::Write>(alloc: Global, err: &mut E, why: LoadFault) -> Status {
     match why {
         LoadFault::OutOfMemory => fails(err, "no memory\n"),
-        LoadFault::Opening(why) => refused(alloc, err, unopened(why)),
+        LoadFault::Opening(why) => refused(alloc, err, Failure::of_opening(why)),
         LoadFault::Refused(_) => told(err, "threads: a call was refused\n", Status::Refused),
         LoadFault::MissingPass => told(err, "threads: a pass is missing\n", Status::Refused),
         LoadFault::NotNext => told(
@@ -114,7 +114,7 @@ fn run_over<R: Threads + Wait + Sync, O: io::Write, E: io::Write>(
     err: &mut E,
 ) -> Result<Status, Failure> {
     match check_kernels(alloc, &policy) {
-        Err(why) => Err(unchecked(why)),
+        Err(why) => Err(Failure::of_kernels(why)),
         Ok(kernels) => match run_load(rt, alloc, policy, kernels, asked.producers) {
             Ok(load) => Ok(report(alloc, &load, asked.explains, out, err)),
             Err(why) => Ok(unreported(alloc, err, why)),
@@ -132,7 +132,7 @@ fn run_text<R: Threads + Wait + Sync, O: io::Write, E: io::Write>(
     err: &mut E,
 ) -> Result<Status, Failure> {
     match read_policy(alloc, text) {
-        Err(why) => Err(unread(why)),
+        Err(why) => Err(Failure::of_reading(why)),
         Ok(policy) => run_over(rt, alloc, policy, asked, out, err),
     }
 }

@@ -1,0 +1,335 @@
+//! A run that tells beside each refusal, denial and failure why, and what mends it.
+
+use crate::explaining::{PolicyFile, policy_told, tell};
+use crate::further::Manner;
+use crate::line_reader::LineReader;
+use commands::{Failure, PolicyText, Status, check_kernels, name_failure, tell_end};
+use core_model::Part;
+use explain::{Asked, asked_by, bad_line, policy_fault, retold};
+use policy::{Policy, ReadPolicyError, read_policy};
+use script::{
+    Command, Flow, IoLog, LineAnswer, LineReply, ScriptFault, Watch, run_watched, strictly,
+};
+use std::alloc::{AllocError, Global};
+use std::io;
+use std::io::Write;
+use world::World;
+
+// The most runs in which a script is run: one behind each explanation.
+const MOST_RUNS: u64 = 1 << 40;
+
+/// The further policies of a run: what their files are called, and the texts of those that were read, in order.
+#[derive(Clone, Copy)]
+pub struct Further<'a> {
+    pub names: &'a [&'a str],
+    pub texts: &'a [PolicyText],
+}
+
+// What the world answered, if a line asked it.
+fn answered_in(answer: LineAnswer) -> Option<world::Answer> {
+    match answer {
+        LineAnswer::Answered { answer, .. } => Some(answer),
+        _other => None,
+    }
+}
+
+// The part that an answer hands out, if it does.
+fn rotated_in(answer: world::Answer) -> Option<Part> {
+    match answer {
+        world::Answer::Rotated(part) => Some(part),
+        _other => None,
+    }
+}
+
+// The part that a reply hands out, if it does. In three steps: a match in a match on what is moved takes the check
+// many minutes.
+fn part_of(reply: LineReply) -> Option<Part> {
+    let answer = reply.ok()?;
+    let answered = answered_in(answer)?;
+    rotated_in(answered)
+}
+
+/// Why a run ends behind a line.
+#[derive(Clone, Copy, PartialEq, Eq)]
+enum Cause {
+    /// There is something to be told; the run goes on then.
+    Telling,
+    /// The line wasn't done, and the run is strict.
+    NotDone,
+    /// There is no memory for what was handed out.
+    OutOfMemory,
+}
+
+/// A watcher that ends a run where something is to be told of a reply, and keeps what.
+#[derive(Drop)]
+struct Explainer {
+    alloc: Global,
+    is_strict: bool,
+    // How many lines came before those of this run.
+    before: u64,
+    // What the line asked that was asked last.
+    asked: Asked,
+    // What is to be told, and why the run ended.
+    told: String,
+    cause: Cause,
+    // The parts of the history that were handed out, in order.
+    handed_out: Vec<Part>,
+}
+
+impl Explainer {
+    fn new(alloc: Global, is_strict: bool) -> Explainer {
+        Explainer {
+            alloc,
+            is_strict,
+            before: 0,
+            asked: Asked::Nothing,
+            told: String::new(alloc),
+            cause: Cause::Telling,
+            handed_out: Vec::new(alloc),
+        }
+    }
+
+    // The number of a line of this run in the whole script.
+    fn number_of(&self, number: u64) -> u64 {
+        self.before.saturating_add(number)
+    }
+
+    // Keeps what is to be told of a reply, if there is memory for it.
+    fn explain(&mut self, world: &World, number: u64, reply: &LineReply) {
+        let told = retold(
+            self.alloc,
+            world,
+            self.handed_out.as_slice(),
+            self.number_of(number),
+            self.asked,
+            reply,
+        );
+        if let Ok(told) = told {
+            self.told = told;
+        }
+    }
+
+    // Keeps the part that a reply hands out, if it does; false where there is no memory for it.
+    fn keep(&mut self, reply: LineReply) -> bool {
+        match part_of(reply) {
+            Some(part) => self.handed_out.push(part).is_ok(),
+            None => true,
+        }
+    }
+
+    // Whether the run ends here, and why.
+    fn flow(&mut self, is_done: bool, is_kept: bool) -> Flow {
+        self.cause = if !is_done {
+            Cause::NotDone
+        } else if !is_kept {
+            Cause::OutOfMemory
+        } else {
+            Cause::Telling
+        };
+        if self.cause == Cause::Telling && self.told.is_empty() {
+            Flow::GoOn
+        } else {
+            Flow::End
+        }
+    }
+
+    // Goes on behind a line of this run.
+    fn go_on(&mut self, number: u64) {
+        self.before = self.number_of(number);
+        self.told.clear();
+    }
+}
+
+impl Watch for Explainer {
+    ghost use Rattle.std.specs.Prelude.{⊤, tt};
+
+    ghost says = { λ told flow. ⊤ };
+
+    ghost passes_audits = { λ before entries. tt };
+
+    fn asks(&mut self, command: &Command) {
+        self.asked = asked_by(command);
+    }
+
+    fn seen(&mut self, world: &World, number: u64, reply: LineReply) -> Flow {
+        self.explain(world, number, &reply);
+        let is_done = !self.is_strict || strictly(&reply) == Flow::GoOn;
+        let is_kept = self.keep(reply);
+        self.flow(is_done, is_kept)
+    }
+}
+
+// Names a failure.
+fn name<E: io::Write>(alloc: Global, err: &mut E, failure: Failure) -> Status {
+    name_failure(alloc, failure, err, &mut IoLog::none())
+}
+
+// Names a failure, and tells why.
+fn name_and_tell<E: io::Write>(
+    alloc: Global,
+    err: &mut E,
+    failure: Failure,
+    told: Result<String, AllocError>,
+) -> Status {
+    match name(alloc, err, failure) {
+        Status::Refused => tell(err, told, Status::Refused),
+        status => status,
+    }
+}
+
+// Writes what is to be told behind a line, and says how the command ends, if it does.
+fn tell_of_line<E: io::Write>(explainer: &Explainer, err: &mut E) -> Option<Status> {
+    let told = explainer.told.as_bytes();
+    if !told.is_empty() && (err.write_all(told).is_err() || err.flush().is_err()) {
+        return Some(Status::Failed);
+    }
+    match explainer.cause {
+        Cause::Telling => None,
+        Cause::NotDone => Some(Status::Refused),
+        Cause::OutOfMemory => Some(name(explainer.alloc, err, Failure::OutOfMemory)),
+    }
+}
+
+// Runs what is left of a script up to the next explanation.
+fn run_on<R: io::Read, O: io::Write>(
+    world: &mut World,
+    later: &[Policy],
+    explainer: &mut Explainer,
+    lines: &mut LineReader<'_, R>,
+    out: &mut O,
+) -> Result<(), ScriptFault> {
+    let mut answers = IoLog::none();
+    run_watched(
+        explainer.alloc,
+        lines,
+        out,
+        world,
+        later,
+        explainer,
+        &mut answers,
+    )
+}
+
+// Tells how a run ended, and says how the command ends, if it does.
+fn tell_of_run<R: io::Read, E: io::Write>(
+    ended: Result<(), ScriptFault>,
+    explainer: &mut Explainer,
+    lines: &LineReader<'_, R>,
+    err: &mut E,
+) -> Option<Status> {
+    let alloc = explainer.alloc;
+    match ended {
+        Err(ScriptFault::Stopped(number)) => {
+            let status = tell_of_line(explainer, err);
+            explainer.go_on(number);
+            status
+        }
+        Err(ScriptFault::BadLine(number)) => {
+            let number = explainer.number_of(number);
+            let told = bad_line(alloc, lines.line(), number);
+            Some(name_and_tell(alloc, err, Failure::Line(number), told))
+        }
+        ended => Some(tell_end(alloc, ended, err, &mut IoLog::none())),
+    }
+}
+
+// Runs a script over a world, and tells how that ended.
+fn run_in<R: io::Read, O: io::Write, E: io::Write>(
+    explainer: &mut Explainer,
+    world: World,
+    later: &[Policy],
+    script: &mut R,
+    out: &mut O,
+    err: &mut E,
+) -> Status {
+    let mut world = world;
+    let mut lines = LineReader::new(script);
+    for _ in 0..MOST_RUNS {
+        let ended = run_on(&mut world, later, explainer, &mut lines, out);
+        if let Some(status) = tell_of_run(ended, explainer, &lines, err) {
+            return status;
+        }
+    }
+    name(explainer.alloc, err, Failure::Read)
+}
+
+// Opens a world over a policy.
+fn open(alloc: Global, policy: Policy, places: usize) -> Result<World, Failure> {
+    match check_kernels(alloc, &policy) {
+        Ok(kernels) => match World::open(alloc, policy, kernels, places) {
+            Ok(world) => Ok(world),
+            Err(why) => Err(Failure::of_opening(why)),
+        },
+        Err(why) => Err(Failure::of_kernels(why)),
+    }
+}
+
+// Opens a world over the policy in a text.
+fn open_text(alloc: Global, text: &[u8], places: usize) -> Result<World, Failure> {
+    match read_policy(alloc, text) {
+        Ok(policy) => open(alloc, policy, places),
+        Err(why) => Err(Failure::of_reading(why)),
+    }
+}
+
+// Reads a further policy, and puts it behind the others.
+fn read_one(alloc: Global, text: &[u8], later: &mut Vec<Policy>) -> Result<(), ReadPolicyError> {
+    let policy = read_policy(alloc, text)?;
+    match later.push(policy) {
+        Ok(()) => Ok(()),
+        Err(_) => Err(ReadPolicyError::OutOfMemory),
+    }
+}
+
+// Reads the further policies: the place and the failure of the first that has one.
+fn read_later(
+    alloc: Global,
+    texts: &[PolicyText],
+    later: &mut Vec<Policy>,
+) -> Result<(), (usize, ReadPolicyError)> {
+    for (place, text) in texts.iter().enumerate() {
+        if let Err(why) = read_one(alloc, text.bytes(), later) {
+            return Err((place, why));
+        }
+    }
+    Ok(())
+}
+
+// What is told of a further policy with a fault.
+fn further_told(
+    alloc: Global,
+    further: Further<'_>,
+    place: usize,
+    why: ReadPolicyError,
+) -> Result<String, AllocError> {
+    match (further.names.get(place), further.texts.get(place), why) {
+        (Some(name), Some(text), ReadPolicyError::Fault(fault)) => {
+            policy_fault(alloc, name, text.bytes(), &fault)
+        }
+        _ => Ok(String::new(alloc)),
+    }
+}
+
+/// Runs a script over the policies in files as `run_policies` does, strictly as `run_strictly` does, and tells on `err`
+/// behind each reply that was refused, denied, failed, waits or found nothing why that is so, before any reply behind it.
+pub fn run_explaining<R: io::Read, O: io::Write, E: io::Write>(
+    alloc: Global,
+    file: PolicyFile<'_>,
+    further: Further<'_>,
+    manner: Manner,
+    script: &mut R,
+    out: &mut O,
+    err: &mut E,
+) -> Status {
+    let world = match open_text(alloc, file.text, manner.places) {
+        Ok(world) => world,
+        Err(failure) => return name_and_tell(alloc, err, failure, policy_told(alloc, file)),
+    };
+    let mut later = Vec::new(alloc);
+    if let Err((place, why)) = read_later(alloc, further.texts, &mut later) {
+        let told = further_told(alloc, further, place, why);
+        return name_and_tell(alloc, err, Failure::of_reading(why), told);
+    }
+    let mut explainer = Explainer::new(alloc, manner.is_strict);
+    run_in(&mut explainer, world, later.as_slice(), script, out, err)
+}
