@@ -1,7 +1,7 @@
 -- What is cached stays what the history says when an entry is put behind it and the fields follow.
 use Rattle.std.proofs.Common.{◌≡◌, ℕ, ◌+◌, ◌≤◌, List, [], ◌∷◌, length, sym, ◌∙◌, ap, subst, refl, true, false, Some, None, arith, length-append, map, fold}
 use Rattle.std.proofs.Common.{All}
-use Rattle.access_core.proofs.Terms.{AreBlocksOf, ArgumentBlock, ClientId, Effect, Event, History, InFlight, Inside, IsCached, IsEntered, IsSound, Ledger, Object, Outcome}
+use Rattle.access_core.proofs.Terms.{AreBlocksOf, ArgumentBlock, ClientId, Effect, Event, History, HoldsNone, InFlight, Inside, IsCached, IsEntered, IsSound, Ledger, Object, Outcome}
 use Rattle.access_core.proofs.Terms.{Owed}
 use Rattle.access_core.proofs.Terms.{PacketId, QUEUES, Queue, QueueId, Right, Start, block_of, is_given, byte_after, byte_at, cached_opening, cached_view, due, entered-owed}
 use Rattle.access_core.proofs.Terms.{enters, entry_of, flight, flight-more, history_of, in_force, in_force-more, in_force_after, lacks_room, launched_by, lengths_of}
@@ -23,11 +23,10 @@ pub record GrantsAfter (a : Inside) (new : Ledger) (blocks : List ArgumentBlock)
   pub granted : (client : ClientId) (on : Object) (right : Right) → ledger.in_force new client on right ≡ in_force_after client on right (ledger.in_force a.grants client on right) event
   pub rules : ledger.rules_in new ≡ record (ledger.rules_in a.grants) { rows = rows_after (ledger.rules_in a.grants).rows event }
   pub held : (queue : QueueId) (id : PacketId) (client : ClientId) (on : Object) (right : Right)
-      → ledger.holds new queue id client on right ≡ held (start_of a) (with_entry a.audit.items event outcome effects) queue id client on right
+      → is_given blocks queue id client on right ≡ held (start_of a) (with_entry a.audit.items event outcome effects) queue id client on right
+  pub unheld : HoldsNone new
   pub blocks_are : AreBlocksOf (flight (start_of a) (with_entry a.audit.items event outcome effects)) blocks
   pub arguments : (queue : QueueId) (id : PacketId) → block_of blocks queue id ≡ arguments (start_of a) (with_entry a.audit.items event outcome effects) queue id
-  pub given : (queue : QueueId) (id : PacketId) (client : ClientId) (on : Object) (right : Right)
-      → is_given blocks queue id client on right ≡ ledger.holds new queue id client on right
 
 -- How the memory does.
 pub record MemoryAfter (old new : List (List ℕ)) (effects : List Effect) : Type 0 where
@@ -91,9 +90,9 @@ module _ (a b : Inside) (event : Event) (outcome : Outcome) (effects : List Effe
         granted = granted-after;
         rules = rules-after;
         held = λ queue id client on right. rw (after.same.0.0, after.same.0.1, after.audit.items) (after.grants.held queue id client on right);
+        unheld = after.grants.unheld;
         blocks_are = rw (after.same.0.0, after.same.0.1, after.audit.items) after.grants.blocks_are;
         arguments = λ queue id. rw (after.same.0.0, after.same.0.1, after.audit.items) (after.grants.arguments queue id);
-        given = after.grants.given;
         entries = rw after.same.0.1 was.entries;
         segments = rw (after.same.0.1, after.same.0.2) was.segments;
         lengths = rw after.same.0.0 (after.memory.lengths ∙ was.lengths);

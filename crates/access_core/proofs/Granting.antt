@@ -1,14 +1,16 @@
 -- What a grant and a revocation are owed, by the grants that are cached.
-use Rattle.std.proofs.Common.{◌≡◌, sym, ◌∙◌, ap, Bool, Option, Some, None, Ok, Err, [], Result, if◌then◌else◌, not, arith}
+use Rattle.std.proofs.Common.{◌≡◌, ◌&&◌, sym, ◌∙◌, ap, Bool, false, Option, Some, None, Ok, Err, [], Result, if◌then◌else◌, not, arith}
 use Rattle.grants.specs.declared.refusal.GrantRefusal.{GrantRefusal as Why}
 use Rattle.core_model.specs.Owed.{owed}
 use Rattle.core_model.specs.Policies.{policy_at}
 use Rattle.access_core.proofs.Calls.{due-by}
-use Rattle.access_core.proofs.HeldRights.{is_holder-history}
+use Rattle.access_core.proofs.HeldRights.{any-none, holder-history}
+use Rattle.grants.specs.Ledger.{is_holder}
+use Rattle.grants.proofs.HoldLemmas.{first_same}
 use Rattle.access_core.proofs.Least.{passes, least-none, least-first}
 use Rattle.access_core.proofs.Terms.{Call, ClientId, Grant, History, InFlight, Inside, IsCached, IsFirstTo, Object, PacketId, QueueId, Revoke, RevokeAnswers, Rights}
 use Rattle.access_core.proofs.Terms.{Rules, are_allowed, due, enters, flight, grant_due, history_of, holds_one_of, is_full}
-use Rattle.access_core.proofs.Terms.{is_holder, knows_object, knows_client, refusal_of, refuse_unless, refuses, rules_in, rules_of, start_of}
+use Rattle.access_core.proofs.Terms.{all_rights, has, has_block, list_any, lists_one, knows_object, knows_client, refusal_of, refuse_unless, refuses, rules_in, rules_of, start_of}
 use Rattle.policy.specs.Rules as rules_kept
 use Rattle.grants.specs.declared.refusal.GrantRefusal.TheVariants as why
 use Rattle.core_model.specs.declared.outcome.Outcome.TheVariants as outcome
@@ -54,23 +56,34 @@ module _ (a : Inside) (kept : IsCached a) (client : ClientId) (on : Object) (rig
   abbrev holding : InFlight → Bool
   holding f = holds_one_of (start_of a) a.audit.items client on rights f
 
-  same_test : (queue : QueueId) (id : PacketId) → is_holder a.grants client on rights queue id ≡ passes holding (flight (start_of a) a.audit.items) queue id
-  same_test queue id =
-      is_holder-history (start_of a) a.audit.items kept.legal client on rights a.grants kept.held queue id
+  same_test : (queue : QueueId) (id : PacketId) → has_block (lists_one client on rights) a.blocks.items queue id ≡ passes holding (flight (start_of a) a.audit.items) queue id
+  same_test = holder-history (start_of a) a.audit.items kept.legal client on rights a.blocks.items kept.held
 
-  first-test : (o : Option (QueueId × PacketId)) → IsFirstTo (is_holder a.grants client on rights) o → IsFirstTo (passes holding (flight (start_of a) a.audit.items)) o
-  first-test None none = λ queue id. sym (same_test queue id) ∙ none queue id
-  first-test (Some first) is = (sym (same_test first.0 first.1) ∙ is.0, λ queue id passing. is.1 queue id (same_test queue id ∙ passing))
+  first-test : (o : Option (QueueId × PacketId)) → IsFirstTo (has_block (lists_one client on rights) a.blocks.items) o → IsFirstTo (passes holding (flight (start_of a) a.audit.items)) o
+  first-test o = first_same _ _ o (λ queue id. sym (same_test queue id))
 
-  -- a revocation that grants let pass is owed its entry
-  revoke-owed : RevokeAnswers a.grants client on rights (Ok tt) → owed (start_of a) a.audit.items (Call (Revoke client on rights)) ≡ enters outcome.Accepted []
+  -- a revocation that grants let pass, and no packet stands against, is owed its entry
+  revoke-owed : RevokeAnswers a.grants client on rights (Ok tt) → IsFirstTo (has_block (lists_one client on rights) a.blocks.items) None
+      → owed (start_of a) a.audit.items (Call (Revoke client on rights)) ≡ enters outcome.Accepted []
   unfolding owed
-  revoke-owed answers = grind (arith, least-none holding (flight (start_of a) a.audit.items) (first-test None answers.2))
+  revoke-owed answers none = grind (arith, least-none holding (flight (start_of a) a.audit.items) (first-test None none))
 
-  pub revoke-due : (old : History) → history_of a ≡ old → RevokeAnswers a.grants client on rights (Ok tt) → (full : Bool) → is_full old ≡ full
+  pub revoke-due : (old : History) → history_of a ≡ old → RevokeAnswers a.grants client on rights (Ok tt) → IsFirstTo (has_block (lists_one client on rights) a.blocks.items) None
+      → (full : Bool) → is_full old ≡ full
       → due old (Call (Revoke client on rights)) ≡ (if full then refuses refusal.AuditFull else enters outcome.Accepted [])
-  revoke-due old seen_as may full is = due-by a old seen_as (Call (Revoke client on rights)) _ (revoke-owed may)
+  revoke-due old seen_as may none full is = due-by a old seen_as (Call (Revoke client on rights)) _ (revoke-owed may none)
       ∙ ap (λ b. if b then refuses refusal.AuditFull else enters outcome.Accepted []) is
+
+  -- one that a packet stands against is refused, with the least of them
+  pub revoke-held : RevokeAnswers a.grants client on rights (Ok tt) → (queue : QueueId) (id : PacketId)
+      → IsFirstTo (has_block (lists_one client on rights) a.blocks.items) (Some (queue, id))
+      → owed (start_of a) a.audit.items (Call (Revoke client on rights)) ≡ refuses (refusal.Busy queue id)
+  unfolding owed
+  revoke-held answers queue id first = grind (arith, least-first holding (flight (start_of a) a.audit.items) queue id (first-test (Some (queue, id)) first))
+
+  -- no packet holds by the grants
+  none-holds : (queue : QueueId) (id : PacketId) → is_holder a.grants client on rights queue id ≡ false
+  none-holds queue id = (λ i. list_any (λ r. has rights r && kept.unheld queue id client on r i) all_rights) ∙ any-none (has rights) all_rights
 
   -- one that grants refuse is owed the refusal
   pub revoke-refused : (r : Why) → RevokeAnswers a.grants client on rights (Err r) → owed (start_of a) a.audit.items (Call (Revoke client on rights)) ≡ refuses (refusal_of r)
@@ -78,4 +91,4 @@ module _ (a : Inside) (kept : IsCached a) (client : ClientId) (on : Object) (rig
   revoke-refused why.UnknownClient answers = grind arith
   revoke-refused why.UnknownObject answers = grind arith
   revoke-refused why.NotAllowed answers = absurd answers
-  revoke-refused (why.Busy queue id) answers = grind (arith, least-first holding (flight (start_of a) a.audit.items) queue id (first-test (Some (queue, id)) answers.2))
+  revoke-refused (why.Busy queue id) answers = let held = answers.2.0 in let none = none-holds queue id in absurd cc

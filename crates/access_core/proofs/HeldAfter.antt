@@ -2,9 +2,9 @@
 use Rattle.std.proofs.Common.{◌≡◌, List, [], ◌∷◌, ◌++◌, refl, sym, subst, ◌∙◌, ap, Bool, true, false, Some, None, arith, ℕ, ◌&&◌, ◌||◌, ◌==◌, not, map}
 use Rattle.std.proofs.Common.{filter, fold, if◌then◌else◌}
 use Rattle.access_core.proofs.Terms.{is_given, lists_right}
-use Rattle.access_core.proofs.Terms.{AreBlocksOf, ArgumentBlock, ClientId, Effect, Event, Holds, InFlight, Inside, IsCached, Ledger, Object, ObjectRight, Opening, Outcome}
-use Rattle.access_core.proofs.Terms.{Packet, PacketId, QueueId, Releases, Right, Rights, are_in_force, arguments-more, arguments_of, as_rights, block_behind, block_of, entry_of, flight}
-use Rattle.access_core.proofs.Terms.{fold-append, has, held, held-more, held_after, in_force, in_force_after, is_among, is_block, is_packet, launched_by, list_all, list_any, map-append}
+use Rattle.access_core.proofs.Terms.{AreBlocksOf, ArgumentBlock, ClientId, Effect, Event, InFlight, Inside, IsCached, Ledger, Object, ObjectRight, Opening, Outcome}
+use Rattle.access_core.proofs.Terms.{Packet, PacketId, QueueId, Right, Rights, arguments-more, arguments_of, as_rights, block_behind, block_of, entry_of, flight}
+use Rattle.access_core.proofs.Terms.{fold-append, has, held, held-more, held_after, in_force_after, is_among, is_block, is_packet, launched_by, list_any, map-append}
 use Rattle.access_core.proofs.Terms.{bit_of, set_of}
 use Rattle.access_core.proofs.Terms.{name_of, owner, packet_of, releases, rights_at_launch, same_object, same_packet, start_of, with_entry}
 use Rattle.core_model.specs.Holds.{arguments}
@@ -21,7 +21,7 @@ use Rattle.grants.specs.Ledger as ledger
 pub held-still : (a : Inside) → IsCached a → (event : Event) (outcome : Outcome) (effects : List Effect) → launched_by event outcome ≡ None
     → ((queue : QueueId) (id : PacketId) → list_any (releases queue id) effects ≡ false)
     → (queue : QueueId) (id : PacketId) (client : ClientId) (on : Object) (right : Right)
-    → ledger.holds a.grants queue id client on right ≡ held (start_of a) (with_entry a.audit.items event outcome effects) queue id client on right
+    → is_given a.blocks.items queue id client on right ≡ held (start_of a) (with_entry a.audit.items event outcome effects) queue id client on right
 held-still a kept event outcome effects launches stays queue id client on right =
     kept.held queue id client on right
     ∙ sym (held-more (start_of a) a.audit.items (entry_of event outcome effects) queue id client on right
@@ -111,7 +111,7 @@ any-behind test b [] = or-none (test b)
     or-none x = grind arith
 any-behind test b (x ∷ xs) = grind (arith, any-behind test b xs)
 
-turned-name : (q : QueueId) (i : PacketId) (queue : QueueId) (id : PacketId) → same_packet q i queue id ≡ same_packet queue id q i
+pub turned-name : (q : QueueId) (i : PacketId) (queue : QueueId) (id : PacketId) → same_packet q i queue id ≡ same_packet queue id q i
 turned-name q i queue id = grind arith
 
 -- the rules with the same rows are the same
@@ -128,9 +128,9 @@ grants-still a kept event outcome effects launches stays same unchanged flying =
   granted = λ client on right. sym (same client on right _);
   rules = rows-still a.grants (sym (unchanged (ledger.rules_in a.grants).rows));
   held = held-still a kept event outcome effects launches stays;
+  unheld = kept.unheld;
   blocks_are = rw flying kept.blocks_are;
   arguments = blocks-still a kept event outcome effects launches stays;
-  given = kept.given;
 }
 
 -- ---- a packet that is launched
@@ -165,67 +165,55 @@ among-set on right (h ∷ hs) = λ i. (same_object on h.0 && set-has h.1 right i
 
 -- ---- the grants of a call
 
--- a packet that leaves flight holds nothing after it, and has no argument block
+-- a packet that leaves flight has no argument block after it, and holds nothing
 pub grants-released : (a : Inside) → IsCached a → (event : Event) (outcome : Outcome) (effects : List Effect) → launched_by event outcome ≡ None
     → ((client : ClientId) (on : Object) (right : Right) (b : Bool) → in_force_after client on right b event ≡ b)
     → ((rows : PolicyRows) → rows_after rows event ≡ rows)
-    → (new : Ledger) (blocks : List ArgumentBlock) (q : QueueId) (i : PacketId)
+    → (blocks : List ArgumentBlock) (q : QueueId) (i : PacketId)
     → ((queue : QueueId) (id : PacketId) → list_any (releases queue id) effects ≡ same_packet queue id q i)
-    → flight (start_of a) (with_entry a.audit.items event outcome effects) ≡ filter (λ f. not (is_packet q i f)) (flight (start_of a) a.audit.items) → Releases a.grants new q i
-    → blocks ≡ filter (λ b. not (is_block q i b)) a.blocks.items → GrantsAfter a new blocks event outcome effects
-grants-released a kept event outcome effects launches same unchanged new blocks q i drops flying releases_it dropped = record {
-  granted = λ client on right. releases_it.same_rights client on right ∙ sym (same client on right _);
-  rules = releases_it.same_rules ∙ rows-still a.grants (sym (unchanged (ledger.rules_in a.grants).rows));
+    → flight (start_of a) (with_entry a.audit.items event outcome effects) ≡ filter (λ f. not (is_packet q i f)) (flight (start_of a) a.audit.items)
+    → blocks ≡ filter (λ b. not (is_block q i b)) a.blocks.items → GrantsAfter a a.grants blocks event outcome effects
+grants-released a kept event outcome effects launches same unchanged blocks q i drops flying dropped = record {
+  granted = λ client on right. sym (same client on right _);
+  rules = rows-still a.grants (sym (unchanged (ledger.rules_in a.grants).rows));
   held = λ queue id client on right.
-      releases_it.released queue id client on right
+      ap (λ bs. is_given bs queue id client on right) dropped
+      ∙ any-left (λ b. is_named b.rights b.client client on right) q i queue id a.blocks.items
       ∙ ap (λ b. b && not (same_packet queue id q i)) (kept.held queue id client on right)
       ∙ sym (held-more (start_of a) a.audit.items (entry_of event outcome effects) queue id client on right
       ∙ (rw (launches, drops queue id) (plain (held (start_of a) a.audit.items queue id client on right) (same_packet queue id q i))));
+  unheld = kept.unheld;
   blocks_are = rw (flying, dropped) (blocks-left q i (flight (start_of a) a.audit.items) a.blocks.items kept.blocks_are);
   arguments = rw dropped (blocks-dropped a kept event outcome effects launches q i drops);
-  given = λ queue id client on right.
-      ap (λ bs. is_given bs queue id client on right) dropped
-      ∙ any-left (λ b. is_named b.rights b.client client on right) q i queue id a.blocks.items
-      ∙ ap (λ b. b && not (same_packet queue id q i)) (kept.given queue id client on right)
-      ∙ sym (releases_it.released queue id client on right);
 }
   where
     plain : (b c : Bool) → ((b || false) && not c) ≡ (b && not c)
     plain b c = grind arith
 
--- rights that are held are held by another name
-pub held-as : (old new : Ledger) (client : ClientId) (q : QueueId) (i : PacketId) (rights same : List (Object × Rights)) → rights ≡ same
-    → Holds old new client q i rights → Holds old new client q i same
-held-as old new client q i rights same is holds = subst (Holds old new client q i) is holds
-
--- a packet that is launched holds what its launch gives it
+-- a packet that is launched has a block with what its launch gives it
 pub grants-launched : (a : Inside) → IsCached a → (event : Event) (outcome : Outcome)
     → ((client : ClientId) (on : Object) (right : Right) (b : Bool) → in_force_after client on right b event ≡ b)
     → ((rows : PolicyRows) → rows_after rows event ≡ rows)
-    → (old new : Ledger) (blocks : List ArgumentBlock) (opening : Opening) (q : QueueId) (i : PacketId) (p : Packet) (rights : List (Object × Rights))
+    → (blocks : List ArgumentBlock) (opening : Opening) (q : QueueId) (i : PacketId) (p : Packet) (rights : List (Object × Rights))
     (bytes : List ℕ)
     → launched_by event outcome ≡ Some (record { queue = q; id = i; packet = p })
     → flight (start_of a) (with_entry a.audit.items event outcome []) ≡ flight (start_of a) a.audit.items ++ record { queue = q; id = i; packet = p } ∷ []
-    → old ≡ record a.grants { room = old.room } → rights ≡ map as_rights (rights_at_launch (start_of a) a.audit.items opening p)
-    → owner (start_of a) a.audit.items q ≡ Some opening → Holds old new opening.client q i rights
-    → bytes ≡ arguments_of (start_of a) a.audit.items p → blocks ≡ a.blocks.items ++ block_laid q i opening.client rights bytes ∷ [] → GrantsAfter a new blocks event outcome []
-grants-launched a kept event outcome still unchanged old new blocks opening q i p rights bytes launches flying same are is holds block_is pushed = record {
-  granted = λ client on right. holds.same_rights client on right ∙ ap (λ (g : Ledger). ledger.in_force g client on right) same ∙ sym (still client on right _);
-  rules = holds.same_rules ∙ ap ledger.rules_in same ∙ rows-still a.grants (sym (unchanged (ledger.rules_in a.grants).rows));
+    → rights ≡ map as_rights (rights_at_launch (start_of a) a.audit.items opening p)
+    → owner (start_of a) a.audit.items q ≡ Some opening
+    → bytes ≡ arguments_of (start_of a) a.audit.items p → blocks ≡ a.blocks.items ++ block_laid q i opening.client rights bytes ∷ []
+    → GrantsAfter a a.grants blocks event outcome []
+grants-launched a kept event outcome still unchanged blocks opening q i p rights bytes launches flying are is block_is pushed = record {
+  granted = λ client on right. sym (still client on right _);
+  rules = rows-still a.grants (sym (unchanged (ledger.rules_in a.grants).rows));
   held = λ queue id client on right.
-      holds.held queue id client on right
-      ∙ ap (λ (g : Ledger). ledger.holds g queue id client on right || (same_packet queue id q i && is_named rights opening.client client on right)) same
-      ∙ (λ j. kept.held queue id client on right j || (same_packet queue id q i && is_named (are j) opening.client client on right))
-      ∙ by_packet queue id client on right (same_packet queue id q i) refl
-      ∙ sym (held-more (start_of a) a.audit.items (entry_of event outcome []) queue id client on right);
-  blocks_are = rw (flying, pushed) (blocks-with q i p opening.client rights bytes (flight (start_of a) a.audit.items) a.blocks.items kept.blocks_are);
-  arguments = rw pushed (blocks-launched a kept event outcome q i p opening.client rights bytes launches block_is);
-  given = λ queue id client on right.
       ap (λ bs. is_given bs queue id client on right) pushed
       ∙ any-behind (lists_right queue id client on right) (block_laid q i opening.client rights bytes) a.blocks.items
-      ∙ (λ j. kept.given queue id client on right j || (turned-name q i queue id j && is_named rights opening.client client on right))
-      ∙ ap (λ (g : Ledger). ledger.holds g queue id client on right || (same_packet queue id q i && is_named rights opening.client client on right)) (sym same)
-      ∙ sym (holds.held queue id client on right);
+      ∙ (λ j. kept.held queue id client on right j || (turned-name q i queue id j && is_named (are j) opening.client client on right))
+      ∙ by_packet queue id client on right (same_packet queue id q i) refl
+      ∙ sym (held-more (start_of a) a.audit.items (entry_of event outcome []) queue id client on right);
+  unheld = kept.unheld;
+  blocks_are = rw (flying, pushed) (blocks-with q i p opening.client rights bytes (flight (start_of a) a.audit.items) a.blocks.items kept.blocks_are);
+  arguments = rw pushed (blocks-launched a kept event outcome q i p opening.client rights bytes launches block_is);
 }
   where
     hs : List ObjectRight
@@ -250,13 +238,3 @@ grants-launched a kept event outcome still unchanged old new blocks opening q i 
       where
         plain : (b : Bool) → (b || false) ≡ ((b || false) && true)
         plain b = grind arith
-
-all-in_force : (grants : Ledger) (client : ClientId) (hs : List ObjectRight) → are_in_force grants client (map as_rights hs) ≡ list_all (λ h. ledger.in_force grants client h.0 h.1) hs
-all-in_force grants client [] = refl
-all-in_force grants client (h ∷ hs) = grind (arith, all-in_force grants client hs)
-
--- what a packet that is launched will hold is in force
-pub launch-in_force : (a : Inside) → IsCached a → (old : Ledger) (client : ClientId) (rights : List (Object × Rights)) (hs : List ObjectRight) → old ≡ record a.grants { room = old.room }
-    → rights ≡ map as_rights hs
-    → list_all (λ h. in_force (start_of a) a.audit.items client h.0 h.1) hs ≡ true → are_in_force old client rights ≡ true
-launch-in_force a kept old client rights hs same are forced = grind (arith, all-in_force a.grants client hs)

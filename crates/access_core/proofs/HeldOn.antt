@@ -4,16 +4,14 @@ use Rattle.std.proofs.lemmas.Bool.{and_parts, eqb-true}
 use Rattle.core_model.specs.History.{beginning}
 use Rattle.core_model.specs.Holds.{arguments}
 use Rattle.core_model.proofs.Apart.{AreApart, apart-legal}
+use Rattle.access_core.proofs.HeldRights.{named-listed}
 use Rattle.access_core.proofs.Rotated.{none-behind}
-use Rattle.access_core.proofs.Terms.{ArgumentBlock, ClientId, History, InFlight, Inside, IsCached, IsHolder, Object, Opening, PacketId, QueueId, Right, Rights}
-use Rattle.access_core.proofs.Terms.{block_behind, bytes_or, flight, has, held, history_of, is_block, is_given, is_listed, is_named, is_packet, list_any, name_of, own_rights, owner, packet_of}
-use Rattle.access_core.proofs.Terms.{rights_for, rights_of, same_object, start_of}
+use Rattle.access_core.proofs.Terms.{ArgumentBlock, ClientId, History, InFlight, Inside, IsCached, IsHolder, Object, Opening, PacketId, QueueId, Right}
+use Rattle.access_core.proofs.Terms.{block_behind, bytes_or, flight, held, history_of, is_block, is_given, is_listed, is_named, is_packet, list_any, name_of, own_rights, owner, packet_of}
+use Rattle.access_core.proofs.Terms.{rights_for, rights_of, start_of}
 
 or-none : (b : Bool) → (b || false) ≡ b
 or-none b = grind arith
-
-same-turned : (c d : ClientId) → (c.0 == d.0) ≡ (d.0 == c.0)
-same-turned c d = grind arith
 
 neither : (x y : Bool) → (x || y) ≡ false → (x ≡ false) × (y ≡ false)
 neither false y is = (refl, is)
@@ -47,16 +45,6 @@ module _ (queue : QueueId) (id : PacketId) where
       by_test rest behind true is = none-behind a kept queue id fs bs b.bytes rest (apart-none f fs is apart.0)
 
   module _ (client : ClientId) (on : Object) (right : Right) where
-    -- what is named for a client is listed for it alone
-    listed-by : (b : Bool) (rights : List (Object × Rights))
-        → list_any (λ (named : Object × Rights). (b && same_object on named.0) && has named.1 right) rights ≡ is_listed (if b then rights else []) on right
-    listed-by true rights = refl
-    listed-by false [] = refl
-    listed-by false (one ∷ rights) = listed-by false rights
-
-    named-listed : (block : ArgumentBlock) → is_named block.rights block.client client on right ≡ is_listed (rights_for client (Some block)) on right
-    named-listed block = listed-by (client.0 == block.client.0) block.rights ∙ ap (λ b. is_listed (if b then block.rights else []) on right) (same-turned client block.client)
-
     -- where no packet has the name, no block lists a right of it
     none-given : (fs : List InFlight) (bs : List ArgumentBlock) → map packet_of bs ≡ map name_of fs → list_any (is_packet queue id) fs ≡ false → is_given bs queue id client on right ≡ false
     none-given [] [] names none = refl
@@ -88,7 +76,7 @@ module _ (queue : QueueId) (id : PacketId) where
         by_test rest behind true is =
             ap (λ x. is_named b.rights b.client client on right || x) (none-given fs bs rest (apart-none f fs is apart.0))
             ∙ or-none (is_named b.rights b.client client on right)
-            ∙ named-listed b
+            ∙ named-listed client on right b
 
 module _ (a : Inside) (kept : IsCached a) (queue : QueueId) (id : PacketId) where
   -- what the block lists is what the packet holds
@@ -99,7 +87,6 @@ module _ (a : Inside) (kept : IsCached a) (queue : QueueId) (id : PacketId) wher
       one : (on : Object) (right : Right) → is_listed (rights_of a.blocks.items queue id opening.client) on right ≡ own_rights (start_of a) a.audit.items queue id on right
       one on right =
           sym (given-found queue id opening.client on right (flight (start_of a) a.audit.items) a.blocks.items kept.blocks_are (apart-legal (start_of a) a.audit.items kept.legal))
-          ∙ kept.given queue id opening.client on right
           ∙ kept.held queue id opening.client on right
           ∙ sym (ap (λ (o : Option Opening). elim o [ None ↦ false | Some owning ↦ held (start_of a) a.audit.items queue id owning.client on right ]) owned)
 

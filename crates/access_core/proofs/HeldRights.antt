@@ -1,11 +1,11 @@
 -- Tests of rights that packets hold, taken right by right or packet by packet.
-use Rattle.std.proofs.Common.{arith, ◌≡◌, List, [], ◌∷◌, refl, sym, ◌∙◌, ap, Bool, true, false, ◌&&◌, ◌||◌}
-use Rattle.access_core.proofs.Terms.{ClientId, Entry, InFlight, IsLegal, Ledger, Object, PacketId, QueueId, Right, Rights, Start, all_rights, flight, has, held, held-flies, holds, holds_one_of}
-use Rattle.access_core.proofs.Terms.{is_holder, is_packet, list_any, set_of}
+use Rattle.std.proofs.Common.{arith, ◌≡◌, List, [], ◌∷◌, refl, sym, ◌∙◌, ap, Bool, true, false, Some, ◌&&◌, ◌||◌, ◌==◌, if◌then◌else◌}
+use Rattle.access_core.proofs.Terms.{ArgumentBlock, ClientId, Entry, InFlight, IsLegal, Object, PacketId, QueueId, Right, Rights, Start, all_rights, flight, has, held, held-flies, holds_one_of}
+use Rattle.access_core.proofs.Terms.{has_block, is_block, is_given, is_listed, is_named, is_packet, list_any, lists_one, lists_right, rights_for, same_object, set_of}
 
 -- ---- tests of lists
 
-any-none : {X : Type 0} (a : X → Bool) (xs : List X) → list_any (λ x. a x && false) xs ≡ false
+pub any-none : {X : Type 0} (a : X → Bool) (xs : List X) → list_any (λ x. a x && false) xs ≡ false
 any-none a [] = refl
 any-none a (x ∷ xs) = grind (arith, any-none a xs)
 
@@ -48,13 +48,38 @@ module _ (queue : QueueId) (id : PacketId) (test : QueueId → PacketId → Bool
   any-packet [] = refl
   any-packet (f ∷ fs) = grind (arith, any-packet fs)
 
--- a packet is one that holds, by what is held right by right, where it holds by the history, and is in flight
-pub is_holder-history : (start : Start) (es : List Entry) → IsLegal start es → (client : ClientId) (on : Object) (rights : Rights) (grants : Ledger)
-    → ((queue : QueueId) (id : PacketId) (c : ClientId) (o : Object) (r : Right) → holds grants queue id c o r ≡ held start es queue id c o r)
-    → (queue : QueueId) (id : PacketId) → is_holder grants client on rights queue id
+-- ---- what blocks list, of one of some rights
+
+module _ (client : ClientId) (on : Object) (right : Right) where
+  -- what is named for a client is listed for it alone
+  listed-by : (b : Bool) (rights : List (Object × Rights))
+      → list_any (λ (named : Object × Rights). (b && same_object on named.0) && has named.1 right) rights ≡ is_listed (if b then rights else []) on right
+  listed-by true rights = refl
+  listed-by false [] = refl
+  listed-by false (one ∷ rights) = listed-by false rights
+
+  pub named-listed : (block : ArgumentBlock) → is_named block.rights block.client client on right ≡ is_listed (rights_for client (Some block)) on right
+  named-listed block = listed-by (client.0 == block.client.0) block.rights ∙ ap (λ b. is_listed (if b then block.rights else []) on right) (same-turned client block.client)
+    where
+      same-turned : (c d : ClientId) → (c.0 == d.0) ≡ (d.0 == c.0)
+      same-turned c d = grind arith
+
+-- a packet has a block that lists one of them where its blocks list one, right by right
+lists-each : (client : ClientId) (on : Object) (rights : Rights) (queue : QueueId) (id : PacketId) (blocks : List ArgumentBlock)
+    → has_block (lists_one client on rights) blocks queue id ≡ list_any (λ r. has rights r && is_given blocks queue id client on r) all_rights
+lists-each client on rights queue id blocks =
+    (λ i. list_any (λ block. is_block queue id block && list_any (λ r. has rights r && sym (named-listed client on r block) i) all_rights) blocks)
+    ∙ (λ i. list_any (λ block. sym (any-constant (has rights) (λ r. is_named block.rights block.client client on r) (is_block queue id block) all_rights) i) blocks)
+    ∙ sym (any-swap (has rights) (λ block r. lists_right queue id client on r block) blocks all_rights)
+
+-- so a packet has one where it holds one of them by the history, and is in flight
+pub holder-history : (start : Start) (es : List Entry) → IsLegal start es → (client : ClientId) (on : Object) (rights : Rights) (blocks : List ArgumentBlock)
+    → ((queue : QueueId) (id : PacketId) (c : ClientId) (o : Object) (r : Right) → is_given blocks queue id c o r ≡ held start es queue id c o r)
+    → (queue : QueueId) (id : PacketId) → has_block (lists_one client on rights) blocks queue id
     ≡ list_any (λ f. is_packet queue id f && holds_one_of start es client on rights f) (flight start es)
-is_holder-history start es legal client on rights grants kept queue id =
-    (λ i. list_any (λ r. has rights r && kept queue id client on r i) all_rights)
+holder-history start es legal client on rights blocks kept queue id =
+    lists-each client on rights queue id blocks
+    ∙ (λ i. list_any (λ r. has rights r && kept queue id client on r i) all_rights)
     ∙ sym (any-packet queue id (λ q i. list_any (λ r. has rights r && held start es q i client on r) all_rights) (flight start es)
     ∙ flies (list_any (is_packet queue id) (flight start es)) refl)
   where

@@ -24,6 +24,8 @@ pub mod LayingLemmas
 pub mod HostMemory
 pub mod HeldRights
 pub mod HeldAfter
+pub mod Standing
+pub mod BlockRights
 pub mod Granting
 pub mod Listing
 pub mod ReloadLemmas

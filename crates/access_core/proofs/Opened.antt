@@ -40,10 +40,10 @@ IsCached-opened a policy opened fresh ruled memory values blocks queues flying e
     record {
       granted = λ client on right. empty (λ now es. ledger.in_force a.grants client on right ≡ in_force now es client on right) (fresh.none_in_force client on right);
       rules = empty (λ now es. rules_in a.grants ≡ rules_of (policy_at now es)) ruled;
-      held = λ queue id client on right. empty (λ now es. ledger.holds a.grants queue id client on right ≡ held now es queue id client on right) (fresh.none_held queue id client on right);
+      held = λ queue id client on right. empty (λ now es. is_given a.blocks.items queue id client on right ≡ held now es queue id client on right) (ap (λ bs. is_given bs queue id client on right) blocks);
+      unheld = fresh.none_held;
       blocks_are = empty (λ now es. AreBlocksOf (flight now es) a.blocks.items) (rw blocks refl);
       arguments = λ queue id. empty (λ now es. block_of a.blocks.items queue id ≡ arguments now es queue id) (rw blocks refl);
-      given = λ queue id client on right. ap (λ bs. is_given bs queue id client on right) blocks ∙ sym (fresh.none_held queue id client on right);
       entries = kernels;
       segments = segments;
       lengths = rw (memory, lengths) (lengths_of-zeros (region_lengths policy));

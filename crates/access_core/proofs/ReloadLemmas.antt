@@ -7,7 +7,6 @@ use Rattle.policy.specs.Policy.{Declared}
 use Rattle.policy.specs.Rules.{count, rows_allow}
 use Rattle.policy.specs.declared.rows.PolicyRows.{PolicyRows}
 use Rattle.grants.specs.Cells.{Table, has_right, in_table, item_at, object_count, object_place}
-use Rattle.grants.specs.Ledger.{HoldsDenied, IsBlockedBy}
 use Rattle.grants.specs.Ledger as ledger
 use Rattle.core_model.specs.History.{policy_in}
 use Rattle.core_model.specs.declared.origin.Origin.{Origin}
@@ -15,13 +14,13 @@ use Rattle.core_model.specs.Holds.{holds_denied}
 use Rattle.core_model.specs.Owed.{owed}
 use Rattle.core_model.specs.declared.event.Event.TheVariants.{Reload}
 use Rattle.core_model.proofs.Declared.{any-object, any-right}
-use Rattle.core_model.proofs.Entered.{named-found, reload-effects}
-use Rattle.core_model.proofs.Holding.{filtered-none}
-use Rattle.core_model.proofs.Holding as holding
+use Rattle.core_model.proofs.Entered.{named-found}
+use Rattle.grants.proofs.HoldLemmas.{first_same}
 use Rattle.access_core.proofs.Calls.{due-by}
 use Rattle.access_core.proofs.Least.{any-found, found-any, least-first, least-none, passes}
-use Rattle.access_core.proofs.Terms.{ClientId, History, InFlight, Inside, IsCached, IsFirstTo, Object, Opening, PacketId, QueueId, Right, Rules, Start, all, all_rights, and_parts, due, enters, first, flight, found-all}
-use Rattle.access_core.proofs.Terms.{found-passes, held, held-flies, history_of, in_flight, in_force, is_full, is_packet, knows_client, knows_object, launch-whole, list_any, numbered, owner, refuses, rules_of, same-state, start_of}
+use Rattle.access_core.proofs.Standing.{GivesDenied, denied-has, has-denied}
+use Rattle.access_core.proofs.Terms.{ClientId, History, InFlight, Inside, IsCached, IsFirstTo, Object, Opening, PacketId, QueueId, Right, Rules, Start, all, all_rights, and_parts, due, enters, first, flight, has_block, is_given}
+use Rattle.access_core.proofs.Terms.{found-passes, held, held-flies, history_of, in_flight, in_force, is_full, is_packet, knows_client, knows_object, launch-whole, list_any, lists_denied, numbered, owner, refuses, rules_of, same-state, start_of}
 use Rattle.core_model.specs.declared.outcome.Outcome.TheVariants as outcome
 use Rattle.core_model.specs.declared.refusal.Refusal.TheVariants as refusal
 
@@ -42,16 +41,17 @@ known-cell table client on right is = by_tests (knows_client table.rules client)
     by_tests false false is now = absurd cc
 
 module _ (a : Inside) (kept : IsCached a) where
-  -- a right that a packet holds: it is in flight, the right is the owner's of its queue, and is on a declared object
-  record Holding (queue : QueueId) (id : PacketId) (client : ClientId) (on : Object) : Type 0 where
+  -- a right that a packet holds: it is in flight, the right is the owner's of its queue, in force, and on a declared object
+  record Holding (queue : QueueId) (id : PacketId) (client : ClientId) (on : Object) (right : Right) : Type 0 where
     flying : InFlight
     found : in_flight (start_of a) a.audit.items queue id ≡ Some flying
     opening : Opening
     owner_is : owner (start_of a) a.audit.items queue ≡ Some opening
     client_is : opening.client ≡ client
     known : knows_object (rules_of (start_of a).policy) on ≡ true
+    forced : ledger.in_force a.grants client on right ≡ true
 
-  holding-now : (queue : QueueId) (id : PacketId) (client : ClientId) (on : Object) (right : Right) → ledger.holds a.grants queue id client on right ≡ true → Holding queue id client on
+  holding-now : (queue : QueueId) (id : PacketId) (client : ClientId) (on : Object) (right : Right) → is_given a.blocks.items queue id client on right ≡ true → Holding queue id client on right
   holding-now queue id client on right has_it =
       let start = start_of a in
       let es = a.audit.items in
@@ -69,7 +69,8 @@ module _ (a : Inside) (kept : IsCached a) where
       subst (λ c. held (first start es kept.legal) (all start es kept.legal) f.queue f.id c on right ≡ true) (sym owner_is) same in
       let granted : in_force start es whole.launch.opening.client on right ≡ true =
       sym (ap (λ (now : Start). now.in_force whole.launch.opening.client on right) (same-state start es kept.legal)) ∙ whole.holds on right own in
-      let declared : knows_object (ledger.rules_in a.grants) on ≡ true = known-cell a.grants.table whole.launch.opening.client on right (kept.granted whole.launch.opening.client on right ∙ granted) in
+      let forced : ledger.in_force a.grants whole.launch.opening.client on right ≡ true = kept.granted whole.launch.opening.client on right ∙ granted in
+      let declared : knows_object (ledger.rules_in a.grants) on ≡ true = known-cell a.grants.table whole.launch.opening.client on right forced in
       record {
         flying = f;
         found = there.is;
@@ -77,7 +78,12 @@ module _ (a : Inside) (kept : IsCached a) where
         owner_is = sym (ap (λ (now : Start). numbered now.openings queue.0) (same-state start es kept.legal)) ∙ subst (λ q. owner (first start es kept.legal) (all start es kept.legal) q ≡ Some whole.launch.opening) named.0 whole.owner_is;
         client_is = owner_is;
         known = ap (λ (rules : Rules). knows_object rules on) (sym kept.rules) ∙ declared;
+        forced = subst (λ c. ledger.in_force a.grants c on right ≡ true) owner_is forced;
       }
+
+  -- what a block lists is in force
+  pub forced-now : (queue : QueueId) (id : PacketId) (client : ClientId) (on : Object) (right : Right) → is_given a.blocks.items queue id client on right ≡ true → ledger.in_force a.grants client on right ≡ true
+  forced-now queue id client on right given = (holding-now queue id client on right given).forced
 
   module _ (rows : PolicyRows) where
     abbrev blocks : InFlight → Bool
@@ -92,14 +98,14 @@ module _ (a : Inside) (kept : IsCached a) where
       found : in_flight (start_of a) a.audit.items queue id ≡ Some flying
       is : blocks flying ≡ true
 
-    denied-blocks : (queue : QueueId) (id : PacketId) → HoldsDenied a.grants rows queue id → Blocking queue id
+    denied-blocks : (queue : QueueId) (id : PacketId) → GivesDenied rows a.blocks.items queue id → Blocking queue id
     denied-blocks queue id d =
         let start = start_of a in
         let es = a.audit.items in
-        let h = holding-now queue id d.client d.object d.right d.held in
+        let h = holding-now queue id d.client d.object d.right d.given in
         let named = named-found start es queue id h.flying h.found in
         let told : held start es h.flying.queue h.flying.id h.opening.client d.object d.right ≡ true =
-        (λ i. held start es (named.0 i) (named.1 i) (h.client_is i) d.object d.right) ∙ sym (kept.held queue id d.client d.object d.right) ∙ d.held in
+        (λ i. held start es (named.0 i) (named.1 i) (h.client_is i) d.object d.right) ∙ sym (kept.held queue id d.client d.object d.right) ∙ d.given in
         let denied : rows_allow rows h.opening.client d.object d.right ≡ false = ap (λ c. rows_allow rows c d.object d.right) h.client_is ∙ d.denied in
         let test : Object → Right → Bool = λ on right. held start es h.flying.queue h.flying.id h.opening.client on right && not (rows_allow rows h.opening.client on right) in
         let one : test d.object d.right ≡ true = and_from _ _ told (ap not denied) in
@@ -116,13 +122,13 @@ module _ (a : Inside) (kept : IsCached a) where
         }
 
     -- and one that is told to holds such a right
-    blocks-denied : (f : InFlight) → blocks f ≡ true → HoldsDenied a.grants rows f.queue f.id
+    blocks-denied : (f : InFlight) → blocks f ≡ true → GivesDenied rows a.blocks.items f.queue f.id
     blocks-denied f is = by_owner (owner (start_of a) a.audit.items f.queue) is
       where
         by_owner : (o : Option Opening) → (elim o [
           | None ↦ false
           | Some opening ↦ list_any (λ on. list_any (λ right. held (start_of a) a.audit.items f.queue f.id opening.client on right && not (rows_allow rows opening.client on right)) all_rights) (all_objects (count (rules_of (start_of a).policy)))
-        ]) ≡ true → HoldsDenied a.grants rows f.queue f.id
+        ]) ≡ true → GivesDenied rows a.blocks.items f.queue f.id
         by_owner None is = absurd cc
         by_owner (Some opening) is =
             let test : Object → Right → Bool = λ on right. held (start_of a) a.audit.items f.queue f.id opening.client on right && not (rows_allow rows opening.client on right) in
@@ -135,7 +141,7 @@ module _ (a : Inside) (kept : IsCached a) where
               client = opening.client;
               object = on.one;
               right = right.one;
-              held = kept.held f.queue f.id opening.client on.one right.one ∙ both.0;
+              given = kept.held f.queue f.id opening.client on.one right.one ∙ both.0;
               denied = turned (rows_allow rows opening.client on.one right.one) both.1;
             }
           where
@@ -144,58 +150,43 @@ module _ (a : Inside) (kept : IsCached a) where
             turned false is = refl
 
     -- by queue and id
-    denied-passes : (queue : QueueId) (id : PacketId) → HoldsDenied a.grants rows queue id → passes blocks fs queue id ≡ true
+    denied-passes : (queue : QueueId) (id : PacketId) → GivesDenied rows a.blocks.items queue id → passes blocks fs queue id ≡ true
     denied-passes queue id d =
         let b = denied-blocks queue id d in
         found-any (is_packet queue id) (λ f. is_packet queue id f && blocks f) fs b.flying b.found
         (and_from _ _ (found-passes (is_packet queue id) fs b.flying b.found) b.is)
 
-    passes-denied : (queue : QueueId) (id : PacketId) → passes blocks fs queue id ≡ true → HoldsDenied a.grants rows queue id
+    passes-denied : (queue : QueueId) (id : PacketId) → passes blocks fs queue id ≡ true → GivesDenied rows a.blocks.items queue id
     passes-denied queue id is =
         let there = any-found (λ f. is_packet queue id f && blocks f) fs is in
         let both = and_parts (is_packet queue id there.one) _ (found-passes (λ f. is_packet queue id f && blocks f) fs there.one there.is) in
         let numbers = and_parts (there.one.queue.0 == queue.0) (there.one.id.0 == id.0) both.0 in
         let same_queue : there.one.queue ≡ queue = ap (λ n. record { 0 = n }) (eqb-true _ _ numbers.0) in
         let same_id : there.one.id ≡ id = ap (λ n. record { 0 = n }) (eqb-true _ _ numbers.1) in
-        subst (λ i. HoldsDenied a.grants rows queue i) same_id (subst (λ q. HoldsDenied a.grants rows q there.one.id) same_queue (blocks-denied there.one both.1))
+        subst (λ i. GivesDenied rows a.blocks.items queue i) same_id (subst (λ q. GivesDenied rows a.blocks.items q there.one.id) same_queue (blocks-denied there.one both.1))
 
-    first-blocked : (o : Option (QueueId × PacketId)) → IsBlockedBy a.grants rows o → IsFirstTo (passes blocks fs) o
-    first-blocked None none = λ queue id. by_test queue id (passes blocks fs queue id) refl
+    same_blocked : (queue : QueueId) (id : PacketId) → has_block (lists_denied rows) a.blocks.items queue id ≡ passes blocks fs queue id
+    same_blocked queue id = by_tests (has_block (lists_denied rows) a.blocks.items queue id) (passes blocks fs queue id) refl refl
       where
-        by_test : (queue : QueueId) (id : PacketId) (b : Bool) → passes blocks fs queue id ≡ b → passes blocks fs queue id ≡ false
-        by_test queue id false is = is
-        by_test queue id true is =
-            let d = passes-denied queue id is in
-            let allowed = none queue id d.client d.object d.right d.held in
-            let denied = d.denied in
-            absurd cc
-    first-blocked (Some first) is = (denied-passes first.0 first.1 is.0, λ queue id passing. is.1 queue id (passes-denied queue id passing))
+        by_tests : (b c : Bool) → has_block (lists_denied rows) a.blocks.items queue id ≡ b → passes blocks fs queue id ≡ c → b ≡ c
+        by_tests true c is at = sym (denied-passes queue id (has-denied rows a.blocks.items queue id is)) ∙ at
+        by_tests false true is at = sym is ∙ denied-has rows a.blocks.items queue id (passes-denied queue id at)
+        by_tests false false is at = refl
+
+    first-blocked : (o : Option (QueueId × PacketId)) → IsFirstTo (has_block (lists_denied rows) a.blocks.items) o → IsFirstTo (passes blocks fs) o
+    first-blocked o = first_same _ _ o (λ queue id. sym (same_blocked queue id))
 
     -- a reload that nothing stands against is owed its entry
-    reload-owed : IsBlockedBy a.grants rows None → owed (start_of a) a.audit.items (Reload rows) ≡ enters outcome.Accepted []
+    reload-owed : IsFirstTo (has_block (lists_denied rows) a.blocks.items) None → owed (start_of a) a.audit.items (Reload rows) ≡ enters outcome.Accepted []
     unfolding owed
     reload-owed none = grind (arith, least-none blocks fs (first-blocked None none))
 
-    pub reload-due : (old : History) → history_of a ≡ old → IsBlockedBy a.grants rows None → (full : Bool) → is_full old ≡ full
+    pub reload-due : (old : History) → history_of a ≡ old → IsFirstTo (has_block (lists_denied rows) a.blocks.items) None → (full : Bool) → is_full old ≡ full
         → due old (Reload rows) ≡ (if full then refuses refusal.AuditFull else enters outcome.Accepted [])
     reload-due old seen_as may full is = due-by a old seen_as (Reload rows) _ (reload-owed may)
         ∙ ap (λ b. if b then refuses refusal.AuditFull else enters outcome.Accepted []) is
 
     -- one that a packet stands against is refused, with the least of them
-    pub reload-refused : (queue : QueueId) (id : PacketId) → IsBlockedBy a.grants rows (Some (queue, id)) → owed (start_of a) a.audit.items (Reload rows) ≡ refuses (refusal.Busy queue id)
+    pub reload-refused : (queue : QueueId) (id : PacketId) → IsFirstTo (has_block (lists_denied rows) a.blocks.items) (Some (queue, id)) → owed (start_of a) a.audit.items (Reload rows) ≡ refuses (refusal.Busy queue id)
     unfolding owed
     reload-refused queue id blocked = grind (arith, least-first blocks fs queue id (first-blocked (Some (queue, id)) blocked))
-
-    -- where a reload is owed its entry, nothing stands against it
-    pub unblocked : owed (start_of a) a.audit.items (Reload rows) ≡ enters outcome.Accepted [] → IsBlockedBy a.grants rows None
-    unblocked owing = λ queue id client on right has_it. by_test queue id client on right has_it (rows_allow rows client on right) refl
-      where
-        by_test : (queue : QueueId) (id : PacketId) (client : ClientId) (on : Object) (right : Right) → ledger.holds a.grants queue id client on right ≡ true
-            → (b : Bool) → rows_allow rows client on right ≡ b → rows_allow rows client on right ≡ true
-        by_test queue id client on right has_it true is = is
-        by_test queue id client on right has_it false is =
-            let b = denied-blocks queue id (record { client = client; object = on; right = right; held = has_it; denied = is }) in
-            let reloaded = reload-effects (start_of a) a.audit.items outcome.Accepted [] rows owing in
-            let none = found-all (λ f. blocks f ≡ false) (is_packet queue id) fs b.flying (filtered-none blocks fs (holding.least-none _ reloaded.unheld)) b.found in
-            let some = b.is in
-            absurd cc

@@ -15,9 +15,9 @@ use Rattle.core_model.proofs.Apart.{AreApart, apart-legal, found-legal}
 use Rattle.core_model.specs.Holds.{arguments}
 use Rattle.core_model.specs.Queues.{errors, is_stopped}
 use Rattle.regions.proofs.Laws.{byte_at-outside}
-use Rattle.access_core.specs.inner.Origins.{origin_behind, packet_origin, queue_origin, sought_in}
-use Rattle.access_core.proofs.Terms.{ArgumentBlock, IsCached, Inside, InFlight, PacketId, Place, Progress, Queue, QueueId, QueueView, Start, are_region_lengths, block_behind, byte_at, cached_opening}
-use Rattle.access_core.proofs.Terms.{cached_view, flight, in_flight, is_block, is_packet, is_place_of, lies_in_region, memory_at, name_of, next_id, numbered, numbered-map, packet_of, place_of}
+use Rattle.access_core.specs.inner.Origins.{IsHolding, origin_behind, packet_origin, queue_origin, sought_in}
+use Rattle.access_core.proofs.Terms.{ArgumentBlock, IsCached, Inside, InFlight, Ledger, PacketId, Place, Progress, Queue, QueueId, QueueView, Start, are_region_lengths, block_behind, byte_at, cached_opening}
+use Rattle.access_core.proofs.Terms.{cached_view, flight, in_flight, is_block, is_given, is_packet, is_place_of, lies_in_region, memory_at, name_of, next_id, numbered, numbered-map, packet_of, place_of}
 use Rattle.access_core.proofs.Terms.{program_of, progress, region_lengths, start_of}
 use Rattle.access_core.proofs.WorkLemmas.{find-placed}
 use Rattle.core_model.specs.declared.flight.TheConstants.{LAUNCH_PROGRESS}
@@ -221,11 +221,12 @@ module _ (a : Inside) (kept : IsCached a) where
 
   -- ---- all of it
 
-  pub rotated : are_region_lengths (region_lengths a.start.policy) ≡ true → begin (map program_of a.kernels.items) (origin_behind a) ≡ state_after (start_of a) a.audit.items
-  rotated fit = λ i. record {
-    policy = record a.start.policy { rows = (kept.rules i).rows };
+  pub rotated : (grants : Ledger) → IsHolding a.grants a.blocks.items grants → are_region_lengths (region_lengths a.start.policy) ≡ true
+      → begin (map program_of a.kernels.items) (origin_behind a grants) ≡ state_after (start_of a) a.audit.items
+  rotated grants holding fit = λ i. record {
+    policy = record a.start.policy { rows = ((holding.same_rules ∙ kept.rules) i).rows };
     kernels = map program_of a.kernels.items;
-    in_force = λ client on right. kept.granted client on right i;
+    in_force = λ client on right. (holding.same_rights client on right ∙ kept.granted client on right) i;
     memory = λ x. memory-is fit x i;
     signals = kept.values i;
     openings = (opened a.queues.items ∙ kept.openings) i;
@@ -234,7 +235,8 @@ module _ (a : Inside) (kept : IsCached a) where
     is_stopped = λ queue. stopped-is queue i;
     flight = flying-are i;
     progress = λ queue id. progress-is queue id i;
-    held = λ queue id client on right. kept.held queue id client on right i;
+    held = λ queue id client on right. (holding.given queue id client on right
+        ∙ ap (λ b. b || is_given a.blocks.items queue id client on right) (kept.unheld queue id client on right) ∙ kept.held queue id client on right) i;
     arguments = λ queue id. arguments-are queue id i;
     before = a.start.before + length a.audit.items;
   }

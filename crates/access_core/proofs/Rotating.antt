@@ -1,5 +1,5 @@
 -- What is kept beside an audit that is rotated: the fields stay, and tell the same of the state behind it.
-use Rattle.std.proofs.Common.{◌≡◌, ◌+◌, ◌≤◌, List, [], length, map, sym, ◌∙◌, ap, subst, true, false, Some, arith}
+use Rattle.std.proofs.Common.{◌≡◌, ◌+◌, ◌≤◌, List, [], length, map, refl, sym, ◌∙◌, ap, subst, true, false, Some, arith}
 use Rattle.std.specs.Prelude.{All}
 use Rattle.std.specs.List.{filter_map}
 use Rattle.sequences.specs.Room.{Roomy}
@@ -19,29 +19,28 @@ use Rattle.core_model.specs.Rotation.{lies_too_far}
 use Rattle.core_model.specs.States.{state_after}
 use Rattle.core_model.proofs.States.{rotate-legal, same-begin}
 use Rattle.grants.specs.Ledger as ledger
-use Rattle.grants.specs.Ledger.{IsCopy, Ledger}
-use Rattle.access_core.specs.inner.Origins.{origin_behind, packet_origin, queue_origin}
+use Rattle.access_core.specs.inner.Origins.{IsHolding, origin_behind, packet_origin, queue_origin}
 use Rattle.access_core.proofs.Rotated.{rotated}
-use Rattle.access_core.proofs.Terms.{AreBlocksOf, IsCached, Inside, Start, are_region_lengths, block_of, byte_at, cached_opening, cached_view, history_of, lies_in_region, lies_in_regions, ltb-false, numbered, program_of, queue_at}
+use Rattle.access_core.proofs.Terms.{AreBlocksOf, IsCached, Inside, Start, are_region_lengths, block_of, byte_at, cached_opening, cached_view, history_of, lies_in_region, lies_in_regions, ltb-false, is_given, numbered, program_of, queue_at}
 use Rattle.access_core.proofs.Terms.{region_lengths, rules_in, rules_of, start_of}
 
 module _ (a : Inside) (kept : IsCached a) where
   -- copies of the fields give the answers of the state behind the audit
-  pub copied-behind : (o : Origin) → o.policy ≡ a.start.policy → IsCopy a.grants o.grants → o.memory ≡ a.memory → o.signals ≡ a.signals → o.queues ≡ map queue_origin a.queues.items
+  pub copied-behind : (o : Origin) → o.policy ≡ a.start.policy → IsHolding a.grants a.blocks.items o.grants → o.memory ≡ a.memory → o.signals ≡ a.signals → o.queues ≡ map queue_origin a.queues.items
       → o.packets ≡ filter_map (packet_origin a.queues.items) a.blocks.items → o.before ≡ a.start.before + length a.audit.items
       → are_region_lengths (region_lengths a.start.policy) ≡ true → begin (map program_of a.kernels.items) o ≡ state_after (start_of a) a.audit.items
   copied-behind o policy grants memory signals queues packets before fit =
-      same-begin (map program_of a.kernels.items) o (origin_behind a) (record {
-        policy = λ i. record (policy i) { rows = (rules_in (grants i)).rows };
-        granted = λ client on right. ap (λ (l : Ledger). ledger.in_force l client on right) grants;
-        held = λ queue id client on right. ap (λ (l : Ledger). ledger.holds l queue id client on right) grants;
+      same-begin (map program_of a.kernels.items) o (origin_behind a o.grants) (record {
+        policy = λ i. record (policy i) { rows = (rules_in o.grants).rows };
+        granted = λ client on right. refl;
+        held = λ queue id client on right. refl;
         memory = memory;
         signals = signals;
         queues = queues;
         packets = packets;
         before = before;
       })
-      ∙ rotated a kept fit
+      ∙ rotated a kept o.grants grants fit
 
   -- and it has no more entries before it than may be
   pub few-behind : (o : Origin) → lies_too_far (history_of a) ≡ false → begin (map program_of a.kernels.items) o ≡ state_after (start_of a) a.audit.items → o.before ≤ MOST_BEFORE
@@ -62,10 +61,10 @@ module _ (a : Inside) (kept : IsCached a) where
       record {
         granted = λ client on right. here (λ now es. ledger.in_force a.grants client on right ≡ in_force now es client on right) (kept.granted client on right);
         rules = here (λ now es. rules_in a.grants ≡ rules_of (policy_at now es)) kept.rules;
-        held = λ queue id client on right. here (λ now es. ledger.holds a.grants queue id client on right ≡ held now es queue id client on right) (kept.held queue id client on right);
+        held = λ queue id client on right. here (λ now es. is_given a.blocks.items queue id client on right ≡ held now es queue id client on right) (kept.held queue id client on right);
+        unheld = kept.unheld;
         blocks_are = here (λ now es. AreBlocksOf (flight now es) a.blocks.items) kept.blocks_are;
         arguments = λ queue id. here (λ now es. block_of a.blocks.items queue id ≡ arguments now es queue id) (kept.arguments queue id);
-        given = kept.given;
         entries = kept.entries;
         segments = kept.segments;
         lengths = kept.lengths ∙ sym lengths;

@@ -1,7 +1,7 @@
 -- Stops of queues: what is owed by what is kept, and the room that is left.
 use Rattle.std.proofs.Common.{filter, ◌≡◌, ℕ, ◌-◌, ◌≤◌, List, [], ◌∷◌, length, map, refl, sym, ◌∙◌, ap, subst, Bool, true, false, Option, Some, None, arith, ℤ, ◌==◌}
 use Rattle.std.proofs.Common.{IfNone, IfSome, find, fold, is_some, not, option_map, if◌then◌else◌}
-use Rattle.access_core.proofs.Terms.{ArgumentBlock, Call, Effect, History, InFlight, Inside, IsCached, IsSound, Ledger, Outcome, PacketId, Place, Queue, QueueId, QueueView, Releases, Stop}
+use Rattle.access_core.proofs.Terms.{ArgumentBlock, Call, Effect, History, InFlight, Inside, IsCached, IsSound, Outcome, PacketId, Place, Queue, QueueId, QueueView, Stop}
 use Rattle.access_core.proofs.Terms.{byte_after, cached_opening, due, enters, entry_of, flight_of, freed_by, history_of, is_barrier, is_block, is_full, is_place_of, lacks_room}
 use Rattle.access_core.proofs.Terms.{numbered, queue_at, refuses, release_of, signals_after, start_of, with_leaving, with_queue, without_one}
 use Rattle.access_core.specs.declared.access.leaving.Leaving.TheVariants as leaving
@@ -104,17 +104,16 @@ module _ (a : Inside) (kept : IsCached a) (queue : QueueId) where
         sound = let less = sound-released at.q id at.sound in record { room = less.room; free = less.free; below = less.below }
 
   -- how the grants do
-  pub grants-stopped : (barrier : Option PacketId) (new : Ledger) (blocks : List ArgumentBlock) → IfSome barrier (λ id. Releases a.grants new queue id)
-      → IfSome barrier (λ id. blocks ≡ filter (λ b. not (is_block queue id b)) a.blocks.items)
-      → IfNone barrier (new ≡ a.grants) → IfNone barrier (blocks ≡ a.blocks.items) → GrantsAfter a new blocks (Call (Stop queue)) outcome.Accepted (release_of queue barrier)
-  grants-stopped None new blocks released dropped same same_blocks =
-      rw (same, same_blocks) (grants-still a kept (Call (Stop queue)) outcome.Accepted [] refl (λ q i. refl) (λ client on right b. refl) (λ rows. refl)
+  pub grants-stopped : (barrier : Option PacketId) (blocks : List ArgumentBlock) → IfSome barrier (λ id. blocks ≡ filter (λ b. not (is_block queue id b)) a.blocks.items)
+      → IfNone barrier (blocks ≡ a.blocks.items) → GrantsAfter a a.grants blocks (Call (Stop queue)) outcome.Accepted (release_of queue barrier)
+  grants-stopped None blocks dropped same =
+      rw same (grants-still a kept (Call (Stop queue)) outcome.Accepted [] refl (λ q i. refl) (λ client on right b. refl) (λ rows. refl)
       (flight-unlaunched (start_of a) a.audit.items (Call (Stop queue)) outcome.Accepted [] refl))
-  grants-stopped (Some id) new blocks released dropped same same_blocks =
+  grants-stopped (Some id) blocks dropped same =
       grind (
         arith,
-        grants-released a kept (Call (Stop queue)) outcome.Accepted (effect.Release queue id ∷ []) refl (λ client on right b. refl) (λ rows. refl) new blocks queue id (is_release queue id).drops
-            (flight-released (start_of a) a.audit.items _ _ _ queue id (is_release queue id)) released dropped,
+        grants-released a kept (Call (Stop queue)) outcome.Accepted (effect.Release queue id ∷ []) refl (λ client on right b. refl) (λ rows. refl) blocks queue id (is_release queue id).drops
+            (flight-released (start_of a) a.audit.items _ _ _ queue id (is_release queue id)) dropped,
       )
 
   -- a stop is due its entry where a barrier packet leaves flight for it, or the audit has room

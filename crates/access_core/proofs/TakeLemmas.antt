@@ -1,16 +1,16 @@
 -- What is owed to a packet that is handed over, by what is kept.
 use Rattle.std.proofs.Common.{IfSome}
 use Rattle.core_model.specs.History.{beginning}
-use Rattle.std.proofs.Common.{◌≡◌, ℕ, ◌<◌, ◌^◌, List, [], ◌∷◌, ◌++◌, length, refl, sym, ◌∙◌, ap, Bool, true, false, Option, Some, None, arith, ◌+◌}
+use Rattle.std.proofs.Common.{◌≡◌, ℕ, ◌<◌, ◌^◌, List, [], ◌∷◌, length, refl, sym, ◌∙◌, ap, Bool, true, false, Option, Some, None, arith, ◌+◌}
 use Rattle.std.proofs.Common.{length-append, subst, nat_lt, All, ◌||◌, ◌==◌, map, option_map, if◌then◌else◌}
-use Rattle.access_core.proofs.Terms.{All-head, All-push, All-tail, All-weaker, CanFail, ClientId, Denied, Effect, Entry, Event, Facts, History, InFlight, Inside, IsBlockPlaced, IsCached}
-use Rattle.access_core.proofs.Terms.{FoundPacket, IsAbove, IsFoundAt, IsFoundIn, IsFoundOf, IsInPlace, IsSound, Launched, MayReach, MayReachRange, ObjectRight, Opening, Outcome, Packet, PacketId, Place, Queue, QueueError, QueueId, QueueView}
-use Rattle.access_core.proofs.Terms.{Read, Rule, MOST_IN_FLIGHT, Start, Take, TakesNext, and_parts, argument_ranges, arguments-held, as_launched, barrier_bit, cached_opening, cached_view}
+use Rattle.access_core.proofs.Terms.{All-head, All-push, All-weaker, CanFail, ClientId, Denied, Effect, Entry, Event, Facts, History, InFlight, Inside, IsBlockPlaced, IsCached}
+use Rattle.access_core.proofs.Terms.{FoundPacket, IsAbove, IsFoundAt, IsFoundIn, IsFoundOf, IsInPlace, IsSound, Launched, MayReach, MayReachRange, Opening, Outcome, Packet, PacketId, Place, Queue, QueueError, QueueId, QueueView}
+use Rattle.access_core.proofs.Terms.{Read, Rule, MOST_IN_FLIGHT, Start, Take, TakesNext, and_parts, argument_ranges, as_launched, barrier_bit, cached_opening, cached_view}
 use Rattle.access_core.proofs.Terms.{decoded, due, entered-owed, enters, entry_of, error_without_place, facts_of, first_failing_rule, flight, flight_of}
-use Rattle.access_core.proofs.Terms.{held_by_arguments, held_by_needs, history_of, in_force, is_placed, kernel_of, lacks_room, launched_by, length-map}
+use Rattle.access_core.proofs.Terms.{history_of, is_placed, kernel_of, lacks_room, launched_by, length-map}
 use Rattle.access_core.proofs.Terms.{lies_in_regions}
 use Rattle.access_core.proofs.Terms.{lies_whole, list_all, lt-ltb, memory_needs, need_is_met, needs, numbered, numbered-map, owed_verdict, owner, place_of}
-use Rattle.access_core.proofs.Terms.{queue_at, refuse_unless, refuses, region_lengths, right_needed, rights_at_launch, start_of, with_denied, with_entry, with_queue, with_some}
+use Rattle.access_core.proofs.Terms.{queue_at, refuse_unless, refuses, region_lengths, start_of, with_denied, with_entry, with_queue, with_some}
 use Rattle.packet_processor.proofs.FirstFailing.{first_failing-decoded}
 use Rattle.core_model.specs.Queues.{opening_of, next_id}
 use Rattle.core_model.specs.declared.need.Need.{Need}
@@ -72,17 +72,6 @@ pub record PassesRights (facts : Facts) (p : Packet) : Type 0 where
 passed-rights : (facts : Facts) (p : Packet) → later_failing facts p ≡ None → PassesRights facts p
 passed-rights facts p none = grind arith
 
--- what is needed and met is in force
-held-met : (facts : Facts) (all : List Need) (rest : List ObjectRight) → list_all (need_is_met facts) all ≡ true → list_all (λ h. facts.in_force h.0 h.1) rest ≡ true
-    → list_all (λ h. facts.in_force h.0 h.1) (map right_needed all ++ rest) ≡ true
-held-met facts [] rest met others = others
-held-met facts (need ∷ all) rest met others = grind (arith, held-met facts all rest (and_parts (need_is_met facts need) (list_all (need_is_met facts) all) met).1 others)
-
--- so all that a packet will hold by its needs is in force
-held-passed : (facts : Facts) (p : Packet) (client : ClientId) → PassesRights facts p
-    → list_all (λ h. facts.in_force h.0 h.1) (held_by_needs (record { client = client; agent = facts.agent }) p) ≡ true
-held-passed facts p client passes = grind (arith, held-met)
-
 -- what is needed and met lies whole in regions
 lies-met : (facts : Facts) (all : List Need) → list_all (need_is_met facts) all ≡ true → list_all (λ need. lies_whole facts.lengths need.subject) all ≡ true
 lies-met facts [] met = refl
@@ -93,21 +82,6 @@ pub within-launched : (start : Start) (es : List Entry) (opening : Opening) (byt
     → first_failing_rule (facts_of start es opening) bytes ≡ None → lies_in_regions (region_lengths start.policy) p ≡ true
 within-launched start es opening bytes p found none =
     lies-met (facts_of start es opening) (memory_needs p) (passed-rights (facts_of start es opening) p (sym (first_failing-decoded _ bytes p found) ∙ none)).memory
-
--- tests of one list and of another that is put behind it
-all-behind : {X : Type 0} (test : X → Bool) (xs ys : List X) → list_all test xs ≡ true → All (λ x. test x ≡ true) ys → list_all test (xs ++ ys) ≡ true
-all-behind test [] [] met all = refl
-all-behind test [] (y ∷ ys) met all = rw (All-head (λ x. test x ≡ true) y ys all) (all-behind test [] ys refl (All-tail (λ x. test x ≡ true) y ys all))
-all-behind test (x ∷ xs) ys met all = grind (arith, all-behind test xs ys (and_parts (test x) (list_all test xs) met).1 all)
-
--- a packet that is launched may hold what it needs, and what its arguments have it hold
-pub may-hold : (start : Start) (es : List Entry) (e : Entry) (opening : Opening) (bytes : List ℕ) (p : Packet) → decoded bytes ≡ Some p
-    → first_failing_rule (facts_of start es opening) bytes ≡ None
-    → list_all (λ h. in_force start es opening.client h.0 h.1) (rights_at_launch start es opening p) ≡ true
-may-hold start es e opening bytes p found none =
-    all-behind (λ h. in_force start es opening.client h.0 h.1) (held_by_needs opening p) (held_by_arguments start es opening.client p)
-    (held-passed (facts_of start es opening) p opening.client (passed-rights (facts_of start es opening) p (sym (first_failing-decoded _ bytes p found) ∙ none)))
-    (arguments-held start es e opening.client p)
 
 -- its argument block has its place
 placed-block : (h : History) (client : ClientId) (p : Packet) → All (MayReachRange (beginning h) h.entries client Read) (argument_ranges (beginning h) p) → IsBlockPlaced h p

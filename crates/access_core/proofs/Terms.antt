@@ -5,10 +5,10 @@ pub use Rattle.access_core.specs.declared.access.AccessCore.TheInside.{Inside}
 pub use Rattle.access_core.specs.declared.argument_blocks.ArgumentBlock.{ArgumentBlock}
 pub use Rattle.access_core.specs.declared.kernel.Kernel.{Kernel}
 pub use Rattle.access_core.specs.declared.queue.Queue.{Queue}
-pub use Rattle.access_core.specs.inner.ArgumentBlocks.{AreBlocksOf, block_behind, block_of, bytes_or, is_block, is_given, lists_right, name_of, packet_of, rights_for, rights_of}
-pub use Rattle.access_core.specs.inner.Cached.{IsCached, IsEntered, core_of, error_places, history_of, is_full, origin_of, start_of, table_places}
+pub use Rattle.access_core.specs.inner.ArgumentBlocks.{AreBlocksOf, block_behind, block_of, bytes_or, has_block, is_block, is_given, lists_denied, lists_one, lists_right, name_of, packet_of, rights_for, rights_of}
+pub use Rattle.access_core.specs.inner.Cached.{HoldsNone, IsCached, IsEntered, core_of, error_places, history_of, is_full, origin_of, start_of, table_places}
 pub use Rattle.access_core.specs.inner.CachedQueue.{IsSound, QueueView, cached_opening, cached_view, place_of, queue_at}
-pub use Rattle.access_core.specs.inner.Deciding.{IsBlockPlaced, MayHold, TakesNext, refusal_of}
+pub use Rattle.access_core.specs.inner.Deciding.{IsBlockPlaced, TakesNext, refusal_of}
 pub use Rattle.access_core.specs.inner.Given.{LeavesOut, MarksToo, is_listed}
 pub use Rattle.access_core.specs.inner.InPlace.{IsChanged, IsFoundAt, IsInPlace, IsSized, RefusedAt, finish_owed, is_placed}
 pub use Rattle.access_core.specs.inner.Laying.{LiesWithin}
@@ -27,7 +27,7 @@ pub use Rattle.aql_packet.specs.declared.ids.QueueId.{QueueId}
 pub use Rattle.aql_packet.specs.declared.ids.SignalHandle.{SignalHandle}
 pub use Rattle.aql_packet.specs.declared.packet.KernelDispatch.{KernelDispatch}
 pub use Rattle.aql_packet.specs.declared.packet.Packet.{Packet}
-pub use Rattle.core_model.proofs.Holding.{arguments-held, owner-more}
+pub use Rattle.core_model.proofs.Holding.{owner-more}
 pub use Rattle.core_model.proofs.Behind.{all, first, found-whole, granted-now, held-flies, launch-whole, same-state}
 pub use Rattle.core_model.proofs.Launches.{IsNext-from_owed, launched_by-is}
 pub use Rattle.core_model.proofs.Lists.{all-from_list_all, filter-passes, found-all, found-passes}
@@ -83,7 +83,7 @@ pub use Rattle.executor.specs.declared.written_range.WrittenRange.{WrittenRange}
 pub use Rattle.executor.specs.declared.held.HeldRegion.{HeldRegion}
 pub use Rattle.grants.specs.Holders.{IsFirstTo, IsUpTo}
 pub use Rattle.grants.specs.Pairs.{is_named}
-pub use Rattle.grants.specs.Ledger.{Holds, IsNew, Ledger, Releases, RevokeAnswers, are_in_force, grant_due, holds, is_holder, rules_in}
+pub use Rattle.grants.specs.Ledger.{IsNew, Ledger, RevokeAnswers, are_in_force, grant_due, rules_in}
 pub use Rattle.kernel_check.specs.Programs.{Program, group_bytes_of}
 pub use Rattle.packet_processor.specs.Holding.{as_rights}
 pub use Rattle.packet_processor.specs.Queueing.{IsFoundIn, as_launched, is_place_of, with_progress, without_packet}

@@ -17,7 +17,7 @@ pub record TablePlaces : Type 0 where
   pub queue_places : ℕ
   -- for errors, of each queue in turn
   pub error_places : List ℕ
-  -- for the rights that packets in flight hold
+  -- for holds in the grants' list; what packets in flight hold is listed with their argument blocks
   pub hold_places : ℕ
   -- for the argument blocks of packets in flight
   pub block_places : ℕ

@@ -1,6 +1,6 @@
 -- What private clauses speak of: what is cached beside the history, how it changes, and what is decided by it.
-pub mod ArgumentBlocks
 pub mod Given
+pub mod ArgumentBlocks
 pub mod CachedQueue
 pub mod QueueChanges
 pub mod LiesInRegions

@@ -92,8 +92,9 @@ pub struct AccessCore {
     kernels: Vec<Kernel>,
     /// How large their segments are.
     segments: Vec<KernelSegments>,
+    /// The rights in force. What packets in flight hold lies with their argument blocks, and none is held here.
     grants: Grants,
-    /// The argument blocks of packets in flight.
+    /// The argument blocks of packets in flight, with the rights that the packets hold.
     blocks: ArgumentBlocks,
     memory: Regions,
     signals: Signals,

@@ -6,6 +6,7 @@
 
 mod access;
 mod argument_blocks;
+mod holders;
 mod kernel;
 mod queue;
 mod tables;

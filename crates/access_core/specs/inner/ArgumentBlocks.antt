@@ -1,5 +1,5 @@
 -- Argument blocks of packets in flight, found by queue and id, with the rights that their packets hold.
-use Rattle.std.specs.Prelude.{ℕ, ◌≡◌, ◌==◌, ◌&&◌, Bool, List, [], find, fold, map, Option, Some, None, if◌then◌else◌}
+use Rattle.std.specs.Prelude.{ℕ, ◌≡◌, ◌==◌, ◌&&◌, Bool, List, [], find, fold, map, not, Option, Some, None, if◌then◌else◌}
 use Rattle.std.specs.List.{list_any}
 use Rattle.aql_packet.specs.declared.ids.ClientId.{ClientId}
 use Rattle.aql_packet.specs.declared.ids.QueueId.{QueueId}
@@ -7,9 +7,13 @@ use Rattle.aql_packet.specs.declared.ids.PacketId.{PacketId}
 use Rattle.policy.specs.declared.object.Object.{Object}
 use Rattle.policy.specs.declared.rights.Right.{Right}
 use Rattle.policy.specs.declared.rights.Rights.{Rights}
+use Rattle.policy.specs.declared.rows.PolicyRows.{PolicyRows}
+use Rattle.policy.specs.Rights.{all_rights, each_right, has}
+use Rattle.policy.specs.Rules.{rows_allow}
 use Rattle.grants.specs.Pairs.{is_named}
 use Rattle.core_model.specs.declared.flight.InFlight.{InFlight}
 use Rattle.access_core.specs.declared.argument_blocks.ArgumentBlock.{ArgumentBlock}
+use Rattle.access_core.specs.inner.Given.{is_listed}
 
 -- whether a block is that of a packet
 abbrev pub is_block : QueueId → PacketId → ArgumentBlock → Bool
@@ -56,3 +60,17 @@ bytes_or none (Some block) = block.bytes
 -- the rights that the first of a packet's blocks lists
 abbrev pub rights_of : List ArgumentBlock → QueueId → PacketId → ClientId → List (Object × Rights)
 rights_of blocks queue id client = rights_for client (find (is_block queue id) blocks)
+
+-- ---- who stands against a revocation or a reload
+
+-- whether a block lists one of some rights of a client on an object
+abbrev pub lists_one : ClientId → Object → Rights → ArgumentBlock → Bool
+lists_one client on rights block = list_any (λ right. has rights right && is_listed (rights_for client (Some block)) on right) all_rights
+
+-- whether it lists a right that rows don't allow its client
+abbrev pub lists_denied : PolicyRows → ArgumentBlock → Bool
+lists_denied rows block = list_any (λ named. not (each_right named.1 (rows_allow rows block.client named.0))) block.rights
+
+-- whether a packet has a block that passes a test
+abbrev pub has_block : (ArgumentBlock → Bool) → List ArgumentBlock → QueueId → PacketId → Bool
+has_block test blocks queue id = list_any (λ block. is_block queue id block && test block) blocks

@@ -1,5 +1,5 @@
 -- What the core caches beside its audit, and that it is what the audit says.
-use Rattle.std.specs.Prelude.{◌≡◌, ℕ, ◌+◌, ◌≤◌, Bool, true, nat_lt, [], ◌∷◌, ◌++◌, map, length, Some, All, vec_capacity}
+use Rattle.std.specs.Prelude.{◌≡◌, ℕ, ◌+◌, ◌≤◌, Bool, true, false, nat_lt, [], ◌∷◌, ◌++◌, map, length, Some, All, vec_capacity}
 use Rattle.std.specs.Global.{Vec}
 use Rattle.aql_packet.specs.declared.ids.ClientId.{ClientId}
 use Rattle.aql_packet.specs.declared.ids.QueueId.{QueueId}
@@ -74,21 +74,23 @@ pub record IsEntered (old new : Roomy Entry) (entry : Entry) : Type 0 where
   pub items : new.items ≡ old.items ++ entry ∷ []
   pub room : new.room + 1 ≡ old.room
 
+-- no packet holds anything by these grants
+abbrev pub HoldsNone : Ledger → Type 0
+HoldsNone grants = (queue : QueueId) (id : PacketId) (client : ClientId) (on : Object) (right : Right) → ledger.holds grants queue id client on right ≡ false
+
 -- The fields are what the history says, question by question.
 pub record IsCached (a : Inside) : Type 0 where
   -- the rights in force
   pub granted : (client : ClientId) (on : Object) (right : Right) → ledger.in_force a.grants client on right ≡ in_force (start_of a) a.audit.items client on right
   -- what the policy in force declares and allows
   pub rules : ledger.rules_in a.grants ≡ rules_of (policy_at (start_of a) a.audit.items)
-  -- the rights that packets in flight hold
+  -- the rights that packets in flight hold: each is listed with its packet's argument block, and none is kept beside the rights in force
   pub held : (queue : QueueId) (id : PacketId) (client : ClientId) (on : Object) (right : Right)
-      → ledger.holds a.grants queue id client on right ≡ held (start_of a) a.audit.items queue id client on right
+      → is_given a.blocks.items queue id client on right ≡ held (start_of a) a.audit.items queue id client on right
+  pub unheld : HoldsNone a.grants
   -- the argument blocks: one of each packet in flight, as it was at its launch
   pub blocks_are : AreBlocksOf (flight (start_of a) a.audit.items) a.blocks.items
   pub arguments : (queue : QueueId) (id : PacketId) → block_of a.blocks.items queue id ≡ arguments (start_of a) a.audit.items queue id
-  -- and each lists the rights that its packet holds
-  pub given : (queue : QueueId) (id : PacketId) (client : ClientId) (on : Object) (right : Right)
-      → is_given a.blocks.items queue id client on right ≡ ledger.holds a.grants queue id client on right
   -- each kernel is one of its checked kernels, and has these segments
   pub entries : All (λ kernel. has_entry kernel ≡ true) a.kernels.items
   pub segments : a.segments.items ≡ map segments_of (map program_of a.kernels.items)

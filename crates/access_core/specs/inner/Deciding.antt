@@ -15,10 +15,7 @@ use Rattle.core_model.specs.Owed.{answers, enters, error_without_place}
 use Rattle.core_model.specs.Legal.{due}
 use Rattle.core_model.specs.declared.limits.TheConstants.{MOST_IN_FLIGHT}
 use Rattle.access_core.specs.inner.LiesInRegions.{lies_in_regions}
-use Rattle.std.specs.List.{list_all}
 use Rattle.aql_packet.specs.declared.packet.Packet.{Packet}
-use Rattle.core_model.specs.Grants.{in_force}
-use Rattle.core_model.specs.Holds.{rights_at_launch}
 use Rattle.core_model.specs.Kernels.{kernel_of}
 use Rattle.aql_packet.specs.declared.packet.Packet.TheVariants as packet
 use Rattle.access_core.specs.inner.InPlace.{IsPlaced}
@@ -46,12 +43,8 @@ abbrev pub IsBlockPlaced : History → Packet → Type 0
 IsBlockPlaced history (packet.Kernel d) = IsPlaced history d.kernarg_address.0 (kernel_of (beginning history) d).argument_bytes
 IsBlockPlaced history _ = Unit {0}
 
--- all that a packet will hold is in force for the client
-abbrev pub MayHold : History → Opening → Packet → Type 0
-MayHold history opening p = list_all (λ h. in_force (beginning history) history.entries opening.client h.0 h.1) (rights_at_launch (beginning history) history.entries opening p) ≡ true
-
--- what is due to the packet is what was decided; a packet that is launched is the one that the bytes lay out, has all its ranges
--- within regions, and may hold what it needs
+-- what is due to the packet is what was decided; a packet that is launched is the one that the bytes lay out and has all its
+-- ranges within regions
 abbrev pub Decides : History → QueueId → PacketId → List ℕ → Decision → Type 0
 Decides history queue id bytes (Wait cause) = due history (Take queue id bytes) ≡ answers (outcome.Taken (Waiting cause))
 Decides history queue id bytes (Deny rule) =
@@ -60,7 +53,7 @@ Decides history queue id bytes (Deny rule) =
 Decides history queue id bytes (Launch launching) =
     (due history (Take queue id bytes) ≡ enters (outcome.Taken Launched) [])
     × (decoded bytes ≡ Some launching.asked.packet) × (lies_in_regions (region_lengths (beginning history).policy) launching.asked.packet ≡ true) × TakesNext history queue
-    × (owner (beginning history) history.entries queue ≡ Some (opening_of launching)) × MayHold history (opening_of launching) launching.asked.packet
+    × (owner (beginning history) history.entries queue ≡ Some (opening_of launching))
 
 -- the core's refusal where a change of grants is refused
 abbrev pub refusal_of : Why → Refusal

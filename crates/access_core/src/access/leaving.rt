@@ -1,7 +1,6 @@
 //! Packets leave flight: they are completed, they fail, or their queue is stopped.
 
 ghost use Rattle.std.specs.Prelude.{◌≡◌, ◌-◌, ◌≤◌, IfNone, IfSome, filter, not, vec_capacity};
-ghost use Rattle.grants.specs.Ledger.{Releases, places};
 ghost use Rattle.packet_processor.specs.Queueing.{IsFoundIn};
 ghost use Rattle.access_core.specs.Cores.{places_of};
 ghost use Rattle.access_core.specs.inner.ArgumentBlocks.{is_block};
@@ -10,7 +9,6 @@ ghost use Rattle.access_core.specs.inner.QueueChanges.{CanLeave, IsFoundOf, free
 use crate::argument_blocks::ArgumentBlocks;
 use crate::queue::Queue;
 use aql_packet::QueueId;
-use grants::Grants;
 use packet_processor::{FoundPacket, Places};
 use queue_error::QueueError;
 
@@ -68,7 +66,6 @@ fn leave_queue(
 pub(crate) fn leave_flight(
     queues: &mut Vec<Queue>,
     in_flight_count: &mut usize,
-    grants: &mut Grants,
     blocks: &mut ArgumentBlocks,
     queue: QueueId,
     found: Option<FoundPacket>,
@@ -80,16 +77,12 @@ pub(crate) fn leave_flight(
     ensures queues { queues.new.items ≡ with_queue queues.old.items queue (with_leaving (packet_in found) leaving) }
     ensures capacity { vec_capacity queues.new ≡ vec_capacity queues.old }
     ensures in_flight_count { in_flight_count.new ≡ in_flight_count.old - freed_by (packet_in found) queues.old.items queue }
-    ensures released { IfSome (packet_in found) (λ id. Releases grants.old grants.new queue id) }
     ensures dropped { IfSome (packet_in found) (λ id. blocks.new.items ≡ filter (λ block. not (is_block queue id block)) blocks.old.items) }
-    ensures same { IfNone (packet_in found) (grants.new ≡ grants.old) }
-    ensures same_blocks { IfNone (packet_in found) (blocks.new.items ≡ blocks.old.items) }
-    ensures places { places grants.new ≡ places grants.old }
-    ensures block_places { places_of blocks.new ≡ places_of blocks.old }
+    ensures same { IfNone (packet_in found) (blocks.new.items ≡ blocks.old.items) }
+    ensures places { places_of blocks.new ≡ places_of blocks.old }
 {
     *in_flight_count -= leave_queue(queues, queue, found, leaving);
     if let Some(found) = found {
-        grants.release(queue, found.packet);
         blocks.release(queue, found.packet);
     }
 }

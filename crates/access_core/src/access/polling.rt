@@ -102,7 +102,6 @@ impl AccessCore {
         leave_flight(
             &mut self.queues,
             &mut self.in_flight_count,
-            &mut self.grants,
             &mut self.blocks,
             queue,
             Some(found),

@@ -8,6 +8,7 @@ ghost use Rattle.core_model.specs.Owed.{enters, refuses};
 ghost use Rattle.access_core.specs.Reloads.{as_reloaded};
 
 use crate::access::{AccessCore, enter};
+use crate::holders::first_denied;
 use core_model::{Effects, Event, Outcome, Refusal};
 use policy::{Policy, PolicyRows};
 use std::alloc::Global;
@@ -52,7 +53,7 @@ impl AccessCore {
         ensures may { IfOk result (λ done. due self.now.history (Event.Reload rows.now) ≡ enters Outcome.Accepted []) }
         ensures why { IfErr result (λ why. due self.now.history (Event.Reload rows.now) ≡ refuses why) }
     {
-        if let Some((queue, packet)) = self.grants.blocked_by(rows) {
+        if let Some((queue, packet)) = first_denied(self.blocks.as_slice(), rows) {
             return Err(Refusal::Busy { queue, packet });
         }
         if self.is_full() {

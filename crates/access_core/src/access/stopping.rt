@@ -28,7 +28,6 @@ impl AccessCore {
         leave_flight(
             &mut self.queues,
             &mut self.in_flight_count,
-            &mut self.grants,
             &mut self.blocks,
             queue,
             barrier,

@@ -263,11 +263,8 @@ impl AccessCore {
     {
         let block = self.argument_block(alloc, launching.asked.packet())?;
         let rights = self.rights_at_launch(alloc, &launching, block.as_slice())?;
-        self.grants.reserve(rights.len())?;
         self.blocks.reserve()?;
         let client = launching.client;
-        self.grants
-            .hold_reserved(client, queue, packet, rights.as_slice());
         self.blocks.push(ArgumentBlock {
             queue,
             packet,

@@ -14,6 +14,7 @@ ghost use Rattle.access_core.specs.inner.InPlace.{IsInPlace};
 ghost use Rattle.access_core.specs.inner.Running.{IsHolder, lent_if_held, region_numbered, view_whole};
 
 use crate::access::AccessCore;
+use crate::holders::is_listed;
 use aql_packet::{Address, ClientId, MOST_REGIONS, PacketId, QueueId, REGION_SPAN, RegionHandle};
 use executor::{HeldRegion, View};
 use packet_processor::Place;
@@ -102,15 +103,6 @@ impl AccessCore {
             bytes: self.memory.bytes(first, length),
         })
     }
-}
-
-// Whether a right on an object is listed.
-fn is_listed(given: &[(Object, Rights)], object: Object, right: Right) -> bool
-    ensures { result ≡ is_listed given.now object right }
-{
-    given
-        .iter()
-        .any(|named| object == named.0 && named.1.has(right))
 }
 
 // The rights on a region that are listed.

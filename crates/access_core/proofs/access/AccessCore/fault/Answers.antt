@@ -42,8 +42,8 @@ invariant_of-self c =
     (record {
       same = ((refl, refl, refl), refl);
       audit = rw c.one-effects.ensures at c.enter.ensures;
-      grants = grants-released a c.self.invariant _ _ _ refl (λ client on right b. refl) (λ rows. refl) _ _ c.args.queue c.args.found.packet is.drops
-          (flight-released (start_of a) a.audit.items _ _ _ c.args.queue c.args.found.packet is) c.leave_flight.ensures.released c.leave_flight.ensures.dropped;
+      grants = grants-released a c.self.invariant _ _ _ refl (λ client on right b. refl) (λ rows. refl) _ c.args.queue c.args.found.packet is.drops
+          (flight-released (start_of a) a.audit.items _ _ _ c.args.queue c.args.found.packet is) c.leave_flight.ensures.dropped;
       memory = memory-still a.memory _ (λ x byte. refl);
       values = refl;
       queues = rw (c.leave_flight.ensures.queues, c.leave_flight.ensures.in_flight_count)
@@ -65,7 +65,7 @@ returns-clause-places c =
     let error = group_error c.args.queue c.args.found.packet c.args.group c.args.fault in
     let found = place-inside a _ (seen c.self.view_is) c.args.queue c.args.found.packet c.args.place c.requires.found in
     let can = can-fail a c.self.invariant c.args.queue c.args.found.packet (is-open a c.self.invariant c.args.queue found.opening found.owner_is) found.flying found.found in
-    places-kept a _ c.self.view_is c.leave_flight.new.queues c.leave_flight.new.grants c.leave_flight.new.blocks c.enter.new.audit _ c.leave_flight.ensures.capacity
+    places-kept a _ c.self.view_is c.leave_flight.new.queues a.grants c.leave_flight.new.blocks c.enter.new.audit _ c.leave_flight.ensures.capacity
     (ap (map error_places) c.leave_flight.ensures.queues ∙ errors-changed a.queues.items c.args.queue (with_leaving (Some c.args.found.packet) (leaving.Failed error)) can.0 can.1
     (failed-places can.0 c.args.found.packet error can.2))
-    c.leave_flight.ensures.places c.leave_flight.ensures.block_places c.enter.ensures
+    refl c.leave_flight.ensures.places c.enter.ensures

@@ -38,8 +38,8 @@ invariant_of-self c =
     (record {
       same = ((refl, refl, refl), refl);
       audit = rw c.complete-effects.ensures.effects at c.enter.ensures;
-      grants = grants-released a c.self.invariant _ _ _ refl (λ client on right b. refl) (λ rows. refl) _ _ c.args.queue c.args.packet is.drops
-          (flight-released (start_of a) a.audit.items _ _ _ c.args.queue c.args.packet is) c.leave_flight.ensures.released c.leave_flight.ensures.dropped;
+      grants = grants-released a c.self.invariant _ _ _ refl (λ client on right b. refl) (λ rows. refl) _ c.args.queue c.args.packet is.drops
+          (flight-released (start_of a) a.audit.items _ _ _ c.args.queue c.args.packet is) c.leave_flight.ensures.dropped;
       memory = memory-still a.memory _ (λ x byte. memory-completed a.signals (completion_signal p) c.args.queue c.args.packet x byte);
       values = rw c.complete-effects.ensures.effects at c.complete-effects.ensures.values;
       queues = rw (c.leave_flight.ensures.queues, c.leave_flight.ensures.in_flight_count)
@@ -52,6 +52,6 @@ pub returns-clause-places : goal.returns-clause-places
 returns-clause-places c =
     let a = c.self.inside in
     let at = open-of a c.self.invariant _ (seen c.self.view_is) c.args.queue c.args.packet c.in_ok-found.found.place c.in_ok-found.ensures.found in
-    places-kept a _ c.self.view_is c.leave_flight.new.queues c.leave_flight.new.grants c.leave_flight.new.blocks c.enter.new.audit _ c.leave_flight.ensures.capacity
+    places-kept a _ c.self.view_is c.leave_flight.new.queues a.grants c.leave_flight.new.blocks c.enter.new.audit _ c.leave_flight.ensures.capacity
     (ap (map error_places) c.leave_flight.ensures.queues ∙ errors-changed a.queues.items c.args.queue (with_leaving (Some c.args.packet) leaving.Completed) at.q at.found refl)
-    c.leave_flight.ensures.places c.leave_flight.ensures.block_places c.enter.ensures
+    refl c.leave_flight.ensures.places c.enter.ensures

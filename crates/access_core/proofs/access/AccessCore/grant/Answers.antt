@@ -34,11 +34,10 @@ invariant_of-self c =
       grants = record {
         granted = gives.given;
         rules = gives.same_rules;
-        held = λ queue id client on right. gives.same_holds queue id client on right
-            ∙ held-still a c.self.invariant _ _ _ refl calm.stays queue id client on right;
+        held = held-still a c.self.invariant _ _ _ refl calm.stays;
+        unheld = λ queue id client on right. gives.same_holds queue id client on right ∙ c.self.invariant.unheld queue id client on right;
         blocks_are = rw (flight-quiet (start_of a) a.audit.items _ _ _ calm) c.self.invariant.blocks_are;
         arguments = blocks-still a c.self.invariant _ _ _ refl calm.stays;
-        given = λ queue id client on right. c.self.invariant.given queue id client on right ∙ sym (gives.same_holds queue id client on right);
       };
       memory = memory-still a.memory [] (λ x byte. refl);
       values = refl;

@@ -1,25 +1,16 @@
 -- The packet is in flight, and the entry tells it.
 use Rattle.core_model.specs.History.{beginning}
 use Rattle.std.proofs.Common.{◌≡◌, ◌∙◌, ◌∷◌, ◌++◌, List, ap, refl, sym, subst, true, Some, [], map, option_map}
-use Rattle.access_core.proofs.Terms.{ArgumentBlock, History, IsNext-from_owed, Launched, MayHold, Packet, Take, TakesNext, arguments_of, as_rights, launched_by, lies_in_regions, owner}
+use Rattle.access_core.proofs.Terms.{ArgumentBlock, History, IsNext-from_owed, Launched, Packet, Take, TakesNext, arguments_of, as_rights, launched_by, lies_in_regions, owner}
 use Rattle.access_core.proofs.Terms.{region_lengths, rights_at_launch, start_of}
 use Rattle.access_core.proofs.Seen.{seen}
 use Rattle.access_core.specs.inner.Deciding.{IsBlockPlaced, opening_of}
-use Rattle.access_core.proofs.HeldAfter.{block_laid, grants-launched, held-as, launch-in_force}
+use Rattle.access_core.proofs.HeldAfter.{block_laid, grants-launched}
 use Rattle.access_core.proofs.CachedMore.{IsCached-more, memory-still, owed-inside}
 use Rattle.access_core.proofs.QueueAt.{flight-launched}
 use Rattle.access_core.proofs.TakeLemmas.{below-next, block-placed, can-take, queues-launched}
 use Rattle.core_model.specs.declared.outcome.Outcome.TheVariants as outcome
 use Rattle.access_core.proofs.access.AccessCore.launch.Goals as goal
-
-pub hold_reserved-requires-clause-in_force : goal.hold_reserved-requires-clause-in_force
-hold_reserved-requires-clause-in_force c =
-    launch-in_force c.self.inside c.self.invariant _ c.args.launching.client _
-    (rights_at_launch (start_of c.self.inside) c.self.inside.audit.items (opening_of c.args.launching) c.args.launching.asked.packet)
-    c.in_ok-reserve.ensures.same
-    (c.as_slice-2.ensures ∙ c.in_ok-rights.ensures ∙ ap (λ (h : History). map as_rights (rights_at_launch (beginning h) h.entries (opening_of c.args.launching) c.args.launching.asked.packet))
-    (sym (seen c.self.view_is)))
-    (subst (λ h. MayHold h (opening_of c.args.launching) c.args.launching.asked.packet) (sym (seen c.self.view_is)) c.requires.5)
 
 pub place_next-requires-clause-free : goal.place_next-requires-clause-free
 place_next-requires-clause-free c =
@@ -56,16 +47,15 @@ invariant_of-self-2 c =
     (record {
       same = ((refl, refl, refl), refl);
       audit = rw c.none.ensures at c.enter.ensures;
-      grants = grants-launched a c.self.invariant _ _ (λ client on right b. refl) (λ rows. refl) _ _ _ (opening_of c.args.launching) c.args.queue c.args.packet p _ _ launches
+      grants = grants-launched a c.self.invariant _ _ (λ client on right b. refl) (λ rows. refl) _ (opening_of c.args.launching) c.args.queue c.args.packet p _ _ launches
           (flight-launched (start_of a) a.audit.items c.args.queue c.args.packet c.args.bytes.now p c.requires.1)
-          c.in_ok-reserve.ensures.same
           (c.in_ok-rights.ensures ∙ ap (λ (h : History). map as_rights (rights_at_launch (beginning h) h.entries (opening_of c.args.launching) p)) (sym (seen c.self.view_is)))
-          owned (held-as _ _ _ _ _ _ _ c.as_slice-2.ensures c.hold_reserved.ensures.holds)
+          owned
           (c.in_ok-block.ensures ∙ ap (λ q. arguments_of (beginning c.args.self.now.history) c.args.self.now.history.entries q) c.packet.ensures
           ∙ ap (λ (h : History). arguments_of (beginning h) h.entries p) (sym (seen c.self.view_is)))
           (c.push.ensures
           ∙ ap (λ (blocks : List ArgumentBlock). blocks ++ block_laid c.args.queue c.args.packet c.args.launching.client c.in_ok-rights.rights c.in_ok-block.block ∷ [])
-          c.in_ok-reserve-2.ensures.same);
+          c.in_ok-reserve.ensures.same);
       memory = memory-still a.memory _ (λ x byte. refl);
       values = refl;
       queues = rw (c.place_next.ensures, c.packet-2.ensures) (queues-launched a c.self.invariant c.args.queue c.args.packet c.args.bytes.now can p c.requires.1 next.id_is within);

@@ -3,11 +3,10 @@ use Rattle.core_model.specs.History.{beginning}
 use Rattle.std.proofs.Common.{◌≡◌, refl, ◌∙◌, true, false, Some, None, [], length, rules, ap, subst, nat_lt, ◌||◌, ◌==◌, map, option_map, arith}
 use Rattle.packet_processor.proofs.QueueingLemmas.{launching-waits, launching-goes}
 use Rattle.access_core.proofs.Seen.{seen}
-use Rattle.core_model.specs.declared.origin.Opening.{Opening}
 use Rattle.access_core.proofs.Calls.{due-by}
-use Rattle.access_core.proofs.TakeLemmas.{judged-inside, owner-kept, room-launched, may-hold, take-unknown, take-known, within-launched, takes-next}
-use Rattle.access_core.proofs.Terms.{Denied, History, Launched, MayHold, Place, Take, TakesNext, Waiting, answers, barrier_bit, cached_opening, enters}
-use Rattle.access_core.proofs.Terms.{entry_of, error_without_place, start_of, lies_in_regions, cause_to_wait, numbered, owner, refuses, region_lengths}
+use Rattle.access_core.proofs.TakeLemmas.{judged-inside, owner-kept, room-launched, take-unknown, take-known, within-launched, takes-next}
+use Rattle.access_core.proofs.Terms.{Denied, History, Launched, Place, Take, TakesNext, Waiting, answers, barrier_bit, cached_opening, enters}
+use Rattle.access_core.proofs.Terms.{error_without_place, start_of, lies_in_regions, cause_to_wait, numbered, owner, refuses, region_lengths}
 use Rattle.core_model.specs.declared.outcome.Outcome.TheVariants as outcome
 use Rattle.core_model.specs.declared.refusal.Refusal.TheVariants as refusal
 use Rattle.access_core.proofs.access.AccessCore.may_take.Goals as goal
@@ -87,11 +86,6 @@ returns-else-is_full_for_launch-clause-may c =
       subst (λ (h : History). TakesNext h c.args.queue) (seen c.self.view_is) (takes-next c.self.inside c.self.invariant _ _ _ some down waits),
       subst (λ (h : History). owner (beginning h) h.entries c.args.queue ≡ Some (cached_opening c.in-Some.kept.now)) (seen c.self.view_is)
           (owner-kept c.self.inside c.args.queue c.self.invariant ∙ ap (option_map cached_opening) some) ∙ ap Some same,
-      subst (λ (o : Opening). MayHold c.args.self.now.history o c.in-Launch.asked.packet) same
-          (subst (λ (h : History). MayHold h (cached_opening c.in-Some.kept.now) c.in-Launch.asked.packet) (seen c.self.view_is)
-          (may-hold (start_of c.self.inside) c.self.inside.audit.items (entry_of (Take c.args.queue c.args.packet c.args.bytes.now) (outcome.Taken Launched) [])
-          (cached_opening c.in-Some.kept.now) c.args.bytes.now c.in-Launch.asked.packet c.in-Launch.ensures.0
-          (judged-inside c.self.inside _ (seen c.self.view_is) c.in-Some.kept.now c.args.bytes.now None c.in-Launch.ensures.1))),
     )
 
 pub returns-else-is_full-clause-may : goal.returns-else-is_full-clause-may

@@ -1,11 +1,10 @@
 -- What is cached follows the reload, which is entered.
-use Rattle.std.proofs.Common.{refl, sym, ◌∙◌, []}
+use Rattle.std.proofs.Common.{refl, ◌∙◌, []}
 use Rattle.policy.specs.declared.rows.PolicyRows.{PolicyRows}
 use Rattle.core_model.specs.declared.event.Event.TheVariants.{Reload}
 use Rattle.access_core.proofs.Seen.{seen}
-use Rattle.access_core.proofs.CachedMore.{IsCached-more, memory-still, owed-inside, queues-still}
+use Rattle.access_core.proofs.CachedMore.{IsCached-more, memory-still, queues-still}
 use Rattle.access_core.proofs.QueueAt.{IsQuiet, flight-quiet}
-use Rattle.access_core.proofs.ReloadLemmas.{unblocked}
 use Rattle.access_core.proofs.HeldAfter.{blocks-still, held-still}
 use Rattle.access_core.proofs.Terms.{start_of}
 use Rattle.core_model.specs.declared.outcome.Outcome.TheVariants as outcome
@@ -15,9 +14,7 @@ quiet : (rows : PolicyRows) → IsQuiet (Reload rows) outcome.Accepted []
 quiet rows = record { launches = refl; progress = λ queue id p. refl; stays = λ queue id. refl; releases = λ fs. refl; views = λ m v. refl }
 
 pub put_rows-requires : goal.put_rows-requires
-put_rows-requires c =
-    unblocked c.self.inside c.self.invariant c.args.rows
-    (owed-inside c.self.inside c.self.invariant _ (seen c.self.view_is) (Reload c.args.rows) outcome.Accepted [] c.requires.may)
+put_rows-requires c = λ queue id client on right has_it. let none = c.self.invariant.unheld queue id client on right in absurd cc
 
 pub invariant_of-self : goal.invariant_of-self
 invariant_of-self c =
@@ -31,11 +28,10 @@ invariant_of-self c =
       grants = record {
         granted = reloads.kept;
         rules = reloads.rules;
-        held = λ queue id client on right. reloads.same_holds queue id client on right
-            ∙ held-still a c.self.invariant _ _ _ refl calm.stays queue id client on right;
+        held = held-still a c.self.invariant _ _ _ refl calm.stays;
+        unheld = λ queue id client on right. reloads.same_holds queue id client on right ∙ c.self.invariant.unheld queue id client on right;
         blocks_are = rw (flight-quiet (start_of a) a.audit.items _ _ _ calm) c.self.invariant.blocks_are;
         arguments = blocks-still a c.self.invariant _ _ _ refl calm.stays;
-        given = λ queue id client on right. c.self.invariant.given queue id client on right ∙ sym (reloads.same_holds queue id client on right);
       };
       memory = memory-still a.memory [] (λ x byte. refl);
       values = refl;

@@ -1,11 +1,12 @@
 -- What is cached follows the revocation, which is entered where there is room.
-use Rattle.std.proofs.Common.{refl, sym, ◌∙◌, subst, false, [], arith}
+use Rattle.std.proofs.Common.{refl, sym, ◌∙◌, subst, false, None, Some, [], arith}
 use Rattle.access_core.proofs.Seen.{seen}
 use Rattle.access_core.proofs.CachedMore.{IsCached-more, memory-still, queues-still}
 use Rattle.access_core.proofs.QueueAt.{IsQuiet, flight-quiet}
-use Rattle.access_core.proofs.Granting.{revoke-due, revoke-refused}
+use Rattle.access_core.proofs.Granting.{revoke-due, revoke-held, revoke-refused}
+use Rattle.access_core.proofs.Calls.{due-by, met-refusal}
 use Rattle.access_core.proofs.HeldAfter.{blocks-still, held-still}
-use Rattle.access_core.proofs.Terms.{Call, ClientId, Object, Revoke, RevokeAnswers, Rights, start_of}
+use Rattle.access_core.proofs.Terms.{Call, ClientId, IsFirstTo, Object, Revoke, RevokeAnswers, Rights, has_block, lists_one, start_of}
 use Rattle.core_model.specs.declared.outcome.Outcome.TheVariants as outcome
 use Rattle.access_core.proofs.access.AccessCore.revoke.Goals as goal
 
@@ -14,6 +15,15 @@ quiet client on rights = record { launches = refl; progress = λ queue id p. ref
 
 pub returns-in-Err-clause-met : goal.returns-in-Err-clause-met
 returns-in-Err-clause-met = grind (arith, revoke-refused)
+
+pub returns-in-Some-clause-met : goal.returns-in-Some-clause-met
+returns-in-Some-clause-met c =
+    let test = lists_one c.args.client c.args.object c.args.rights in
+    met-refusal (Call (Revoke c.args.client c.args.object c.args.rights)) _ _
+    (due-by c.self.inside _ (seen c.self.view_is) _ _ (revoke-held c.self.inside c.self.invariant c.args.client c.args.object c.args.rights
+    (subst (RevokeAnswers c.self.inside.grants c.args.client c.args.object c.args.rights) c.in_default.is c.may_revoke.ensures) c.in-Some.queue c.in-Some.packet
+    (subst (λ blocks. IsFirstTo (has_block test blocks) (Some (c.in-Some.queue, c.in-Some.packet))) c.as_slice.ensures
+    (subst (IsFirstTo (has_block test c.as_slice.result.now)) c.in-Some.is c.first_holder.ensures))))
 
 pub returns-then-is_full-clause-met : goal.returns-then-is_full-clause-met
 returns-then-is_full-clause-met = grind (arith, revoke-due)
@@ -30,18 +40,20 @@ invariant_of-self c =
       grants = record {
         granted = takes.taken;
         rules = takes.same_rules;
-        held = λ queue id client on right. takes.same_holds queue id client on right
-            ∙ held-still a c.self.invariant _ _ _ refl calm.stays queue id client on right;
+        held = held-still a c.self.invariant _ _ _ refl calm.stays;
+        unheld = λ queue id client on right. takes.same_holds queue id client on right ∙ c.self.invariant.unheld queue id client on right;
         blocks_are = rw (flight-quiet (start_of a) a.audit.items _ _ _ calm) c.self.invariant.blocks_are;
         arguments = blocks-still a c.self.invariant _ _ _ refl calm.stays;
-        given = λ queue id client on right. c.self.invariant.given queue id client on right ∙ sym (takes.same_holds queue id client on right);
       };
       memory = memory-still a.memory [] (λ x byte. refl);
       values = refl;
       queues = queues-still a c.self.invariant _ _ _ calm refl;
     })
     _ (seen c.self.view_is) (revoke-due a c.self.invariant c.args.client c.args.object c.args.rights _ (seen c.self.view_is)
-    (subst (RevokeAnswers c.self.inside.grants c.args.client c.args.object c.args.rights) c.in_default.is c.may_revoke.ensures) false (sym c.is_full.ensures ∙ c.if-is_full.false))
+    (subst (RevokeAnswers c.self.inside.grants c.args.client c.args.object c.args.rights) c.in_default.is c.may_revoke.ensures)
+    (subst (λ blocks. IsFirstTo (has_block (lists_one c.args.client c.args.object c.args.rights) blocks) None) c.as_slice.ensures
+    (subst (IsFirstTo (has_block (lists_one c.args.client c.args.object c.args.rights) c.as_slice.result.now)) c.in-None.is c.first_holder.ensures))
+    false (sym c.is_full.ensures ∙ c.if-is_full.false))
 
 pub returns-clause-met : goal.returns-clause-met
 returns-clause-met = grind (arith, revoke-due)

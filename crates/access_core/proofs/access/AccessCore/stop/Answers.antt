@@ -32,8 +32,7 @@ invariant_of-self c =
     (record {
       same = ((refl, refl, refl), refl);
       audit = rw c.release_of-effects.ensures at c.enter.ensures;
-      grants = grants-stopped a c.self.invariant c.args.queue barrier _ _ c.leave_flight.ensures.released c.leave_flight.ensures.dropped c.leave_flight.ensures.same
-          c.leave_flight.ensures.same_blocks;
+      grants = grants-stopped a c.self.invariant c.args.queue barrier _ c.leave_flight.ensures.dropped c.leave_flight.ensures.same;
       memory = memory-still a.memory _ (λ x byte. memory-released c.args.queue barrier x byte);
       values = sym (values-released c.args.queue barrier a.signals);
       queues = rw (c.leave_flight.ensures.queues, c.leave_flight.ensures.in_flight_count) (queues-stopped a c.self.invariant c.args.queue at barrier);
@@ -45,6 +44,6 @@ returns-clause-places c =
     let a = c.self.inside in
     let barrier = packet_in c.in_ok-barrier.barrier in
     let at = stop-open a c.self.invariant c.args.queue _ _ (owed-inside a c.self.invariant _ (seen c.self.view_is) _ _ _ c.in_ok-barrier.ensures.may) in
-    places-kept a _ c.self.view_is c.leave_flight.new.queues c.leave_flight.new.grants c.leave_flight.new.blocks c.enter.new.audit _ c.leave_flight.ensures.capacity
+    places-kept a _ c.self.view_is c.leave_flight.new.queues a.grants c.leave_flight.new.blocks c.enter.new.audit _ c.leave_flight.ensures.capacity
     (ap (map error_places) c.leave_flight.ensures.queues ∙ errors-changed a.queues.items c.args.queue (with_leaving barrier leaving.Stopped) at.q at.found refl)
-    c.leave_flight.ensures.places c.leave_flight.ensures.block_places c.enter.ensures
+    refl c.leave_flight.ensures.places c.enter.ensures
