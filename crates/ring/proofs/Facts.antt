@@ -13,7 +13,9 @@ use Rattle.ring_core.proofs.Kept.{producer_of, producers_all}
 use Rattle.ring_core.proofs.Sizes.{producer_bounds, ring_size_bounds}
 use Rattle.ring_core.proofs.States.{names_word, within, raises, fits_by}
 use Rattle.ring_core.specs.Machine.{is_producer_count}
+use Rattle.ring.specs.Places.{table_place}
 use Rattle.ring.specs.Steps.{KnowsIndex}
+use Rattle.ring.proofs.Places.{table_in}
 
 seats_count : (n : ℕ) (parts : List Part) → AreSeats n parts → length parts ≡ suc n
 seats_count n [] seats = absurd seats
@@ -48,10 +50,10 @@ index_of n machine number (Processor q) rule e =
     let is : processor_of machine.parts ≡ q = processor_at n machine.parts number q rule.shared.seats e in
     sym rule.tied.count ∙ ap (λ u. length u.retired) is
 
--- the place of an access is one of the ring's words
-pub inside : (size : ℕ) (part : Part) (access : Access) (place : ℕ) → is_ring_size size ≡ true → may_make size part access ≡ true → ((index : ℕ) → KnowsIndex part index → place ≡ place_of size index access) → place < 2 + 8 * size
-inside size (Producer p) access place fits may lies = subst (λ (k : ℕ). k < 2 + 8 * size) (sym (lies 0 tt)) (within size 0 access (ring_size_bounds size fits).0 (names_word size (Producer p) access may))
-inside size (Processor q) access place fits may lies = subst (λ (k : ℕ). k < 2 + 8 * size) (sym (lies (length q.retired) refl)) (within size (length q.retired) access (ring_size_bounds size fits).0 (names_word size (Processor q) access may))
+-- the place of an access is one of the table's words
+pub inside : (size : ℕ) (part : Part) (access : Access) (place : ℕ) → is_ring_size size ≡ true → may_make size part access ≡ true → ((index : ℕ) → KnowsIndex part index → place ≡ table_place (place_of size index access)) → place < 48 + 8 * size
+inside size (Producer p) access place fits may lies = subst (λ (k : ℕ). k < 48 + 8 * size) (sym (lies 0 tt)) (table_in (place_of size 0 access) (8 * size) (within size 0 access (ring_size_bounds size fits).0 (names_word size (Producer p) access may)))
+inside size (Processor q) access place fits may lies = subst (λ (k : ℕ). k < 48 + 8 * size) (sym (lies (length q.retired) refl)) (table_in (place_of size (length q.retired) access) (8 * size) (within size (length q.retired) access (ring_size_bounds size fits).0 (names_word size (Processor q) access may)))
 
 -- an addition doesn't wrap
 wraps_not : (n : ℕ) → n + 1 < 2 ^ 64 → (n + 1) % 2 ^ 64 ≡ n + 1

@@ -12,13 +12,15 @@ use Rattle.ring_core.specs.Tickets.{open_ticket, shows_room}
 use Rattle.ring_core.specs.Parts.{may_make}
 use Rattle.ring_core.specs.Machine.{word_place, place_of}
 use Rattle.ring.specs.declared.share.Numbered.{Numbered}
+use Rattle.ring.specs.Places.{table_place}
 use Rattle.ring.specs.Shares.{alone}
 use Rattle.ring.specs.Passes.{RingSeen, only_part}
 use Rattle.ring.specs.Made.{WereMade, knowing_all, stored}
 use Rattle.ring.specs.inner.Halfway.{body_stored}
 use Rattle.ring.specs.Steps.{only_number, KnowsIndex, IsReady, HasGained}
 use Rattle.ring.specs.Publishing.{IsFillable}
-use Rattle.ring.proofs.Filling.{knowing_append, were_append, Filled, filling, filled, filled_saw, body_whole, may_store_body, may_store_header, place_from}
+use Rattle.ring.proofs.Filling.{knowing_append, were_append, Filled, filling, filled, filled_saw, body_whole, may_store_body, may_store_header}
+use Rattle.ring.proofs.Places.{table_from}
 
 -- no step yet
 pub gained_none : {S : Type 0} (size producers : ℕ) (me : Me S (List Numbered)) → me ≡ (alone (only_number me.0) (only_part me.0), []) → HasGained size producers me [] me
@@ -37,13 +39,13 @@ gained_more {S} size producers me me1 me2 xs ys h k =
     }
 
 -- a seat of this one part is ready for an access
-pub ready_of : {S : Type 0} (ring : RingSeen) (me : Me S (List Numbered)) (number : ℕ) (part : Part) (access : Access) (place : ℕ) → me ≡ (alone number part, []) → may_make ring.size part access ≡ true → ((index : ℕ) → KnowsIndex part index → place ≡ place_of ring.size index access) → IsReady ring me access place
+pub ready_of : {S : Type 0} (ring : RingSeen) (me : Me S (List Numbered)) (number : ℕ) (part : Part) (access : Access) (place : ℕ) → me ≡ (alone number part, []) → may_make ring.size part access ≡ true → ((index : ℕ) → KnowsIndex part index → place ≡ table_place (place_of ring.size index access)) → IsReady ring me access place
 ready_of {S} ring me number part access place one may lies =
     subst (λ (m : Me S (List Numbered)). IsReady ring m access place) (sym one) (record { one = refl; may = may; lies = lies })
 
 -- ---- the stores of a packet
 
-module _ {S : Type 0} (ring : RingSeen) (me me' : Me S (List Numbered)) (id slot k : ℕ) (words : List ℕ) (f : IsFillable ring.size me id) (slot_is : slot ≡ word_place ring.size id 0)
+module _ {S : Type 0} (ring : RingSeen) (me me' : Me S (List Numbered)) (id slot k : ℕ) (words : List ℕ) (f : IsFillable ring.size me id) (slot_is : slot ≡ table_place (word_place ring.size id 0))
     (h : HasGained ring.size ring.producers me (body_stored id words k) me') where
   known : Filled id words f.part f.ticket k
   known = filling id words f.part f.ticket f.opened k
@@ -61,7 +63,7 @@ module _ {S : Type 0} (ring : RingSeen) (me me' : Me S (List Numbered)) (id slot
   ready_body w lt =
       ready_of ring me' (only_number me.0) (Producer known.part) (StoreBody (record { 0 = id }) (k + 1) w) (slot + (k + 1)) filled_me
       (may_store_body ring.size id k w known.part (filled words f.ticket k) lt known.ticket saw_room)
-      (λ index _. ap (λ n. n + (k + 1)) slot_is ∙ place_from ring.size id (k + 1))
+      (λ index _. ap (λ n. n + (k + 1)) slot_is ∙ table_from ring.size id (k + 1))
 
   pub ready_header : (w : ℕ) → k ≡ 7 → is_invalid w ≡ false → IsReady ring me' (StoreHeader (record { 0 = id }) w) slot
   ready_header w all valid =

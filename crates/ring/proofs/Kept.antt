@@ -19,14 +19,16 @@ use Rattle.ring.specs.Passes.{RingSeen, only_part}
 use Rattle.ring.proofs.Facts.{ring_of, index_of, adds}
 use Rattle.ring.specs.declared.share.Numbered.{Numbered}
 use Rattle.ring.specs.declared.share.Shape.{Shape}
+use Rattle.ring.specs.Places.{table_place, words_seen}
 use Rattle.ring.specs.Shares.{alone, first_share, shape_of, AreMachine, IsKept, IsOneStep, Unite}
 use Rattle.ring_core.specs.Runs.{after_own}
 use Rattle.ring.specs.Made.{WasMade, step_by}
 use Rattle.ring.specs.Steps.{made_of, only_number, IsReady, IsTold, IsLoad, IsStore, IsAdd}
-use Rattle.ring.proofs.Machines.{machine_kept, one_step}
+use Rattle.ring.proofs.Machines.{machine_kept, has_indices, one_step}
+use Rattle.ring.proofs.Places.{seen_at}
 use Rattle.ring.proofs.Shares.{unite_cut, unite_join, unite_first}
 
-pub kept_first : {S : Type 0} (shape : Shape) (words : List ℕ) (homes : List S) → words ≡ (opened shape.size 0).words → IsKept shape (opening words homes (first_share shape))
+pub kept_first : {S : Type 0} (shape : Shape) (words : List ℕ) (homes : List S) → words_seen words ≡ (opened shape.size 0).words → IsKept shape (opening words homes (first_share shape))
 kept_first {S} shape words homes e =
     ([], (opened shape.size shape.producers).parts, ap (λ (ws : List ℕ). machine_of shape.size ws (opened shape.size shape.producers).parts) e, unite_first (opened shape.size shape.producers).parts)
 
@@ -41,19 +43,19 @@ joins {S} shape id share other theirs s h at ne at' = (h.0, h.1, h.2, unite_join
 pub steps : {S : Type 0} (size producers id number slots place : ℕ) (part : Part) (access : Access) (f : ℕ → ℕ) (then : ℕ → Me S (List Numbered) → Type 0)
     → 0 < size
     → may_make size part access ≡ true
-    → ((machine : Machine) → IsRule producers machine → machine.size ≡ size → part_at machine number ≡ part → (place ≡ touched machine (step_by number access)) × (f (found machine (step_by number access)) ≡ word_after access (found machine (step_by number access))))
+    → ((machine : Machine) → IsRule producers machine → machine.size ≡ size → part_at machine number ≡ part → (place ≡ table_place (touched machine (step_by number access))) × (f (found machine (step_by number access)) ≡ word_after access (found machine (step_by number access))))
     → ((n : ℕ) → WasMade size producers number part (made_of access n) → then n (alone number (part_after part access n), []))
     → Allows (IsKept (shape_of size producers)) slots id (alone number part, []) place f then
 steps {S} size producers id number slots place part access f then pos may where_ tells s h wide at small =
-    let machine : Machine = machine_of size s.words h.1 in
+    let machine : Machine = machine_of size (words_seen s.words) h.1 in
     let are : AreMachine size producers s.words s.views machine = machine_kept size producers s.words s.views h.0 h.1 pos h.2 h.3 in
     let step : Step = step_by number access in
     let go : IsOneStep size producers s.words s.views machine id step = one_step size producers s.words s.views machine id number part access are at may in
     let has : part_at machine number ≡ part = (are.unite.own id (alone number part) at).0 in
     let w = where_ machine are.rule refl has in
-    let here : place ≡ touched machine step = w.0 in
+    let here : place ≡ table_place (touched machine step) = w.0 in
     let n : ℕ = slice_index s.words place in
-    let is : n ≡ found machine step = ap (λ (k : ℕ). slice_index s.words k) here in
+    let is : n ≡ found machine step = ap (λ (k : ℕ). slice_index s.words k) here ∙ sym (seen_at s.words (touched machine step) (has_indices size producers s.words s.views machine are)) in
     let becomes : f n ≡ word_after access (found machine step) = ap f is ∙ w.1 in
     let knows : part_after part access n ≡ knows_after machine step = (λ i. part_after (sym has i) access (is i)) in
     let makes : Makes machine step (seen_by access n) (made machine step) = record { allowed = go.makes.allowed; told = ap (seen_by access) is; leads = refl } in (
@@ -63,7 +65,7 @@ steps {S} size producers id number slots place part access f then pos may where_
       (
         go.become.reached.0,
         (made machine step).parts,
-        subst (λ (ws : List ℕ). Replays size producers go.become.reached.0 (machine_of size ws (made machine step).parts)) (λ i. set s.words (sym here i) (sym becomes i)) go.become.reached.1,
+        subst (λ (ws : List ℕ). Replays size producers go.become.reached.0 (machine_of size ws (made machine step).parts)) (go.become.are ∙ (λ i. words_seen (set s.words (sym here i) (sym becomes i)))) go.become.reached.1,
         subst (λ (u : Part). Unite (made machine step).parts (set s.views id (alone number u))) (sym knows) go.become.unite,
       ),
       tells n (record { words = s.words; shares = s.views; machine = machine; are = are; seat = id; knew = at; had = has; next = made machine step; makes = makes; become = go.become }),
@@ -112,7 +114,7 @@ module _ {S : Type 0} (ring : RingSeen) (me : Me S (List Numbered)) (access : Ac
       (λ machine rule sized had.
       let r : IsRing machine = ring_of ring.producers ring.size machine rule sized fits count in
       let may : is_allowed machine (step_by (only_number me.0) access) ≡ true = (λ i. may_make (sized i) (had i) access) ∙ ready.may in
-      (ready.lies (read_index machine) (index_of ring.producers machine (only_number me.0) (only_part me.0) rule had) ∙ (λ i. place_of (sym sized i) (read_index machine) access), leaves machine r may))
+      (ready.lies (read_index machine) (index_of ring.producers machine (only_number me.0) (only_part me.0) rule had) ∙ (λ i. table_place (place_of (sym sized i) (read_index machine) access)), leaves machine r may))
       (λ n was. tells n (tells_of n was))))
 
   pub loads : IsLoad access → Allows (IsKept shape) slots id me place (λ n. n) (λ n after. IsTold ring.size ring.producers access me n after)

@@ -3,6 +3,7 @@ pub mod Machines
 pub mod Kept
 pub mod Facts
 pub mod Filling
+pub mod Places
 pub mod Gains
 pub mod Passes
 pub mod Loading

@@ -13,6 +13,7 @@ use Rattle.ring_core.specs.Parts.{after_processing}
 use Rattle.ring_core.specs.Machine.{word_place}
 use Rattle.ring_core.specs.Rule.{IsRule}
 use Rattle.ring.specs.declared.share.Numbered.{Numbered}
+use Rattle.ring.specs.Places.{table_place}
 use Rattle.ring.specs.Shares.{alone}
 use Rattle.ring.specs.Passes.{RingSeen, only_part}
 use Rattle.ring_core.specs.Runs.{after_own}
@@ -21,8 +22,9 @@ use Rattle.ring.specs.inner.Halfway.{body_read}
 use Rattle.ring.specs.Steps.{only_number, IsReady, HasGained}
 use Rattle.ring.specs.Showing.{IsLoadable}
 use Rattle.ring.proofs.Facts.{processor_at}
-use Rattle.ring.proofs.Filling.{knowing_append, place_from}
+use Rattle.ring.proofs.Filling.{knowing_append}
 use Rattle.ring.proofs.Gains.{ready_of}
+use Rattle.ring.proofs.Places.{table_from}
 
 -- the processor has places for eight words
 pub eight_places : (size producers number : ℕ) (q : ProcessorPart) (made : Made) → 0 < size → WasMade size producers number (Processor q) made → length q.collected ≡ 8
@@ -81,7 +83,7 @@ two a b e f = rw (e, f) refl
 header_set : (header : ℕ) (collected : List (Option ℕ)) → 0 < length collected → is_some (word (set collected 0 (Some header)) 0) ≡ true
 header_set header collected lt = ap is_some (get_or-set_same collected 0 (Some header) None lt)
 
-module _ {S : Type 0} (ring : RingSeen) (me me1 : Me S (List Numbered)) (next header slot : ℕ) (f : IsLoadable me next) (pos : 0 < ring.size) (slot_is : slot ≡ word_place ring.size next 0)
+module _ {S : Type 0} (ring : RingSeen) (me me1 : Me S (List Numbered)) (next header slot : ℕ) (f : IsLoadable me next) (pos : 0 < ring.size) (slot_is : slot ≡ table_place (word_place ring.size next 0))
     (valid : is_invalid header ≡ false) (told : HasGained ring.size ring.producers me (read LoadHeader header ∷ []) me1) where
   abbrev part1 : ProcessorPart
   part1 = after_processing f.part LoadHeader header
@@ -114,7 +116,7 @@ module _ {S : Type 0} (ring : RingSeen) (me me1 : Me S (List Numbered)) (next he
         (two (is_body (k + 1)) (is_some (word body.part.collected 0)) b shown)
         (λ index e.
         let same : next ≡ index = f.index ∙ ap length (sym body.retired) ∙ sym e in
-        ap (λ n. n + (k + 1)) slot_is ∙ place_from ring.size next (k + 1) ∙ ap (λ n. word_place ring.size n (k + 1)) same)
+        ap (λ n. n + (k + 1)) slot_is ∙ table_from ring.size next (k + 1) ∙ ap (λ n. table_place (word_place ring.size n (k + 1))) same)
 
 -- eight words collected in turn are the packet
 pub all_gathered : (words : List ℕ) (collected : List (Option ℕ)) → length words ≡ 8 → length collected ≡ 8 → gathered words (set collected 0 (Some (slice_index words 0))) 7 ≡ map Some words

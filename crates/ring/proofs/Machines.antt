@@ -1,5 +1,5 @@
 -- The words of a ring and the shares of all its seats are one machine, and each access is one step of it.
-use Rattle.std.proofs.Common.{◌≡◌, ◌≢◌, ℕ, suc, ◌<◌, ◌≤◌, true, false, List, [], ◌∷◌, ◌++◌, length, get_or, take, drop, eqb, refl, ap, ◌∙◌, sym, subst, arith, inl, inr, cond}
+use Rattle.std.proofs.Common.{◌≡◌, ◌≢◌, ℕ, suc, ◌+◌, ◌*◌, ◌<◌, ◌≤◌, true, false, List, [], ◌∷◌, ◌++◌, length, get_or, take, drop, eqb, refl, ap, ◌∙◌, sym, subst, arith, inl, inr, cond}
 use Rattle.std.specs.Prelude.{sum_by, nat_lt, slice_set}
 use Rattle.std.proofs.lemmas.Bool.Decides.{nat_tests, eqb_tells, leb_tells}
 use Rattle.std.proofs.lemmas.List.Sums.{sum_by-cons}
@@ -15,27 +15,36 @@ use Rattle.ring_core.proofs.Kept.{keeps, replays_keep, seated}
 use Rattle.ring_core.proofs.States.{replays_push}
 use Rattle.ring.specs.declared.share.Numbered.{Numbered}
 use Rattle.ring.specs.declared.share.Shape.{Shape}
+use Rattle.ring.specs.Places.{words_seen}
 use Rattle.ring.specs.Shares.{alone, AreOf, times_in, Unite, AreMachine, IsKept, IsOneStep}
 use Rattle.ring.specs.Made.{step_by}
+use Rattle.ring.proofs.Places.{wide, seen_set}
 use Rattle.ring.proofs.Shares.{unite_step, unite_cut, unite_join}
 
 -- ---- what the table keeps is a machine
 
 pub machine_kept : (size producers : ℕ) (words : List ℕ) (shares : List (List Numbered)) (steps : List Step) (parts : List Part) → 0 < size
-    → Replays size producers steps (machine_of size words parts) → Unite parts shares → AreMachine size producers words shares (machine_of size words parts)
+    → Replays size producers steps (machine_of size (words_seen words) parts) → Unite parts shares → AreMachine size producers words shares (machine_of size (words_seen words) parts)
 machine_kept size producers words shares steps parts pos leads unite =
     record {
       sized = refl;
       are = refl;
       unite = unite;
       reached = (steps, leads);
-      rule = replays_keep size producers steps (machine_of size words parts) pos leads;
+      rule = replays_keep size producers steps (machine_of size (words_seen words) parts) pos leads;
     }
 
 pub kept_machine : {S : Type 0} (shape : Shape) (state : State S (List Numbered)) → 0 < shape.size → IsKept shape state
     → (machine : Machine) × AreMachine shape.size shape.producers state.words state.views machine
 kept_machine shape state pos h =
-    (machine_of shape.size state.words h.1, machine_kept shape.size shape.producers state.words state.views h.0 h.1 pos h.2 h.3)
+    (machine_of shape.size (words_seen state.words) h.1, machine_kept shape.size shape.producers state.words state.views h.0 h.1 pos h.2 h.3)
+
+-- the table of a machine has both its indices
+pub has_indices : (size producers : ℕ) (words : List ℕ) (shares : List (List Numbered)) (machine : Machine) → AreMachine size producers words shares machine → 32 < length words
+has_indices size producers words shares machine are =
+    let n : length machine.words ≡ 2 + 8 * machine.size = are.rule.words in
+    let e : length machine.words ≡ length (words_seen words) = ap length are.are in
+    wide words (omega (arith, n, e))
 
 -- ---- an access is one step
 
@@ -52,7 +61,8 @@ one_step size producers words shares machine seat number part access are at may 
       makes = makes;
       become = record {
         sized = are.sized;
-        are = ap (λ ws. slice_set ws (touched machine step) (word_after access (found machine step))) are.are;
+        are = ap (λ ws. slice_set ws (touched machine step) (word_after access (found machine step))) are.are
+            ∙ sym (seen_set words (touched machine step) (word_after access (found machine step)) (has_indices size producers words shares machine are));
         unite = unite_step machine.parts shares seat number part (knows_after machine step) at within are.unite;
         reached = (are.reached.0 ++ step ∷ [], replays_push size producers are.reached.0 machine (made machine step) step (seen_by access (found machine step)) are.reached.1 makes);
         rule = keeps producers machine step are.rule allowed;

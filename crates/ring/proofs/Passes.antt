@@ -17,6 +17,7 @@ use Rattle.ring_core.specs.Rule.{IsRule, tickets_of, all_tickets, ticket_of, tim
 use Rattle.ring_core.proofs.Entries.{held_none}
 use Rattle.ring_core.proofs.Seats.{held_append, all_below, seat_held}
 use Rattle.ring.specs.declared.share.Numbered.{Numbered}
+use Rattle.ring.specs.Places.{table_place}
 use Rattle.ring.specs.Shares.{alone}
 use Rattle.ring.specs.Passes.{RingSeen, only_part, as_producer, IsProducerPass}
 use Rattle.ring_core.specs.Runs.{after_own}
@@ -53,7 +54,7 @@ producer_steps size producers number allowance me me' made q h k is =
     }
 
 -- a producer's pass is ready for what its part may do
-pub producer_ready : (ring : RingSeen) (number allowance : ℕ) (me : ME) (access : Access) (place : ℕ) → IsProducerPass number allowance me → may_make ring.size (Producer (as_producer (only_part me.0))) access ≡ true → ((index : ℕ) → place ≡ place_of ring.size index access) → IsReady {S = ⊤} ring me access place
+pub producer_ready : (ring : RingSeen) (number allowance : ℕ) (me : ME) (access : Access) (place : ℕ) → IsProducerPass number allowance me → may_make ring.size (Producer (as_producer (only_part me.0))) access ≡ true → ((index : ℕ) → place ≡ table_place (place_of ring.size index access)) → IsReady {S = ⊤} ring me access place
 producer_ready ring number allowance me access place h may lies = ready_of ring me number (Producer (as_producer (only_part me.0))) access place h.share may (λ index _. lies index)
 
 pub some_left : (n : ℕ) → n ≢ 0 → nat_lt 0 n ≡ true

@@ -1,5 +1,5 @@
 -- The end of a ring.
-use Rattle.std.proofs.Common.{◌≡◌, ℕ, zero, suc, ◌+◌, ◌*◌, ◌<◌, Bool, true, false, List, [], ◌∷◌, ◌++◌, length, get_or, map, refl, ap, ◌∙◌, sym, subst, arith, inl, inr}
+use Rattle.std.proofs.Common.{◌≡◌, ℕ, zero, suc, ◌+◌, ◌*◌, ◌<◌, Bool, true, false, List, [], ◌∷◌, ◌++◌, length, get_or, drop, map, refl, ap, ◌∙◌, sym, subst, arith, inl, inr}
 use Rattle.std.specs.Prelude.{◌&&◌, All}
 use Rattle.std.proofs.lemmas.Bool.Decides.{eqb_tells}
 use mathlib.Core.Option.{some, some-injective, some-ne-none}
@@ -12,7 +12,9 @@ use Rattle.ring_core.specs.Machine.{machine_of, Replays}
 use Rattle.ring_core.proofs.Kept.{replays_keep}
 use Rattle.ring.specs.declared.share.Numbered.{Numbered}
 use Rattle.ring.specs.declared.share.Shape.{Shape}
+use Rattle.ring.specs.Places.{words_seen}
 use Rattle.ring.specs.Shares.{alone, shape_of, AreOf, IsKept}
+use Rattle.ring.proofs.Places.{wide, seen_is, drop_at}
 use Rattle.ring.specs.Passes.{RingSeen, ProducerSeen, ProcessorSeen}
 use Rattle.ring.specs.Settling.{has_pass, has_passes, share_of, IsClosed, IsSettled}
 
@@ -32,13 +34,13 @@ missing_one (suc n) k passes lt lacks =
     ]
 
 -- what was closed
-pub closes : {S : Type 0} (ring : RingSeen) (shape : Shape) (id : ℕ) (share : List Numbered) (words : List ℕ) (slots : List S) → shape ≡ shape_of ring.size ring.producers → Final (Seen (IsKept {S = S} shape) id share) words slots → IsClosed ring share words
+pub closes : {S : Type 0} (ring : RingSeen) (shape : Shape) (id : ℕ) (share : List Numbered) (words : List ℕ) (slots : List S) → shape ≡ shape_of ring.size ring.producers → Final (Seen (IsKept {S = S} shape) id share) words slots → IsClosed ring share (words_seen words)
 closes ring shape id share words slots is final =
     let kept = subst (λ (s : Shape). IsKept s final.0) is final.1.0 in
     let w = final.2 in
-    (kept.0, kept.1, subst (λ (ws : List ℕ). Replays ring.size ring.producers kept.0 (machine_of ring.size ws kept.1)) w kept.2, kept.3.own id share final.1.1)
+    (kept.0, kept.1, subst (λ (ws : List ℕ). Replays ring.size ring.producers kept.0 (machine_of ring.size (words_seen ws) kept.1)) w kept.2, kept.3.own id share final.1.1)
 
--- how many words there are
+-- how many words are seen
 pub closed_length : (ring : RingSeen) (share : List Numbered) (words : List ℕ) → 0 < ring.size → IsClosed ring share words → length words ≡ 2 + 8 * ring.size
 closed_length ring share words pos h = (replays_keep ring.size ring.producers h.0 (machine_of ring.size words h.1) pos h.2).words
 
@@ -47,6 +49,9 @@ pub word_read : (words : List ℕ) (i w : ℕ) → get_elem? words i ≡ some w 
 word_read [] i w e = absurd (some-ne-none w (sym e))
 word_read (x ∷ xs) zero w e = some-injective x w e
 word_read (x ∷ xs) (suc i) w e = word_read xs i w e
+
+pub word_at : (words : List ℕ) (place w at : ℕ) → at ≡ place → get_elem? words at ≡ some w → get_or words place 0 ≡ w
+word_at words place w at is e = word_read words place w (subst (λ (k : ℕ). get_elem? words k ≡ some w) is e)
 
 -- a list that has these words has all of them
 pub same_words : (xs ys : List ℕ) → length xs ≡ length ys → ((j : ℕ) → j < length xs → get_or xs j 0 ≡ get_or ys j 0) → xs ≡ ys
@@ -58,12 +63,13 @@ same_words (x ∷ xs) (y ∷ ys) n e =
     let t : xs ≡ ys = same_words xs ys (omega (arith, n)) (λ j lt. e (suc j) (omega (arith, lt))) in
     λ i. h i ∷ t i
 
-pub all_words : (words slots : List ℕ) (w r : ℕ) → length words ≡ suc (suc (length slots)) → get_or words 0 0 ≡ w → get_or words 1 0 ≡ r → ((j : ℕ) → j < length slots → get_or slots j 0 ≡ get_or words (2 + j) 0) → words ≡ w ∷ r ∷ slots
-all_words [] slots w r n a b e = absurd (omega (arith, n))
-all_words (x ∷ []) slots w r n a b e = absurd (omega (arith, n))
-all_words (x ∷ y ∷ words) slots w r n a b e =
-    let t : words ≡ slots = same_words words slots (omega (arith, n)) (λ j lt. let g : get_or slots j 0 ≡ get_or (x ∷ y ∷ words) (2 + j) 0 = e j (omega (arith, n, lt)) in sym (g ∙ ap (λ k. get_or (x ∷ y ∷ words) k 0) (let q : 2 + j ≡ suc (suc j) = omega arith in q))) in
-    λ i. a i ∷ b i ∷ t i
+-- a table of which the indices and the slots were read has just these words to see
+pub all_words : (words slots : List ℕ) (w r : ℕ) → length (words_seen words) ≡ suc (suc (length slots)) → get_or words 16 0 ≡ w → get_or words 32 0 ≡ r → ((j : ℕ) → j < length slots → get_or slots j 0 ≡ get_or words (48 + j) 0) → words_seen words ≡ w ∷ r ∷ slots
+all_words words slots w r n a b e =
+    let is : words_seen words ≡ get_or words 16 0 ∷ get_or words 32 0 ∷ drop 48 words = seen_is words (wide words (omega (arith, n))) in
+    let m : length (words_seen words) ≡ suc (suc (length (drop 48 words))) = ap length is in
+    let t : drop 48 words ≡ slots = same_words (drop 48 words) slots (omega (arith, n, m)) (λ j lt. drop_at 48 j words ∙ sym (e j (omega (arith, n, m, lt)))) in
+    is ∙ (λ i. a i ∷ b i ∷ t i)
 
 -- the shares of passes
 pub are_passes : (parts : List Part) (passes : List ProducerSeen) → AreOf parts (map share_of passes) → All (λ pass. get_or parts pass.number nobody ≡ Producer pass.part) passes

@@ -1,4 +1,5 @@
 pub mod Bytes
+pub mod Places
 pub mod Shares
 pub mod Made
 pub mod Passes

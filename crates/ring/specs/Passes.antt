@@ -10,7 +10,7 @@ use Rattle.ring_core.specs.Parts.{nobody}
 use Rattle.ring.specs.declared.share.Numbered.{Numbered}
 use Rattle.ring.specs.declared.share.Shape.{Shape}
 use Rattle.aql_packet.specs.Ring.{is_ring_size}
-use Rattle.ring_core.specs.Machine.{word_count}
+use Rattle.ring.specs.Places.{table_count}
 use Rattle.ring_core.specs.Machine.{is_producer_count}
 use Rattle.ring.specs.Shares.{alone, shape_of}
 
@@ -20,10 +20,11 @@ pub record RingSeen : Type 0 where
   pub size : ℕ
   pub producers : ℕ
 
--- its table was made for this size and so many producers, and has eight words a slot and the two indices
+-- its table was made for this size and so many producers, and has eight words a slot, the two indices and
+-- the gaps before each of them and before the first slot
 pub record IsRing (table : TableId) (shape : Shape) (size producers : ℕ) : Type 0 where
   pub made_for : shape ≡ shape_of size producers
-  pub words : table.words ≡ word_count size
+  pub words : table.words ≡ table_count size
   pub no_slots : table.slots ≡ 0
   pub fits : is_ring_size size ≡ true
   pub few : is_producer_count producers ≡ true

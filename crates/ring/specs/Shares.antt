@@ -10,6 +10,7 @@ use Rattle.ring_core.specs.Machine.{Machine, Makes, machine_of, opened, Replays,
 use Rattle.ring_core.specs.Rule.{IsRule}
 use Rattle.ring.specs.declared.share.Numbered.{Numbered}
 use Rattle.ring.specs.declared.share.Shape.{Shape}
+use Rattle.ring.specs.Places.{table_place, words_seen}
 
 abbrev pub shape_of : ℕ → ℕ → Shape
 shape_of size producers = record { size = size; producers = producers }
@@ -43,19 +44,21 @@ pub record Unite (parts : List Part) (shares : List (List Numbered)) : Type 0 wh
   pub own : (seat : ℕ) (share : List Numbered) → get_elem? shares seat ≡ some share → AreOf parts share
   pub once : (number : ℕ) → sum_by (times_in number) shares ≡ (if nat_lt number (length parts) then 1 else 0)
 
--- the words of a ring and the shares of all its seats are together this machine: they are its words and
--- unite to its parts, some list of steps leads to it from the opening, and it meets the ring rule
+-- the words of a ring's table and the shares of all its seats are together this machine: its words are
+-- those seen among the table's, the shares unite to its parts, some list of steps leads to it from the
+-- opening, and it meets the ring rule
 pub record AreMachine (size producers : ℕ) (words : List ℕ) (shares : List (List Numbered)) (machine : Machine) : Type 0 where
   pub sized : machine.size ≡ size
-  pub are : machine.words ≡ words
+  pub are : machine.words ≡ words_seen words
   pub unite : Unite machine.parts shares
   pub reached : (steps : List Step) × Replays size producers steps machine
   pub rule : IsRule producers machine
 
--- the words once a machine made a step: the word that it touches has changed
+-- the table's words once a machine made a step: the word at the place that it touches has changed, and no
+-- other has, in the gaps neither
 abbrev pub words_after : Machine → Step → List ℕ → List ℕ
 words_after machine step words =
-    slice_set words (touched machine step) (word_after step.access (found machine step))
+    slice_set words (table_place (touched machine step)) (word_after step.access (found machine step))
 
 -- and the shares: that of the seat which made it, all of whose knowledge is one part
 abbrev pub shares_after : Machine → Step → ℕ → List (List Numbered) → List (List Numbered)
@@ -68,9 +71,9 @@ pub record IsOneStep (size producers : ℕ) (words : List ℕ) (shares : List (L
   pub become : AreMachine size producers (words_after machine step words) (shares_after machine step seat shares) (made machine step)
 
 -- the fact that the table keeps between any two steps: some list of steps leads from the opening to a
--- machine with these words and with the parts to which the shares of all seats unite
+-- machine with the words seen among these and with the parts to which the shares of all seats unite
 abbrev pub IsKept : {S : Type 0} → Shape → State S (List Numbered) → Type 0
 IsKept shape state =
     (steps : List Step) × (parts : List Part)
-    × Replays shape.size shape.producers steps (machine_of shape.size state.words parts)
+    × Replays shape.size shape.producers steps (machine_of shape.size (words_seen state.words) parts)
     × Unite parts state.views

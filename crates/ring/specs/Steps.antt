@@ -10,6 +10,7 @@ use Rattle.ring_core.specs.declared.part.Part.TheVariants.{Producer, Processor}
 use Rattle.ring_core.specs.Parts.{may_make, seen_by}
 use Rattle.ring_core.specs.Machine.{place_of, word_after}
 use Rattle.ring.specs.declared.share.Numbered.{Numbered}
+use Rattle.ring.specs.Places.{table_place}
 use Rattle.ring.specs.Shares.{alone}
 pub use Rattle.ring_core.specs.Calls.{made_of}
 use Rattle.ring.specs.Made.{WereMade, knowing_all}
@@ -25,11 +26,12 @@ abbrev pub KnowsIndex : Part → ℕ → Type 0
 KnowsIndex (Producer part) index = ⊤
 KnowsIndex (Processor part) index = index ≡ length part.retired
 
--- a seat of one part may make an access, and this is the place of the word that it touches
+-- a seat of one part may make an access, and this is the place among the table's words of the word that it
+-- touches
 pub record IsReady {S : Type 0} (ring : RingSeen) (me : Me S (List Numbered)) (access : Access) (place : ℕ) : Type 0 where
   pub one : me ≡ (alone (only_number me.0) (only_part me.0), [])
   pub may : may_make ring.size (only_part me.0) access ≡ true
-  pub lies : (index : ℕ) → KnowsIndex (only_part me.0) index → place ≡ place_of ring.size index access
+  pub lies : (index : ℕ) → KnowsIndex (only_part me.0) index → place ≡ table_place (place_of ring.size index access)
 
 -- an access that leaves the word, that stores one, and that adds 1 to it
 abbrev pub IsLoad : Access → Type 0

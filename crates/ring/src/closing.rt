@@ -4,6 +4,7 @@ ghost use Rattle.std.specs.Prelude.{◌≡◌, ◌↔◌, ◌+◌, ◌*◌, ◌<
 ghost use Rattle.ring.specs.Settling.{has_pass, has_passes, IsSettled, IsClosed, share_of};
 ghost use Rattle.ring.specs.declared.closing.SettleFault.{SettleFault};
 
+use crate::place::table_place;
 use crate::processor::ProcessorPass;
 use crate::producer::ProducerPass;
 use crate::ring::Ring;
@@ -132,10 +133,10 @@ impl Ring {
         let Ring { table, .. } = self;
         let mut slots = slots;
         let closed = table.close_with(seat);
-        let write_index = closed.word(WRITE_PLACE);
-        let read_index = closed.word(READ_PLACE);
+        let write_index = closed.word(table_place(WRITE_PLACE));
+        let read_index = closed.word(table_place(READ_PLACE));
         for index in 0..slots.len() {
-            slots[index] = closed.word(FIRST_SLOT + index);
+            slots[index] = closed.word(table_place(FIRST_SLOT + index));
         }
         closed.free();
         Settled {

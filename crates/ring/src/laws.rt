@@ -3,6 +3,7 @@
 
 ghost use Rattle.atomic_table.specs.Table.{State};
 ghost use Rattle.ring.specs.Made.{step_by};
+ghost use Rattle.ring.specs.Places.{table_place, words_seen};
 ghost use Rattle.ring.specs.Shares.{AreMachine, IsKept, IsOneStep, alone};
 ghost use Rattle.ring.specs.declared.share.Numbered.{Numbered};
 ghost use Rattle.ring.specs.declared.share.Shape.{Shape};
@@ -10,7 +11,8 @@ ghost use Rattle.ring_core.specs.Machine.{Machine};
 ghost use Rattle.ring_core.specs.Parts.{may_make};
 ghost use Rattle.ring_core.specs.declared.access.Access.{Access};
 ghost use Rattle.ring_core.specs.declared.part.Part.{Part};
-ghost use Rattle.std.specs.Prelude.{List, [], drop, slice_set, take, ℕ, ⊤, true, ◌++◌, ◌<◌, ◌∷◌, ◌≡◌, ◌≢◌};
+ghost use Rattle.ring_core.specs.declared.access.TheConstants.{FIRST_SLOT, READ_PLACE, WRITE_PLACE};
+ghost use Rattle.std.specs.Prelude.{List, [], drop, length, slice_index, slice_set, take, ℕ, ⊤, true, ◌*◌, ◌+◌, ◌++◌, ◌<◌, ◌≤◌, ◌∷◌, ◌≡◌, ◌≢◌};
 ghost use lib.ListN.{get_elem?};
 ghost use mathlib.Core.Option.{some};
 
@@ -55,4 +57,21 @@ pub fn cuts_and_joins_keep_the_machine()
         → get_elem? views seat ≡ some view
         → get_elem? (slice_set views seat (view ++ theirs)) other ≡ some theirs
         → AreMachine size producers words (slice_set (slice_set views seat (view ++ theirs)) other []) machine }
+{}
+
+/// A store at the table's place of one of the machine's is, on the words seen, a store at the machine's
+/// place. It leaves every other word of the table, those in the gaps too.
+pub fn stores_are_seen_and_leave_the_gaps()
+    ensures seen { (words : List ℕ) (place word : ℕ) → 2 ≤ length (words_seen words)
+        → words_seen (slice_set words (table_place place) word) ≡ slice_set (words_seen words) place word }
+    ensures others { (words : List ℕ) (place word other : ℕ) → other ≢ table_place place
+        → slice_index (slice_set words (table_place place) word) other ≡ slice_index words other }
+{}
+
+/// Both indices and the slots lie 16 words apart, 128 bytes, two cache lines. Each slot has whole groups of
+/// eight words for itself: a line each, where the table's memory begins on one.
+pub fn indices_and_slots_lie_apart()
+    ensures write { table_place WRITE_PLACE + 16 ≤ table_place READ_PLACE }
+    ensures read { (word : ℕ) → table_place READ_PLACE + 16 ≤ table_place (FIRST_SLOT + word) }
+    ensures slots { (slot : ℕ) → table_place (FIRST_SLOT + 8 * slot) ≡ 8 * (6 + slot) }
 {}

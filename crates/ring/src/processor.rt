@@ -6,10 +6,11 @@ ghost use Rattle.ring.specs.Bytes.{words_of};
 ghost use Rattle.ring.specs.Made.{retiring};
 ghost use Rattle.ring.specs.Showing.{IsShownBy, ProcessorGains, HasPeeked, ShowsAgain, IsLoadable, HasLoaded};
 
+use crate::place::{slot_place, table_place};
 use crate::ring::Ring;
 use crate::share::RingSeat;
 use aql_packet::{PacketId, bytes_of, is_invalid, words_of};
-use ring_core::{Access, READ_PLACE, word_place};
+use ring_core::{Access, READ_PLACE};
 use std::marker::Model;
 
 /// The packet at the read index.
@@ -60,7 +61,7 @@ impl Ring {
         ensures loaded { HasLoaded self.now.size self.now.producers seat.old.me result seat.new.me }
         ensures fits { is_ring_size self.now.size ≡ true }
     {
-        let slot = word_place(self.size, next, 0);
+        let slot = slot_place(self.size, next);
         let header = self.load(seat, Access::LoadHeader, slot);
         if is_invalid(header) {
             return None;
@@ -115,9 +116,13 @@ impl ProcessorPass {
         ensures adds { self.new.part.retired ≡ self.old.part.retired ++ words_of shown.bytes ∷ [] }
     {
         let _ = shown;
-        let slot = word_place(ring.size, self.next, 0);
+        let slot = slot_place(ring.size, self.next);
         ring.store(&mut self.seat, Access::ClearHeader, slot, 1);
-        let index = ring.add_one(&mut self.seat, Access::RaiseReadIndex, READ_PLACE);
+        let index = ring.add_one(
+            &mut self.seat,
+            Access::RaiseReadIndex,
+            table_place(READ_PLACE),
+        );
         self.next = index + 1;
         self.whole = false;
     }

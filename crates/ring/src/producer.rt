@@ -3,16 +3,16 @@
 ghost use Rattle.std.specs.Prelude.{◌≡◌, ◌≢◌, ℕ, [], ◌∷◌, IfOk, IfErr, false, get_or};
 ghost use Rattle.ring_core.specs.declared.access.Access.{Access};
 ghost use Rattle.ring_core.specs.Words.{is_invalid};
-ghost use Rattle.ring_core.specs.Machine.{word_place};
 ghost use Rattle.ring.specs.Bytes.{words_of};
 ghost use Rattle.ring.specs.Made.{read, packet_stored};
 ghost use Rattle.ring.specs.Steps.{HasGained};
 ghost use Rattle.ring.specs.Publishing.{IsOpen, ProducerGains, HasPublished, IsFillable, IsGivenBack};
 
+use crate::place::{slot_place, table_place};
 use crate::ring::Ring;
 use crate::share::RingSeat;
 use aql_packet::{PacketId, is_invalid, words_of};
-use ring_core::{Access, READ_PLACE, WRITE_PLACE, has_room, word_place};
+use ring_core::{Access, READ_PLACE, WRITE_PLACE, has_room};
 use std::marker::Model;
 
 /// An id that a producer reserved and has not published yet.
@@ -76,7 +76,7 @@ impl Ring {
         ensures seat { seat.new.table_id ≡ seat.old.table_id }
         ensures gained { HasGained self.now.size self.now.producers seat.old.me (packet_stored id.0 words.now) seat.new.me }
     {
-        let slot = word_place(self.size, id.0, 0);
+        let slot = slot_place(self.size, id.0);
         for before in 0..7 {
             let place = before + 1;
             let word = words[place];
@@ -112,7 +112,7 @@ impl ProducerPass {
         if self.allowance == 0 {
             return Err(Spent);
         }
-        let id = ring.add_one(&mut self.seat, Access::Reserve, WRITE_PLACE);
+        let id = ring.add_one(&mut self.seat, Access::Reserve, table_place(WRITE_PLACE));
         self.allowance -= 1;
         Ok(Ticket { id: PacketId(id) })
     }
@@ -133,7 +133,7 @@ impl ProducerPass {
         }
         let id = ticket.id;
         let look = Access::LoadReadIndex { ticket: id };
-        let read_index = ring.load(&mut self.seat, look, READ_PLACE);
+        let read_index = ring.load(&mut self.seat, look, table_place(READ_PLACE));
         if !has_room(ring.size, id, read_index) {
             return Publication::SlotBusy(ticket, read_index);
         }

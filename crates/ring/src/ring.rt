@@ -1,4 +1,4 @@
-//! The ring: its words, and how its passes are cut from one seat.
+//! The ring: its table of words, and how its passes are cut from one seat.
 
 ghost use Rattle.std.specs.Prelude.{◌≡◌, [], IfOk, IfErr, true, take, drop, replicate, All};
 ghost use Rattle.aql_packet.specs.Ring.{is_ring_size};
@@ -8,12 +8,13 @@ ghost use Rattle.ring.specs.Shares.{first_share, numbered, shape_of};
 ghost use Rattle.ring_core.specs.Machine.{is_producer_count};
 ghost use Rattle.ring.specs.Opening.{IsRingFault};
 
+use crate::place::opening_table;
 use crate::processor::ProcessorPass;
 use crate::producer::ProducerPass;
 use crate::share::{FirstOff, Kept, RingSeat, Shape, Share};
 use aql_packet::is_ring_size;
 use atomic_table::Table;
-use ring_core::{ALLOWANCE, is_producer_count, opening_words};
+use ring_core::{ALLOWANCE, is_producer_count};
 use std::alloc::{AllocError, Global};
 use std::marker::Model;
 
@@ -84,7 +85,7 @@ fn with_one_seat(alloc: Global, size: u64, producers: u64) -> Result<(Ring, Ring
     ensures ring { IfOk result (λ o. (o.0.size ≡ size) × (o.0.producers ≡ producers)) }
     ensures seat { IfOk result (λ o. (o.1.table_id ≡ o.0.table) × (o.1.me ≡ (first_share (shape_of size producers), []))) }
 {
-    let words = opening_words(alloc, size)?;
+    let words = opening_table(alloc, size)?;
     let shape = Shape { size, producers };
     let (table, seat) = Table::of_words(alloc, words.as_slice(), &shape)?;
     let ring = Ring {

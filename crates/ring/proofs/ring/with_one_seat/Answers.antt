@@ -1,20 +1,17 @@
-use Rattle.std.proofs.Common.{arith, ap, ◌∙◌, ◌≡◌, ◌*◌, suc, [], length}
+use Rattle.std.proofs.Common.{ap, ◌∙◌, ◌≡◌, [], length}
+use Rattle.ring.specs.Places.{words_seen, table_count}
 use Rattle.ring.specs.Shares.{shape_of}
-use Rattle.ring_core.specs.Machine.{free_slots, opened}
-use Rattle.ring_core.proofs.Places.{free_length}
+use Rattle.ring_core.specs.Machine.{opened}
 use Rattle.ring.proofs.Kept.{kept_first}
 use Rattle.ring.proofs.ring.with_one_seat.Goals as goal
 
 pub of_words-requires : goal.of_words-requires
 of_words-requires c =
-    let e : c.as_slice.result.now ≡ (opened c.args.size 0).words = c.as_slice.ensures.value ∙ c.in_ok-words.ensures in
+    let e : words_seen c.as_slice.result.now ≡ (opened c.args.size 0).words = ap words_seen c.as_slice.ensures.value ∙ c.in_ok-words.ensures.seen in
     kept_first {S = Unit {0}} (shape_of c.args.size c.args.producers) c.as_slice.result.now [] e
 
 pub invariant_of-ring : goal.invariant_of-ring
 invariant_of-ring c =
-    let e : c.as_slice.result.now ≡ (opened c.args.size 0).words = c.as_slice.ensures.value ∙ c.in_ok-words.ensures in
-    let n : length (free_slots c.args.size) ≡ 8 * c.args.size = free_length c.args.size in
-    let l : length c.as_slice.result.now ≡ suc (suc (length (free_slots c.args.size))) = ap length e in
+    let l : length c.as_slice.result.now ≡ table_count c.args.size = ap length c.as_slice.ensures.value ∙ c.in_ok-words.ensures.count in
     let got = c.in_ok-table.ensures in
-    let w : c.in_ok-table.table.shared.table_id.words ≡ length c.as_slice.result.now = got.0 in
-    record { made_for = got.5; words = omega (arith, w, l, n); no_slots = got.1; fits = c.requires.size; few = c.requires.producers }
+    record { made_for = got.5; words = got.0 ∙ l; no_slots = got.1; fits = c.requires.size; few = c.requires.producers }

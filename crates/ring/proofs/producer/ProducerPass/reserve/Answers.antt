@@ -15,7 +15,7 @@ add_one-id-requires-clause-ready c =
     let p : ProducerPart = as_producer (only_part c.self.inside.seat.me.0) in
     let left : c.self.inside.allowance ≡ p.allowance = c.self.invariant.left in
     let some : p.allowance ≢ 0 = λ e. c.if-self-eq0.false (left ∙ e) in
-    producer_ready c.args.ring.now c.self.inside.number c.self.inside.allowance c.self.inside.seat.me Reserve 0 c.self.invariant (some_left p.allowance some) (λ _. refl)
+    producer_ready c.args.ring.now c.self.inside.number c.self.inside.allowance c.self.inside.seat.me Reserve c.table_place.result c.self.invariant (some_left p.allowance some) (λ _. c.table_place.ensures)
 
 pub returns-clause-opened : goal.returns-clause-opened
 returns-clause-opened c =

@@ -18,7 +18,7 @@ load-requires g c =
     let is : c.self.inside.table.shared.key ≡ shape_of ring.size ring.producers = c.self.invariant.made_for ∙ (λ i. shape_of (v i).size (v i).producers) in
     let fits : is_ring_size ring.size ≡ true = subst (λ (n : ℕ). is_ring_size n ≡ true) (ap (λ r. r.size) v) c.self.invariant.fits in
     let count : is_producer_count ring.producers ≡ true = subst (λ (n : ℕ). is_producer_count n ≡ true) (ap (λ r. r.producers) v) c.self.invariant.few in
-    let near : c.args.place < 2 + 8 * ring.size = inside ring.size (only_part c.args.seat.now.me.0) c.args.access c.args.place fits ready.may ready.lies in
+    let near : c.args.place < 48 + 8 * ring.size = inside ring.size (only_part c.args.seat.now.me.0) c.args.access c.args.place fits ready.may ready.lies in
     let same : c.self.inside.size ≡ ring.size = ap (λ r. r.size) v in
     let call = c.requires.call in (
       c.requires.table ∙ sym (ap (λ r. r.table) v),

@@ -1,10 +1,10 @@
-use Rattle.std.proofs.Common.{rules, ◌≡◌, ◌+◌, ◌*◌, ◌<◌, ◌≤◌, ◌∙◌, ℕ, List, ◌∷◌, length, get_or, set, false, refl, arith, sym, ap, subst, get_or-set_other, length-set}
+use Rattle.std.proofs.Common.{rules, ◌≡◌, ◌+◌, ◌^◌, ◌<◌, ◌∙◌, ℕ, List, ◌∷◌, length, get_or, set, false, refl, arith, sym, ap, subst, get_or-set_other, length-set}
 use Rattle.ring_core.specs.declared.access.Access.TheVariants.{LoadHeader}
 use Rattle.ring_core.specs.declared.access.Made.{Made}
 use Rattle.ring_core.specs.Words.{is_invalid}
 use Rattle.aql_packet.specs.Ring.{is_ring_size}
 use Rattle.ring_core.specs.Machine.{word_place}
-use Rattle.ring_core.proofs.Places.{place_in}
+use Rattle.ring.specs.Places.{table_place}
 use Rattle.ring_core.proofs.Sizes.{ring_size_bounds}
 use Rattle.ring.specs.Made.{read}
 use Rattle.ring.specs.inner.Halfway.{body_read}
@@ -18,20 +18,17 @@ loop-before-init c = (refl, refl, refl, gained_none c.args.self.now.size c.args.
 
 pub overflow_add-slot : goal.overflow_add-slot
 overflow_add-slot c =
-    let b = ring_size_bounds c.self.inside.size c.self.invariant.fits in
-    let few : c.self.inside.size ≤ 4096 = b.1 in
-    let lt : word_place c.self.inside.size c.args.next 0 < 2 + 8 * c.self.inside.size = place_in c.self.inside.size c.args.next 0 b.0 (omega arith) in
-    let e : c.word_place-slot.result ≡ word_place c.self.inside.size c.args.next 0 = c.word_place-slot.ensures in
+    let near : c.slot_place-slot.result < 2 ^ 16 = c.slot_place-slot.ensures.near in
     let t : c.loop-before.before < 7 = c.loop-before-test.true in
-    omega (arith, lt, few, e, t)
+    omega (arith, near, t)
 
 pub load-requires-clause-ready : goal.load-requires-clause-ready
 load-requires-clause-ready c =
     let ring = c.args.self.now in
     let pos : 0 < ring.size = (ring_size_bounds ring.size (ap (λ r. is_ring_size r.size) (sym c.self.view_is) ∙ c.self.invariant.fits)).0 in
-    let slot : c.word_place-slot.result ≡ word_place ring.size c.args.next 0 = c.word_place-slot.ensures ∙ ap (λ r. word_place r.size c.args.next 0) c.self.view_is in
+    let slot : c.slot_place-slot.result ≡ table_place (word_place ring.size c.args.next 0) = c.slot_place-slot.ensures.place ∙ ap (λ r. table_place (word_place r.size c.args.next 0)) c.self.view_is in
     let valid : is_invalid c.load-header.result ≡ false = search rules in
-    ready_load ring c.args.seat.now.me c.load-header.new.seat.me c.args.next c.load-header.result c.word_place-slot.result c.requires.loadable pos slot valid c.load-header.ensures.told c.loop-before.words c.loop-before.before c.loop-before.seat.me c.loop-before.invariant.3 c.loop-before-test.true
+    ready_load ring c.args.seat.now.me c.load-header.new.seat.me c.args.next c.load-header.result c.slot_place-slot.result c.requires.loadable pos slot valid c.load-header.ensures.told c.loop-before.words c.loop-before.before c.loop-before.seat.me c.loop-before.invariant.3 c.loop-before-test.true
 
 pub loop-before-preserved : goal.loop-before-preserved
 loop-before-preserved c =

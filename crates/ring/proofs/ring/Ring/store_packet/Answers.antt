@@ -1,8 +1,7 @@
-use Rattle.std.proofs.Common.{◌≡◌, ◌+◌, ◌*◌, ◌<◌, ◌≤◌, ◌∙◌, ℕ, List, arith, sym, ap, subst}
+use Rattle.std.proofs.Common.{◌≡◌, ◌^◌, ◌<◌, ◌∙◌, ℕ, List, arith, sym, ap, subst}
 use Rattle.ring_core.specs.declared.access.Made.{Made}
 use Rattle.ring_core.specs.Machine.{word_place}
-use Rattle.ring_core.proofs.Places.{place_in}
-use Rattle.ring_core.proofs.Sizes.{ring_size_bounds}
+use Rattle.ring.specs.Places.{table_place}
 use Rattle.ring.specs.inner.Halfway.{body_stored}
 use Rattle.ring.specs.Steps.{HasGained}
 use Rattle.ring.proofs.Gains.{ready_body, ready_header, body_more, gained_more}
@@ -10,18 +9,15 @@ use Rattle.ring.proofs.ring.Ring.store_packet.Goals as goal
 
 pub overflow_add-slot : goal.overflow_add-slot
 overflow_add-slot c =
-    let b = ring_size_bounds c.self.inside.size c.self.invariant.fits in
-    let few : c.self.inside.size ≤ 4096 = b.1 in
-    let lt : word_place c.self.inside.size c.args.id.0 0 < 2 + 8 * c.self.inside.size = place_in c.self.inside.size c.args.id.0 0 b.0 (omega arith) in
-    let e : c.word_place-slot.result ≡ word_place c.self.inside.size c.args.id.0 0 = c.word_place-slot.ensures in
+    let near : c.slot_place-slot.result < 2 ^ 16 = c.slot_place-slot.ensures.near in
     let t : c.loop-before.before < 7 = omega (arith, c.loop-before-test.true) in
-    omega (arith, lt, few, e, t)
+    omega (arith, near, t)
 
 pub store-requires-clause-ready : goal.store-requires-clause-ready
 store-requires-clause-ready c =
-    let slot : c.word_place-slot.result ≡ word_place c.args.self.now.size c.args.id.0 0 = c.word_place-slot.ensures ∙ ap (λ r. word_place r.size c.args.id.0 0) c.self.view_is in
+    let slot : c.slot_place-slot.result ≡ table_place (word_place c.args.self.now.size c.args.id.0 0) = c.slot_place-slot.ensures.place ∙ ap (λ r. table_place (word_place r.size c.args.id.0 0)) c.self.view_is in
     let t : c.loop-before.before < 7 = omega (arith, c.loop-before-test.true) in
-    ready_body c.args.self.now c.args.seat.now.me c.loop-before.seat.me c.args.id.0 c.word_place-slot.result c.loop-before.before c.args.words.now c.requires.fillable slot c.loop-before.invariant.1 _ t
+    ready_body c.args.self.now c.args.seat.now.me c.loop-before.seat.me c.args.id.0 c.slot_place-slot.result c.loop-before.before c.args.words.now c.requires.fillable slot c.loop-before.invariant.1 _ t
 
 pub loop-before-preserved : goal.loop-before-preserved
 loop-before-preserved c = (
@@ -32,9 +28,9 @@ loop-before-preserved c = (
 
 pub store-requires-2-clause-ready : goal.store-requires-2-clause-ready
 store-requires-2-clause-ready c =
-    let slot : c.word_place-slot.result ≡ word_place c.args.self.now.size c.args.id.0 0 = c.word_place-slot.ensures ∙ ap (λ r. word_place r.size c.args.id.0 0) c.self.view_is in
+    let slot : c.slot_place-slot.result ≡ table_place (word_place c.args.self.now.size c.args.id.0 0) = c.slot_place-slot.ensures.place ∙ ap (λ r. table_place (word_place r.size c.args.id.0 0)) c.self.view_is in
     let all : c.loop-before.before ≡ 7 = omega (arith, c.loop-before-test.false, c.loop-before.auto.before-end) in
-    ready_header c.args.self.now c.args.seat.now.me c.loop-before.seat.me c.args.id.0 c.word_place-slot.result c.loop-before.before c.args.words.now c.requires.fillable slot c.loop-before.invariant.1 _ all c.requires.valid
+    ready_header c.args.self.now c.args.seat.now.me c.loop-before.seat.me c.args.id.0 c.slot_place-slot.result c.loop-before.before c.args.words.now c.requires.fillable slot c.loop-before.invariant.1 _ all c.requires.valid
 
 pub returns-clause-gained : goal.returns-clause-gained
 returns-clause-gained c =
