@@ -12,3 +12,4 @@ pub mod Ends
 pub mod Readiness
 pub mod EndsOf
 pub mod Looking
+pub mod Room

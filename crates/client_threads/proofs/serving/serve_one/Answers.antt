@@ -6,8 +6,21 @@ use Rattle.client_threads.specs.Serving.{take_of}
 use Rattle.ring.specs.declared.processor.Peeked.TheVariants as peeked
 use Rattle.client_threads.proofs.KeptLanes.{looked_keeps, served_keeps, is_served, pending_below, pending_more, map_length}
 use Rattle.client_threads.proofs.Calls.{answered_meets, left_due, refused_leaves_or_lacks, waiting_leaves}
+use Rattle.client_threads.proofs.Room.{room_got}
 use Rattle.client_threads.proofs.serving.serve_one.Goals as goal
 use Rattle.client_threads.proofs.serving.serve_one.Goals.{then-is_err-via-then-is_err, then-is_err-via-else-is_err+then-is_err-2}
+
+pub push_reserved-requires : goal.push_reserved-requires
+push_reserved-requires c =
+    room_got c.reserve.result c.is_err.result _ _ c.reserve.ensures.ok c.is_err.ensures.value c.if-is_err.false
+
+pub push_reserved-requires-in-Ok-Launched : goal.push_reserved-requires-in-Ok-Launched
+push_reserved-requires-in-Ok-Launched c =
+    room_got c.reserve-else-is_err.result c.is_err-else-is_err.result _ _ c.reserve-else-is_err.ensures.ok c.is_err-else-is_err.ensures.value c.if-is_err-2.false
+
+pub push_reserved-requires-in-Ok-Denied : goal.push_reserved-requires-in-Ok-Denied
+push_reserved-requires-in-Ok-Denied c =
+    room_got c.reserve.result c.is_err.result _ _ c.reserve.ensures.ok c.is_err.ensures.value c.if-is_err.false
 
 pub invariant_of-lane-in-Ok-Launched : goal.invariant_of-lane-in-Ok-Launched
 invariant_of-lane-in-Ok-Launched c =
