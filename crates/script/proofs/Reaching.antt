@@ -1,5 +1,6 @@
 -- What a line does is a list of requests.
-use Rattle.std.proofs.Common.{◌≡◌, ℕ, List, [], ◌∷◌, ◌++◌, Option, Some, None, Result, Ok, Err, refl, sym, subst, ◌∙◌}
+use Rattle.std.proofs.Common.{◌≡◌, ℕ, List, [], ◌∷◌, ◌++◌, Option, Some, None, Result, Ok, Err, refl, sym, subst, ◌∙◌, inl, inr}
+use Rattle.std.specs.Prelude.{⊤}
 use Rattle.std.specs.List.{cons_option}
 use Rattle.policy.specs.Policy.{Declared, numbered}
 use Rattle.world.specs.declared.reply.Refusal.{Refusal}
@@ -24,7 +25,13 @@ use Rattle.script.specs.declared.lines.Line.{Line}
 use Rattle.script.specs.declared.lines.Line.TheVariants as lines
 use Rattle.script.specs.Expansions.{ask, copies, does, meaning_of, raised, reload, served_or_empty, shown_or_empty}
 use Rattle.script.specs.Lines.{line_of}
-use Rattle.script.specs.Runs.{RepliedAs, Runs, Told, parts_told, watched, worlds}
+use Rattle.script.specs.declared.fault.ScriptFault.{ScriptFault}
+use Rattle.script.specs.declared.fault.ScriptFault.TheVariants.{OutOfMemory, BadLine, Read, Write, Stopped}
+use Rattle.script.specs.declared.watch.Flow.{Flow}
+use Rattle.script.specs.Runs.{Replied, RepliedAs, Runs, StopsAt, StopsNear, Told, lines_of, parts_told, unheard, watched, worlds}
+use Rattle.script.specs.Scripts.{Outcome, RunsScript}
+use Rattle.script.specs.Watchers as watchers
+use Rattle.script.proofs.Watching.{ends_watched}
 
 -- ---- any line
 
@@ -92,17 +99,64 @@ line_reaches later (command.Retire queue) old told new done = told_reaches (reti
 line_reaches later (command.Serve queue) old told new done = told_reaches (serve_next queue) served_or_empty (keeps_serve_next queue) served_none old told new done
 line_reaches later (command.Reload number) old told new done = reload_reaches (numbered later number) old told new done
 
-replied_reaches : (later : List Declared) (old new : Joined) (stands : Option Line) (reply : List ℕ) → RepliedAs (worlds later) old stands reply new →
-    (parts : List Part) × Reaches old parts new
+replied_reaches : (says : Told → Flow → Type 0) (later : List Declared) (old new : Joined) (stands : Option Line) (reply : List ℕ) →
+    RepliedAs (watched says later) old stands reply new → (parts : List Part) × Reaches old parts new
 unfolding watched
-replied_reaches later old new None reply done = absurd done
-replied_reaches later old new (Some lines.Quiet) reply done = ([], reaches_none old new done.1)
-replied_reaches later old new (Some (lines.Asks asked)) reply done = (parts_told done.0, line_reaches later asked old done.0 new done.1)
+replied_reaches says later old new None reply done = absurd done
+replied_reaches says later old new (Some lines.Quiet) reply done = ([], reaches_none old new done.1)
+replied_reaches says later old new (Some (lines.Asks asked)) reply done = (parts_told done.0, line_reaches later asked old done.0 new done.1)
+
+-- one thing after another
+reach_on : (old mid new : Joined) → ((parts : List Part) × Reaches old parts mid) → ((parts : List Part) × Reaches mid parts new) → (parts : List Part) × Reaches old parts new
+reach_on old mid new one more = (one.0 ++ more.0, reaches_more old mid new one.0 more.0 one.1 more.1)
+
+line_reach : (says : Told → Flow → Type 0) (later : List Declared) (old new : Joined) (first reply : List ℕ) → Replied (watched says later) old first reply new →
+    (parts : List Part) × Reaches old parts new
+line_reach says later old new first reply done =
+    replied_reaches says later old new (line_of ((watched says later).names old) (watched says later).later first) reply done
+
+runs_on : (says : Told → Flow → Type 0) (later : List Declared) (old new : Joined) (script : List (List ℕ)) (text : List ℕ) → Runs (watched says later) old script text new →
+    (parts : List Part) × Reaches old parts new
+runs_on says later old new [] text done = ([], reaches_none old new done.1)
+runs_on says later old new (first ∷ script) text done =
+    reach_on old done.0 new (line_reach says later old done.0 first done.1 done.3) (runs_on says later done.0 new script done.2 done.4)
 
 pub runs_reach : (later : List Declared) (old new : Joined) (script : List (List ℕ)) (text : List ℕ) → Runs (worlds later) old script text new →
     (parts : List Part) × Reaches old parts new
-runs_reach later old new [] text done = ([], reaches_none old new done.1)
-runs_reach later old new (first ∷ script) text done =
-    let one = replied_reaches later old done.0 (line_of ((worlds later).names old) (worlds later).later first) done.1 done.3 in
-    let more = runs_reach later done.0 new script done.2 done.4 in
-    (one.0 ++ more.0, reaches_more old done.0 new one.0 more.0 one.1 more.1)
+runs_reach later old new script text done = runs_on watchers.goes_on later old new script text done
+
+-- ---- a whole run, whatever it comes to
+
+unheard_runs : (later : List Declared) (old new : Joined) (script : List (List ℕ)) (text : List ℕ) → Runs (unheard (worlds later)) old script text new →
+    (parts : List Part) × Reaches old parts new
+unfolding watched
+unheard_runs later old new script text done = runs_on (λ told flow. ⊤) later old new script text done
+
+unheard_line : (later : List Declared) (old new : Joined) (first reply : List ℕ) → Replied (unheard (worlds later)) old first reply new → (parts : List Part) × Reaches old parts new
+unfolding watched
+unheard_line later old new first reply done = line_reach (λ told flow. ⊤) later old new first reply done
+
+stops_reach : (later : List Declared) (old new : Joined) (after : List (List ℕ)) → StopsAt (worlds later) old new after → (parts : List Part) × Reaches old parts new
+stops_reach later old new [] done = absurd done
+stops_reach later old new (first ∷ after) (inl same) = ([], reaches_none old new same)
+stops_reach later old new (first ∷ after) (inr (reply, done)) = unheard_line later old new first reply done
+
+near_reach : (later : List Declared) (old new : Joined) (after : List (List ℕ)) → StopsNear (worlds later) old new after → (parts : List Part) × Reaches old parts new
+near_reach later old new after (inl same) = ([], reaches_none old new same)
+near_reach later old new after (inr stops) = stops_reach later old new after stops
+
+outcome_reaches : (later : List Declared) (old new : Joined) (held holds left : Option (List ℕ)) (script : List ℕ) (result : Result ⊤ ScriptFault) →
+    Outcome (worlds later) old new held holds left script result → (parts : List Part) × Reaches old parts new
+outcome_reaches later old new held holds left script (Ok done) (at_end, (text, ran, gained)) = runs_reach later old new (lines_of script) text ran
+outcome_reaches later old new held holds left script (Err (BadLine number)) (before, line, after, is, at, none, (text, ran, gained)) = runs_reach later old new before text ran
+outcome_reaches later old new held holds left script (Err Read) (before, begun, rest, tells, is, (text, ran, gained)) = runs_reach later old new before text ran
+outcome_reaches later old new held holds left script (Err OutOfMemory) (before, after, mid, is, (text, ran, gained), stops) =
+    reach_on old mid new (runs_reach later old mid before text ran) (stops_reach later mid new after stops)
+outcome_reaches later old new held holds left script (Err (Stopped number)) (before, line, after, mid, text, reply, is, at, ran, ends, gained) =
+    reach_on old mid new (runs_reach later old mid before text ran) (line_reach watchers.goes_on later mid new line reply (ends_watched watchers.goes_on later mid line reply new ends))
+outcome_reaches later old new held holds left script (Err Write) (before, after, mid, is, (text, ran, gained), stops) =
+    reach_on old mid new (unheard_runs later old mid before text ran) (near_reach later mid new after stops)
+
+pub script_reaches : (later : List Declared) (old new : Joined) (held holds had left : Option (List ℕ)) (result : Result ⊤ ScriptFault) →
+    RunsScript (worlds later) old new held holds had left result → (parts : List Part) × Reaches old parts new
+script_reaches later old new held holds had left result (script, tells, outcome) = outcome_reaches later old new held holds left script result outcome

@@ -1,22 +1,22 @@
 //! What the lines and the numbers of a script come to, as laws of their definitions.
 
-ghost use Rattle.std.specs.Prelude.{◌≡◌, ◌++◌, ℕ, List, Some, true};
+ghost use Rattle.std.specs.Prelude.{◌≡◌, ℕ, List, Option, Result, Some, true, ⊤};
 ghost use Rattle.std.specs.List.{list_all};
 ghost use Rattle.kernel_check.specs.Programs.{Program};
 ghost use Rattle.policy.specs.Policy.{Declared};
-ghost use Rattle.core_model.specs.declared.entry.Entry.{Entry};
 ghost use Rattle.core_model.specs.History.{Part};
 ghost use Rattle.core_model.specs.Rotation.{entries_in};
 ghost use Rattle.world.specs.Actions.{Reaches};
 ghost use Rattle.world.specs.Headline.{Headline, IsBegun};
-ghost use Rattle.world.specs.InStep.{IsJoinedBehind};
 ghost use Rattle.world.specs.States.{Joined};
 ghost use Rattle.script.specs.declared.command.Command.{Command};
+ghost use Rattle.script.specs.declared.fault.ScriptFault.{ScriptFault};
 ghost use Rattle.script.specs.declared.lines.TheConstants.{LONGEST_LINE};
 ghost use Rattle.script.specs.declared.run.TheConstants.{MOST_READS};
 ghost use Rattle.script.specs.Expansions.{does};
 ghost use Rattle.script.specs.Limits.{longest_line, most_reads};
 ghost use Rattle.script.specs.Runs.{Ends, Replied, Runs, Told, lines_of, parts_told, watched, worlds};
+ghost use Rattle.script.specs.Scripts.{RunsScript};
 ghost use Rattle.script.specs.Splitting.{digits_of, ended, is_line, joined, sum_of_digits};
 ghost use Rattle.script.specs.Words.{address_word, decimal_word};
 
@@ -38,13 +38,13 @@ pub fn numbers_are_sums_of_their_digits()
 {}
 
 /// What a line does is some requests to the world, served in turn, and hands out the part that its reply tells of, if it
-/// does. So is what a script does; behind whatever parts it hands out, a world that was in step stays so, and over a
-/// world that was just opened over a policy, with any kernels, the headline holds.
+/// does. So is what a run of a script does, however it ends; so a world that was in step stays so, behind the parts that
+/// the run handed out (`each_run_goes_on`), and over a world that was just opened over a policy, with any kernels, the
+/// headline holds.
 pub fn scripts_are_requests(policy: &Policy)
     ensures line { (later : List Declared) (asked : Command) (old : Joined) (told : Told) (new : Joined) → does later asked old told new → Reaches old (parts_told told) new }
-    ensures joined { (later : List Declared) (first : Declared) (prior : List Entry) (lines : List (List ℕ)) (text : List ℕ) (old new : Joined) →
-        IsJoinedBehind first prior old → Runs (worlds later) old lines text new →
-        (parts : List Part) × Reaches old parts new × IsJoinedBehind first (prior ++ entries_in parts) new }
+    ensures run { (later : List Declared) (old new : Joined) (held holds had left : Option (List ℕ)) (result : Result ⊤ ScriptFault) →
+        RunsScript (worlds later) old new held holds had left result → (parts : List Part) × Reaches old parts new }
     ensures headline { (later : List Declared) (kernels : List Program) (capacity : ℕ) (lines : List (List ℕ)) (text : List ℕ) (opened world : Joined) →
         IsBegun opened policy.now kernels capacity → Runs (worlds later) opened lines text world →
         (parts : List Part) × Reaches opened parts world × Headline policy.now (entries_in parts) world }

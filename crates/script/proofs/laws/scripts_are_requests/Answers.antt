@@ -2,16 +2,14 @@ use Rattle.std.proofs.Common.{List, ap, sym, subst, ◌∙◌}
 use Rattle.core_model.specs.declared.entry.Entry.{Entry}
 use Rattle.core_model.specs.Rotation.{entries_in}
 use Rattle.world.specs.Headline.{Headline}
-use Rattle.script.proofs.Reaching.{line_reaches, runs_reach}
+use Rattle.script.proofs.Reaching.{line_reaches, runs_reach, script_reaches}
 use Rattle.script.proofs.laws.scripts_are_requests.Goals as goal
 
 pub returns-clause-line : goal.returns-clause-line
 returns-clause-line c = λ later asked old told new done. line_reaches later asked old told new done
 
-pub returns-clause-joined : goal.returns-clause-joined
-returns-clause-joined c = λ later first prior lines text old new h ran.
-    let reached = runs_reach later old new lines text ran in
-    (reached.0, reached.1, (c.each_run_goes_on.ensures.reached first prior reached.0 old new h reached.1).0)
+pub returns-clause-run : goal.returns-clause-run
+returns-clause-run c = λ later old new held holds had left result ran. script_reaches later old new held holds had left result ran
 
 pub returns-clause-headline : goal.returns-clause-headline
 returns-clause-headline c = λ later kernels capacity lines text opened world begun ran.
