@@ -6,19 +6,21 @@ use std::sync::atomic::{AtomicU64, Ordering};
 use std::thread;
 
 /// How many turns a lane makes at the most.
-const MOST_TURNS: u64 = 10_000_000;
+pub const MOST_TURNS: u64 = 10_000_000;
 
 /// How often it is looked at the most whether a packet is finished.
 const MOST_LOOKS: u64 = 1_000_000;
 
 /// Ends a lane of the load where as many of its packets are finished as its producers publish, and else behind
-/// 10,000,000 turns.
+/// 10,000,000 turns, or as many as it is made for.
 #[derive(Drop)]
 pub struct LoadGate {
     // How many packets of each lane are finished, by its queue.
     finished: Vec<AtomicU64>,
     // How many are to be.
     wanted: u64,
+    // How many turns a lane makes at the most.
+    most_turns: u64,
     // How many lanes met their turns.
     unsettled: AtomicU64,
 }
@@ -26,6 +28,16 @@ pub struct LoadGate {
 impl LoadGate {
     /// A gate for so many lanes, the queues of which are numbered from 1, and each of which finishes so many packets.
     pub fn new(alloc: Global, lanes: usize, wanted: u64) -> Result<LoadGate, AllocError> {
+        LoadGate::with_turns(alloc, lanes, wanted, MOST_TURNS)
+    }
+
+    /// Such a gate, which ends a lane behind so many turns.
+    pub fn with_turns(
+        alloc: Global,
+        lanes: usize,
+        wanted: u64,
+        most_turns: u64,
+    ) -> Result<LoadGate, AllocError> {
         let mut finished = Vec::with_capacity(alloc, lanes)?;
         for _lane in 0..lanes {
             finished.push(AtomicU64::new(0))?;
@@ -33,6 +45,7 @@ impl LoadGate {
         Ok(LoadGate {
             finished,
             wanted,
+            most_turns,
             unsettled: AtomicU64::new(0),
         })
     }
@@ -96,7 +109,7 @@ impl Gate for LoadGate {
         if self.is_done(lane) {
             return false;
         }
-        if MOST_TURNS < turn {
+        if self.most_turns < turn {
             self.unsettled.store(1, Ordering::SeqCst);
             return false;
         }

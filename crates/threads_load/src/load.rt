@@ -5,11 +5,11 @@ ghost use Rattle.threads_load.specs.Loads.{EndsLoad, IsAgreed, IsSomeLegalPart, 
 ghost use Rattle.threads_load.specs.Stages.{IsStage};
 
 use crate::fault::LoadFault;
-use crate::gate::LoadGate;
+use crate::gate::{LoadGate, MOST_TURNS};
 use crate::granting::grant_all;
 use crate::opening::{Stage, open_stage};
 use crate::plan::{PlannedQueue, plan_load};
-use crate::producing::PACKETS;
+use crate::producing::{MOST_TRIES, PACKETS, Share};
 use crate::report::{Ending, report_load};
 use crate::running::run_rotated;
 use access_core::{AccessCore, Kernel};
@@ -23,6 +23,15 @@ use std::thread::Threads;
 
 /// How many entries the audit of the load has place for.
 const PLACES: usize = 131_072;
+
+/// How far a load goes at the most.
+#[derive(Clone, Copy)]
+pub struct LoadLimits {
+    /// How many turns each lane makes.
+    pub turns: u64,
+    /// How often each producer tries again, over all of its packets.
+    pub tries: u64,
+}
 
 /// What a load came to: its report, and how it ended.
 #[derive(Drop)]
@@ -143,6 +152,7 @@ fn run_over<R: Threads + Wait + Sync>(
     alloc: Global,
     broker: Broker,
     plan: &[PlannedQueue],
+    share: Share,
     gate: &LoadGate,
     producers: u64,
 ) -> Result<Ended, LoadFault>
@@ -150,7 +160,7 @@ fn run_over<R: Threads + Wait + Sync>(
 {
     match open_stage(alloc, broker, plan, producers) {
         Ok(stage) => {
-            let (stage, rotated) = run_rotated(rt, alloc, stage, plan, PACKETS, gate);
+            let (stage, rotated) = run_rotated(rt, alloc, stage, plan, share, gate);
             finish_rotated(alloc, stage, rotated, gate)
         }
         Err(why) => Err(why),
@@ -185,12 +195,18 @@ fn run_plan<R: Threads + Wait + Sync>(
     kernels: Vec<Kernel>,
     plan: &[PlannedQueue],
     producers: u64,
+    limits: LoadLimits,
 ) -> Result<Ended, LoadFault>
     ensures { IfOk result EndsLoad }
 {
-    let gate = LoadGate::new(alloc, plan.len(), PACKETS.saturating_mul(producers))?;
+    let wanted = PACKETS.saturating_mul(producers);
+    let gate = LoadGate::with_turns(alloc, plan.len(), wanted, limits.turns)?;
+    let share = Share {
+        packets: PACKETS,
+        tries: limits.tries,
+    };
     match open_broker(rt, alloc, policy, kernels, PLACES) {
-        Ok(broker) => run_over(rt, alloc, broker, plan, &gate, producers),
+        Ok(broker) => run_over(rt, alloc, broker, plan, share, &gate, producers),
         Err(why) => Err(why),
     }
 }
@@ -207,7 +223,33 @@ pub fn run_load<R: Threads + Wait + Sync>(
 ) -> Result<Load, LoadFault>
     ensures { IfOk result (TellsLoad policy) }
 {
+    let limits = LoadLimits {
+        turns: MOST_TURNS,
+        tries: MOST_TRIES,
+    };
+    run_load_within(rt, alloc, policy, kernels, producers, limits)
+}
+
+/// Runs the load just so, with other limits than 10,000,000 turns of each lane and as many tries of each producer.
+pub fn run_load_within<R: Threads + Wait + Sync>(
+    rt: &R,
+    alloc: Global,
+    policy: Policy,
+    kernels: Vec<Kernel>,
+    producers: u64,
+    limits: LoadLimits,
+) -> Result<Load, LoadFault>
+    ensures { IfOk result (TellsLoad policy) }
+{
     let plan = plan_load(alloc, &policy)?;
-    let ended = run_plan(rt, alloc, policy, kernels, plan.as_slice(), producers)?;
+    let ended = run_plan(
+        rt,
+        alloc,
+        policy,
+        kernels,
+        plan.as_slice(),
+        producers,
+        limits,
+    )?;
     tell(alloc, ended, plan.as_slice())
 }

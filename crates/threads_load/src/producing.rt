@@ -22,7 +22,14 @@ use std::thread;
 pub const PACKETS: u64 = 8;
 
 /// How often a producer tries again at the most, over all of its packets.
-const MOST_TRIES: u64 = 10_000_000;
+pub const MOST_TRIES: u64 = 10_000_000;
+
+/// What each producer does: it publishes so many packets, and tries again so often at the most, over all of them.
+#[derive(Clone, Copy)]
+pub struct Share {
+    pub packets: u64,
+    pub tries: u64,
+}
 
 /// The bytes of a packet of the load: it adds 1 to the number at a region's start, its result goes nowhere, and it
 /// has no completion signal.
@@ -57,7 +64,7 @@ fn publish_under(
     ensures { IsEndOf broker.now end.new }
 {
     let mut ticket = ticket;
-    for _again in 0..MOST_TRIES + 1 {
+    for _again in 0..u64::MAX {
         match end.publish(broker, ticket, bytes) {
             Publication::Published(_) => return true,
             Publication::NotPublishable(_) => return false,
@@ -83,13 +90,13 @@ fn publish_one(broker: &Broker, end: &mut ClientEnd, bytes: &[u8; 64], tries_lef
     }
 }
 
-// Publishes so many packets of a producer, until it gives up.
-fn publish_all(broker: &Broker, end: &mut ClientEnd, bytes: &[u8; 64], packets: u64)
+// Publishes a producer's packets, until it gives up.
+fn publish_all(broker: &Broker, end: &mut ClientEnd, bytes: &[u8; 64], share: Share)
     requires { IsEndOf broker.now end.old }
     ensures { IsEndOf broker.now end.new }
 {
-    let mut tries_left = MOST_TRIES;
-    for _packet in 0..packets {
+    let mut tries_left = share.tries;
+    for _packet in 0..share.packets {
         if !publish_one(broker, end, bytes, &mut tries_left) {
             return;
         }
@@ -102,12 +109,12 @@ fn planned_of(plan: &[PlannedQueue], queue: QueueId) -> Option<PlannedQueue> {
     plan.get(before).copied()
 }
 
-/// Publishes so many packets of a producer, on the queue of its end.
-pub fn produce(broker: &Broker, plan: &[PlannedQueue], packets: u64, end: &mut ClientEnd)
+/// Publishes a producer's packets on the queue of its end, until it gives up.
+pub fn produce(broker: &Broker, plan: &[PlannedQueue], share: Share, end: &mut ClientEnd)
     requires { IsEndOf broker.now end.old }
     ensures { StaysOf broker.now end.old end.new }
 {
     if let Some(planned) = planned_of(plan, end.queue()) {
-        publish_all(broker, end, &addition(planned.region), packets);
+        publish_all(broker, end, &addition(planned.region), share);
     }
 }

@@ -9,7 +9,7 @@ ghost use Rattle.threads_load.specs.Stages.{EachStaysOf, IsStage};
 use crate::gate::LoadGate;
 use crate::opening::Stage;
 use crate::plan::PlannedQueue;
-use crate::producing::produce;
+use crate::producing::{MOST_TRIES, Share, produce};
 use access_core::AccessCore;
 use client_threads::{Broker, ClientEnd, Lane, run_lanes};
 use core_model::{Part, Refusal};
@@ -23,7 +23,7 @@ fn produce_each<R: Threads + Sync>(
     rt: &R,
     broker: &Broker,
     plan: &[PlannedQueue],
-    packets: u64,
+    share: Share,
     ends: &mut [ClientEnd],
 )
     requires some { 0 < length ends.old }
@@ -35,7 +35,7 @@ fn produce_each<R: Threads + Sync>(
         rt,
         ends,
         threads,
-        &|_, end| produce(broker, plan, packets, end),
+        &|_, end| produce(broker, plan, share, end),
     );
 }
 
@@ -44,7 +44,7 @@ fn produce_any<R: Threads + Sync>(
     rt: &R,
     broker: &Broker,
     plan: &[PlannedQueue],
-    packets: u64,
+    share: Share,
     ends: Vec<ClientEnd>,
 ) -> Vec<ClientEnd>
     requires { All (λ end. IsEndOf broker.now end) ends.items }
@@ -53,7 +53,7 @@ fn produce_any<R: Threads + Sync>(
 {
     let mut ends = ends;
     if ends.len() > 0 {
-        produce_each(rt, broker, plan, packets, ends.as_mut_slice());
+        produce_each(rt, broker, plan, share, ends.as_mut_slice());
     }
     ends
 }
@@ -63,13 +63,13 @@ fn produce_all<R: Threads + Sync>(
     rt: &R,
     broker: &Broker,
     plan: &[PlannedQueue],
-    packets: u64,
+    share: Share,
     ends: Vec<ClientEnd>,
 ) -> Vec<ClientEnd>
     requires { All (λ end. IsEndOf broker.now end) ends.items }
     ensures { All (λ end. IsEndOf broker.now end) result.items }
 {
-    produce_any(rt, broker, plan, packets, ends)
+    produce_any(rt, broker, plan, share, ends)
 }
 
 // Lanes run.
@@ -92,7 +92,7 @@ fn run_both<R: Threads + Wait + Sync>(
     alloc: Global,
     broker: &Broker,
     plan: &[PlannedQueue],
-    packets: u64,
+    share: Share,
     gate: &LoadGate,
     ends: Vec<ClientEnd>,
     lanes: Vec<Lane>,
@@ -107,7 +107,7 @@ fn run_both<R: Threads + Wait + Sync>(
         move || -> Vec<ClientEnd>
             requires { IsSync R.row × All (λ end. IsEndOf broker.now end) ends.items }
             ensures { All (λ end. IsEndOf broker.entry.now end) result.items }
-        { produce_all(rt, broker, plan, packets, ends) },
+        { produce_all(rt, broker, plan, share, ends) },
         move || -> Vec<Lane>
             requires { IsSync R.row × All (λ lane. IsLaneOf broker.now lane) lanes.items }
             ensures { All (λ lane. IsLaneOf broker.entry.now lane) result.items }
@@ -142,7 +142,7 @@ fn run_beside<R: Threads + Wait + Sync>(
     alloc: Global,
     broker: &Broker,
     plan: &[PlannedQueue],
-    packets: u64,
+    share: Share,
     gate: &LoadGate,
     ends: Vec<ClientEnd>,
     lanes: Vec<Lane>,
@@ -158,7 +158,7 @@ fn run_beside<R: Threads + Wait + Sync>(
         move || -> (Vec<ClientEnd>, Vec<Lane>)
             requires { IsSync R.row × All (λ end. IsEndOf broker.now end) ends.items × All (λ lane. IsLaneOf broker.now lane) lanes.items }
             ensures { All (λ end. IsEndOf broker.entry.now end) result.0.items × All (λ lane. IsLaneOf broker.entry.now lane) result.1.items }
-        { run_both(rt, alloc, broker, plan, packets, gate, ends, lanes) },
+        { run_both(rt, alloc, broker, plan, share, gate, ends, lanes) },
         move || -> Result<Part, Refusal>
             ensures { IfOk result IsSomeLegalPart }
         { rotate_once(rt, alloc, broker, gate) },
@@ -166,7 +166,7 @@ fn run_beside<R: Threads + Wait + Sync>(
 }
 
 /// Runs the producers and the lanes of a broker, each on a thread of its own where one can be made, until all have
-/// ended. Each producer publishes so many packets.
+/// ended. Each producer publishes so many packets, and tries again 10,000,000 times at the most.
 pub fn run_stage<R: Threads + Wait + Sync>(
     rt: &R,
     alloc: Global,
@@ -183,7 +183,11 @@ pub fn run_stage<R: Threads + Wait + Sync>(
         ends,
         lanes,
     } = stage;
-    let (ends, lanes) = run_both(rt, alloc, &broker, plan, packets, gate, ends, lanes);
+    let share = Share {
+        packets,
+        tries: MOST_TRIES,
+    };
+    let (ends, lanes) = run_both(rt, alloc, &broker, plan, share, gate, ends, lanes);
     Stage {
         broker,
         ends,
@@ -198,7 +202,7 @@ pub fn run_rotated<R: Threads + Wait + Sync>(
     alloc: Global,
     stage: Stage,
     plan: &[PlannedQueue],
-    packets: u64,
+    share: Share,
     gate: &LoadGate,
 ) -> (Stage, Result<Part, Refusal>)
     requires { IsStage stage }
@@ -210,7 +214,7 @@ pub fn run_rotated<R: Threads + Wait + Sync>(
         ends,
         lanes,
     } = stage;
-    let ((ends, lanes), part) = run_beside(rt, alloc, &broker, plan, packets, gate, ends, lanes);
+    let ((ends, lanes), part) = run_beside(rt, alloc, &broker, plan, share, gate, ends, lanes);
     let stage = Stage {
         broker,
         ends,

@@ -1,17 +1,33 @@
 //! How brokers settle.
 
 ghost use Rattle.std.specs.Prelude.{◌≡◌, IfSome};
+ghost use Rattle.client_threads.specs.Running.{IsEndOf};
 ghost use Rattle.threads_load.specs.Stages.{IsStage};
 
-use crate::stages::{packet, publish_alone, run_with, split_last_end, stage, with_end};
+use crate::stages::{packet, publish_last, run_with, split_last_end, stage, with_end};
 use access_core::AccessCore;
-use aql_packet::{PacketId, QueueId};
-use client_threads::{Gate, LaneAnswer, SettleAllFault, SettledQueue, Settlement, settle_all};
+use aql_packet::{AgentHandle, ClientId, PacketId, QueueId, RegionHandle};
+use client_threads::{
+    Broker, ClientEnd, Gate, LaneAnswer, SettleAllFault, SettledQueue, Settlement, settle_all,
+};
 use core_model::Part;
 use std::alloc::Global;
 use std::sync::Wait;
 use std::thread::Threads;
-use threads_load::Stage;
+use threads_load::{PlannedQueue, Share, Stage, produce};
+
+/// The plan of the first queue.
+const FIRST_PLANNED: [PlannedQueue; 1] = [PlannedQueue {
+    client: ClientId(1),
+    agent: AgentHandle(1),
+    region: RegionHandle(2),
+}];
+
+/// Four packets more than a queue has slots, and three tries.
+const TOO_MANY: Share = Share {
+    packets: 20,
+    tries: 3,
+};
 
 /// Ends each lane behind so many turns.
 #[derive(Drop)]
@@ -71,10 +87,35 @@ fn in_flight(stage: &Stage) -> usize {
 
 // A lane of eight published packets ends behind its third turn: three are served, one of them is finished.
 fn ended_early<R: Threads + Wait + Sync>(rt: &R, alloc: Global) -> Option<(usize, (u64, u64))> {
-    let stage = publish_alone(stage(rt, alloc, 1, 1)?, 8)?;
+    let stage = publish_last(stage(rt, alloc, 1, 1)?, 8)?;
     let stage = run_with(rt, alloc, stage, &FewTurns(3));
     let flying = in_flight(&stage);
     Some((flying, settled_indices(alloc, stage)?))
+}
+
+// Publishes more packets of an end than its queue has slots.
+fn produce_too_many(broker: &Broker, end: &mut ClientEnd)
+    requires { IsEndOf broker.now end.old }
+    ensures { IsEndOf broker.now end.new }
+{
+    produce(broker, &FIRST_PLANNED, TOO_MANY, end);
+}
+
+// Publishes more packets of the last end of a stage than its queue has slots.
+fn with_too_many(stage: Stage) -> Option<Stage>
+    requires { IsStage stage }
+    ensures { IfSome result IsStage }
+{
+    let (stage, end) = split_last_end(stage)?;
+    let mut end = end;
+    produce_too_many(&stage.broker, &mut end);
+    with_end(stage, end)
+}
+
+// What a producer leaves that gives up: all 16 slots are taken, and the id of the 17th packet is reserved.
+fn given_up<R: Wait>(rt: &R, alloc: Global) -> Option<(u64, u64)> {
+    let stage = with_too_many(stage(rt, alloc, 1, 1)?)?;
+    settled_indices(alloc, stage)
 }
 
 // Hands a packet over that no lane served.
@@ -138,6 +179,11 @@ fn settles_at_last<R: Wait>(rt: &R, alloc: Global) -> Option<bool> {
 #[test]
 fn a_lane_ends_while_packets_are_in_flight(rt: HostRuntime) {
     assert!(rt; ended_early(&rt, rt.alloc()) == Some((2, (8, 3))));
+}
+
+#[test]
+fn a_producer_gives_up_whose_slot_stays_busy(rt: HostRuntime) {
+    assert!(rt; given_up(&rt, rt.alloc()) == Some((17, 0)));
 }
 
 #[test]

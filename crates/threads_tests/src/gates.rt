@@ -1,7 +1,8 @@
-//! Lanes run at once: a gate that holds one until another got on.
+//! Lanes run at once, and their gate is told what they did.
 
-use crate::stages::{reaches, run_with, stage};
-use client_threads::{Gate, LaneAnswer};
+use crate::stages::{publish_last, reaches, run_with, stage};
+use aql_packet::PacketId;
+use client_threads::{Advanced, Gate, LaneAnswer, ServeAnswer};
 use std::alloc::Global;
 use std::sync::Wait;
 use std::sync::atomic::{AtomicU64, Ordering};
@@ -36,18 +37,19 @@ impl Gate for HeldLane {
     }
 }
 
-/// Holds each of two lanes in its first `enter` until the other has entered.
+/// Holds each of so many lanes in its first `enter` until all have entered.
 #[derive(Drop)]
-struct BothIn {
+struct AllIn {
+    lanes: u64,
     entered: AtomicU64,
     let_in: AtomicU64,
 }
 
-impl Gate for BothIn {
+impl Gate for AllIn {
     fn enter(&self, _lane: u32, turn: u64) -> bool {
         if turn == 1 {
             self.entered.fetch_add(1, Ordering::SeqCst);
-            if !reaches(&self.entered, 2) {
+            if !reaches(&self.entered, self.lanes) {
                 return false;
             }
             self.let_in.fetch_add(1, Ordering::SeqCst);
@@ -56,6 +58,51 @@ impl Gate for BothIn {
     }
 
     fn leave(&self, _lane: u32, _turn: u64, _done: LaneAnswer) {}
+}
+
+/// How many turns each lane makes that is told of.
+const TOLD_TURNS: u64 = 5;
+
+/// Counts the turns of two lanes of which it is told what they make.
+#[derive(Drop)]
+struct ToldTurns {
+    told: AtomicU64,
+}
+
+impl Gate for ToldTurns {
+    fn enter(&self, _lane: u32, turn: u64) -> bool {
+        turn <= TOLD_TURNS
+    }
+
+    fn leave(&self, lane: u32, turn: u64, done: LaneAnswer) {
+        if done == made(lane, turn) {
+            self.told.fetch_add(1, Ordering::SeqCst);
+        }
+    }
+}
+
+// What the second lane makes of its two packets, turn by turn: a packet is launched, its only group runs, and it is
+// finished.
+fn made_of_two(turn: u64) -> (ServeAnswer, Advanced) {
+    let first = PacketId(0);
+    let second = PacketId(1);
+    match turn {
+        1 => (ServeAnswer::Launched(first), Advanced::Ran(first)),
+        2 => (ServeAnswer::Launched(second), Advanced::Finished(first)),
+        3 => (ServeAnswer::Empty, Advanced::Ran(second)),
+        4 => (ServeAnswer::Empty, Advanced::Finished(second)),
+        _ => (ServeAnswer::Empty, Advanced::Idle),
+    }
+}
+
+// What a lane makes in a turn. The first has no packet.
+fn made(lane: u32, turn: u64) -> LaneAnswer {
+    let (served, advanced) = if lane == 2 {
+        made_of_two(turn)
+    } else {
+        (ServeAnswer::Empty, Advanced::Idle)
+    };
+    LaneAnswer { served, advanced }
 }
 
 // Whether a lane that is held until another has left once gets in.
@@ -72,17 +119,28 @@ fn lets_in<R: Threads + Wait + Sync>(rt: &R, alloc: Global, held: u32) -> bool {
     gate.let_in.load(Ordering::SeqCst) == 1
 }
 
-// Whether two lanes get in that are held until both are there.
-fn lets_both_in<R: Threads + Wait + Sync>(rt: &R, alloc: Global) -> bool {
-    let Some(stage) = stage(rt, alloc, 2, 1) else {
+// Whether so many lanes get in that are held until all are there.
+fn lets_all_in<R: Threads + Wait + Sync>(rt: &R, alloc: Global, lanes: u64) -> bool {
+    let Some(stage) = stage(rt, alloc, lanes as usize, 1) else {
         return false;
     };
-    let gate = BothIn {
+    let gate = AllIn {
+        lanes,
         entered: AtomicU64::new(0),
         let_in: AtomicU64::new(0),
     };
     let _stage = run_with(rt, alloc, stage, &gate);
-    gate.let_in.load(Ordering::SeqCst) == 2
+    gate.let_in.load(Ordering::SeqCst) == lanes
+}
+
+// Of how many turns the gate of two lanes, the second with two packets, is told what they make.
+fn count_told<R: Threads + Wait + Sync>(rt: &R, alloc: Global) -> Option<u64> {
+    let stage = publish_last(stage(rt, alloc, 2, 1)?, 2)?;
+    let gate = ToldTurns {
+        told: AtomicU64::new(0),
+    };
+    let _stage = run_with(rt, alloc, stage, &gate);
+    Some(gate.told.load(Ordering::SeqCst))
 }
 
 #[test]
@@ -93,5 +151,15 @@ fn a_lane_gets_on_while_another_is_held(rt: HostRuntime) {
 
 #[test]
 fn two_lanes_are_inside_at_once(rt: HostRuntime) {
-    assert!(rt; lets_both_in(&rt, rt.alloc()));
+    assert!(rt; lets_all_in(&rt, rt.alloc(), 2));
+}
+
+#[test]
+fn four_lanes_are_inside_at_once(rt: HostRuntime) {
+    assert!(rt; lets_all_in(&rt, rt.alloc(), 4));
+}
+
+#[test]
+fn a_gate_is_told_of_each_turn_what_it_made(rt: HostRuntime) {
+    assert!(rt; count_told(&rt, rt.alloc()) == Some(2 * TOLD_TURNS));
 }

@@ -4,6 +4,8 @@
 #![tactic(auto)]
 
 #[cfg(test)]
+mod bells;
+#[cfg(test)]
 mod endings;
 #[cfg(test)]
 mod gates;
@@ -11,6 +13,8 @@ mod gates;
 mod loads;
 #[cfg(test)]
 mod many;
+#[cfg(test)]
+mod openings;
 #[cfg(test)]
 mod rotations;
 #[cfg(test)]

@@ -6,7 +6,7 @@ use policy::{Policy, ReadPolicyError, read_policy};
 use std::alloc::Global;
 use std::sync::Wait;
 use std::thread::Threads;
-use threads_load::{Ending, Load, run_load};
+use threads_load::{Ending, Load, LoadLimits, run_load, run_load_within};
 
 /// The sample policy.
 const SAMPLE: &str = r#"[[client]]
@@ -94,6 +94,14 @@ const REPORT: &str = "queue 1 client alice agent gpu launched 16 finished 16 den
     region 1 buf 1000000000000000\n\
     settled\n";
 
+/// Lanes make no turn, and producers don't try again.
+const NO_TURNS: LoadLimits = LoadLimits { turns: 0, tries: 0 };
+
+/// What it reports where a lane may make no turn: nothing is launched, and the number stays 0.
+const UNSETTLED: &str = "queue 1 client alice agent gpu launched 0 finished 0 denied 0\n\
+    region 1 buf 0000000000000000\n\
+    unsettled\n";
+
 // Reads a policy. It has no contract, so that the proofs of its callers carry none.
 fn read(alloc: Global, text: &str) -> Result<Policy, ReadPolicyError> {
     read_policy(alloc, text.as_bytes())
@@ -111,15 +119,33 @@ fn load<R: Threads + Wait + Sync>(rt: &R, alloc: Global) -> Option<Load> {
     run_load(rt, alloc, policy, kernels, 2).ok()
 }
 
-// Whether a load is reported so.
-fn is_reported(load: Option<Load>) -> bool {
+// Runs it with lanes that make no turn.
+fn load_without_turns<R: Threads + Wait + Sync>(rt: &R, alloc: Global) -> Option<Load> {
+    let policy = read(alloc, SAMPLE).ok()?;
+    let kernels = kernels_of(alloc, &policy).ok()?;
+    run_load_within(rt, alloc, policy, kernels, 2, NO_TURNS).ok()
+}
+
+// Whether a load ended and is reported so.
+fn is_reported(load: Option<Load>, ending: Ending, report: &str) -> bool {
     match load {
-        Some(load) => load.ending == Ending::Settled && load.report.as_str() == REPORT,
+        Some(load) => load.ending == ending && load.report.as_str() == report,
         None => false,
     }
 }
 
 #[test]
 fn the_sample_policy_gives_three_lines(rt: HostRuntime) {
-    assert!(rt; is_reported(load(&rt, rt.alloc())));
+    assert!(rt; is_reported(load(&rt, rt.alloc()), Ending::Settled, REPORT));
+}
+
+#[test]
+fn a_load_whose_lanes_meet_their_turns_is_unsettled(rt: HostRuntime) {
+    assert!(rt;
+        is_reported(
+            load_without_turns(&rt, rt.alloc()),
+            Ending::Unsettled,
+            UNSETTLED
+        )
+    );
 }

@@ -5,7 +5,7 @@ ghost use Rattle.threads_load.specs.Stages.{IsStage};
 
 use crate::endings::unsettled;
 use crate::many::settled_core;
-use crate::stages::{FOUR_AGENTS, PLACES, read};
+use crate::stages::{FOUR_AGENTS, LOOKS, PLACES, read};
 use client_threads::SettleAllFault;
 use core_model::Part;
 use std::alloc::Global;
@@ -13,11 +13,17 @@ use std::slice;
 use std::sync::Wait;
 use std::thread::Threads;
 use threads_load::{
-    LoadGate, PlannedQueue, Stage, open_broker, open_stage, plan_load, run_rotated,
+    LoadGate, PlannedQueue, Share, Stage, open_broker, open_stage, plan_load, run_rotated,
 };
 
 /// How many packets each of two producers publishes to each of two queues.
 const PACKETS: u64 = 500;
+
+/// What each of them does.
+const SHARE: Share = Share {
+    packets: PACKETS,
+    tries: LOOKS,
+};
 
 // Runs a plan, and rotates meanwhile.
 fn run_planned<R: Threads + Wait + Sync>(
@@ -30,7 +36,7 @@ fn run_planned<R: Threads + Wait + Sync>(
     requires { IsStage stage }
     ensures { IfSome result (λ run. IsStage run.0) }
 {
-    match run_rotated(rt, alloc, stage, plan, PACKETS, gate) {
+    match run_rotated(rt, alloc, stage, plan, SHARE, gate) {
         (stage, Ok(part)) => Some((stage, part)),
         (_, Err(_)) => None,
     }

@@ -205,14 +205,14 @@ pub fn with_end(stage: Stage, end: ClientEnd) -> Option<Stage>
     }
 }
 
-/// Publishes so many packets of the only end of a stage. The stage comes back if all are published.
-pub fn publish_alone(stage: Stage, packets: u64) -> Option<Stage>
+/// Publishes so many packets of the last end of a stage. The stage comes back if all are published.
+pub fn publish_last(stage: Stage, packets: u64) -> Option<Stage>
     requires { IsStage stage }
     ensures { IfSome result IsStage }
 {
     let (stage, end) = split_last_end(stage)?;
     let mut end = end;
-    if publish_some(&stage.broker, &mut end, packets) != packets || !stage.ends.is_empty() {
+    if publish_some(&stage.broker, &mut end, packets) != packets {
         return None;
     }
     with_end(stage, end)

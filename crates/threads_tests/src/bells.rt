@@ -1,0 +1,99 @@
+//! Where a client publishes, the bell of its queue tells the id.
+
+ghost use Rattle.std.specs.Prelude.{IfSome};
+ghost use Rattle.client_threads.specs.Running.{IsEndOf};
+ghost use Rattle.threads_load.specs.Stages.{IsStage};
+
+use crate::stages::{packet, publish_one, reaches, split_last_end, stage};
+use client_threads::{Broker, ClientEnd};
+use doorbell::Doorbell;
+use std::alloc::Global;
+use std::sync::Wait;
+use std::sync::atomic::{AtomicU64, Ordering};
+use std::thread;
+use std::thread::Threads;
+use threads_load::Stage;
+
+/// How many packets are published, each once the one before was heard.
+const PACKETS: u64 = 3;
+
+/// What a bell tells where a packet was not heard of: it frees the thread that waits.
+const NOT_HEARD: u64 = u64::MAX;
+
+// Waits at a bell for each packet in turn, and counts in a word which are heard. Whether the bell told their ids.
+fn hear_all<R: Wait>(rt: &R, bell: &Doorbell, heard: &AtomicU64) -> bool {
+    for id in 0..PACKETS {
+        if bell.wait(rt) != id {
+            heard.store(PACKETS, Ordering::SeqCst);
+            return false;
+        }
+        heard.store(id + 1, Ordering::SeqCst);
+    }
+    true
+}
+
+// Publishes each packet once the one before was heard.
+fn publish_heard(broker: &Broker, end: &mut ClientEnd, bell: &Doorbell, heard: &AtomicU64)
+    requires { IsEndOf broker.now end.old }
+    ensures { IsEndOf broker.now end.new }
+{
+    for turn in 0..PACKETS {
+        if !publish_one(broker, end, &packet(0, turn)) || !reaches(heard, turn + 1) {
+            bell.ring(NOT_HEARD);
+            return;
+        }
+    }
+}
+
+// Whether a bell tells another thread the id of each packet of an end.
+fn tells<R: Threads + Wait + Sync>(rt: &R, broker: &Broker, end: ClientEnd, bell: &Doorbell) -> bool
+    requires { IsEndOf broker.now end }
+{
+    let mut end = end;
+    let heard = AtomicU64::new(0);
+    let (told, _) = thread::join(
+        rt,
+        || hear_all(rt, bell, &heard),
+        || publish_heard(broker, &mut end, bell, &heard),
+    );
+    told
+}
+
+// Whether the bell of an end's queue does.
+fn own_bell_tells<R: Threads + Wait + Sync>(rt: &R, broker: &Broker, end: ClientEnd) -> bool
+    requires { IsEndOf broker.now end }
+{
+    match broker.doorbell(end.queue()) {
+        Some(bell) => tells(rt, broker, end, bell),
+        None => false,
+    }
+}
+
+// Whether the bell of a stage's last queue does. The stage comes back without that queue's end.
+fn last_bell_tells<R: Threads + Wait + Sync>(rt: &R, stage: Stage) -> Option<(Stage, bool)>
+    requires { IsStage stage }
+    ensures { IfSome result (λ told. IsStage told.0) }
+{
+    let (stage, end) = split_last_end(stage)?;
+    let told = own_bell_tells(rt, &stage.broker, end);
+    Some((stage, told))
+}
+
+// Whether the bells of a stage's two queues do, the second's first.
+fn both_bells_tell<R: Threads + Wait + Sync>(rt: &R, stage: Stage) -> Option<(bool, bool)>
+    requires { IsStage stage }
+{
+    let (stage, second) = last_bell_tells(rt, stage)?;
+    let (_stage, first) = last_bell_tells(rt, stage)?;
+    Some((first, second))
+}
+
+// Whether those of a broker do.
+fn bells_tell<R: Threads + Wait + Sync>(rt: &R, alloc: Global) -> Option<(bool, bool)> {
+    both_bells_tell(rt, stage(rt, alloc, 2, 1)?)
+}
+
+#[test]
+fn a_published_packet_is_told_by_its_own_queues_bell(rt: HostRuntime) {
+    assert!(rt; bells_tell(&rt, rt.alloc()) == Some((true, true)));
+}
