@@ -14,6 +14,7 @@ from trial import HERE, TOP
 
 CASES = f"{TOP}/crates/cases/data"
 JOINS = f"{TOP}/crates/joins/out/joins"
+WANTS = f"{TOP}/crates/wants/out/wants"
 TRIALS = ("cases.py", "words.py", "memory.py", "streams.py", "texts.py", "explain.py", "picture.py", "rotation.py", "docs.py", "instructions.py")
 
 
@@ -48,7 +49,7 @@ def main(program=None):
     counts = [] if program else [told(["rt", "ci"])]
     program = program or f"{TOP}/crates/brokerd/out/brokerd"
     counts.append(written_anew())
-    for script, tried in [*((it, program) for it in TRIALS), ("joins.py", JOINS)]:
+    for script, tried in [*((it, program) for it in TRIALS), ("joins.py", JOINS), ("wants.py", WANTS)]:
         print(f"== {script}", flush=True)
         counts.append(told([sys.executable, "-B", f"{HERE}/{script}", os.path.abspath(tried)]))
     passed, failed = (sum(column) for column in zip(*counts))

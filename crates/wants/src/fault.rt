@@ -1,0 +1,82 @@
+//! Why the program ended early.
+
+use core_model::Refusal;
+use policy::ReadPolicyError;
+use std::alloc::AllocError;
+use std::{fmt, io};
+use threads_load::LoadFault;
+
+/// Why the program ended early.
+#[derive(Clone, Copy, Debug, PartialEq, Eq)]
+pub enum Fault {
+    /// There was no memory.
+    OutOfMemory,
+    /// Something was refused, and not for want of memory.
+    Refused,
+    /// The output failed.
+    Output,
+}
+
+impl Fault {
+    // What failed, in words.
+    fn text(self) -> &'static str {
+        match self {
+            Fault::OutOfMemory => "no memory",
+            Fault::Refused => "what was asked is refused",
+            Fault::Output => "the output failed",
+        }
+    }
+
+    /// The exit status: as of the broker's own program, 3 for want of memory.
+    pub fn status(self) -> u8 {
+        match self {
+            Fault::OutOfMemory => 3,
+            Fault::Refused | Fault::Output => 1,
+        }
+    }
+}
+
+impl fmt::Display for Fault {
+    fn fmt<W: fmt::Write>(&self, f: &mut fmt::Formatter<W>) -> fmt::Result {
+        f.write_str(self.text())
+    }
+}
+
+impl From<AllocError> for Fault {
+    fn from(_: AllocError) -> Fault {
+        Fault::OutOfMemory
+    }
+}
+
+impl From<io::Error> for Fault {
+    fn from(_: io::Error) -> Fault {
+        Fault::Output
+    }
+}
+
+impl From<ReadPolicyError> for Fault {
+    fn from(error: ReadPolicyError) -> Fault {
+        match error {
+            ReadPolicyError::OutOfMemory => Fault::OutOfMemory,
+            ReadPolicyError::Fault(_) => Fault::Refused,
+        }
+    }
+}
+
+impl From<Refusal> for Fault {
+    fn from(refusal: Refusal) -> Fault {
+        match refusal {
+            Refusal::OutOfMemory => Fault::OutOfMemory,
+            _ => Fault::Refused,
+        }
+    }
+}
+
+impl From<LoadFault> for Fault {
+    fn from(fault: LoadFault) -> Fault {
+        match fault {
+            LoadFault::OutOfMemory => Fault::OutOfMemory,
+            _ => Fault::Refused,
+        }
+    }
+}
