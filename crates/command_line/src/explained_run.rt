@@ -141,7 +141,7 @@ impl Explainer {
 }
 
 impl Watch for Explainer {
-    ghost use Rattle.std.specs.Prelude.{⊤, tt};
+    ghost use Rattle.std.specs.Prelude.{⊤};
 
     ghost says = { λ told flow. ⊤ };
 

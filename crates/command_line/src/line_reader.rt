@@ -1,5 +1,7 @@
 //! A reader that gives a line at a time.
 
+ghost use Rattle.std.specs.Prelude.{◌≤◌};
+
 use script::LONGEST_LINE;
 use std::io;
 
@@ -92,7 +94,7 @@ impl<'a, R: io::Read> LineReader<'a, R> {
                 return count;
             };
             *place = byte;
-            count += 1;
+            count = count.saturating_add(1);
             self.note(byte);
             if byte == b'\n' {
                 return count;
@@ -102,9 +104,17 @@ impl<'a, R: io::Read> LineReader<'a, R> {
     }
 }
 
+// A count, or a limit that it is above.
+fn at_most(count: usize, limit: usize) -> usize
+    ensures { result ≤ limit }
+{
+    if count <= limit { count } else { limit }
+}
+
 impl<'a, R: io::Read> io::Read for LineReader<'a, R> {
     fn read(&mut self, bytes: &mut [u8]) -> io::Result<usize> {
         self.fill()?;
-        Ok(self.give(bytes))
+        let given = self.give(bytes);
+        Ok(at_most(given, bytes.len()))
     }
 }
