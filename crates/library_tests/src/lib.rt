@@ -37,6 +37,4 @@ mod studio;
 #[cfg(test)]
 mod values;
 #[cfg(test)]
-mod walk;
-#[cfg(test)]
 mod worlds;

@@ -84,16 +84,6 @@ impl Places {
         }
     }
 
-    /// The same packets in places of their own. It takes no memory.
-    pub fn copy(&self) -> Places
-        ensures { result ≡ self.now }
-    {
-        let mut taken = ArrayVec::new();
-        // There is place for all of them.
-        let _ = taken.try_extend_from_slice(self.taken.as_slice());
-        Places { taken }
-    }
-
     /// The packets, in the order in which they were launched.
     pub fn as_slice(&self) -> &[Place]
         ensures { result.now ≡ self.now }

@@ -14,7 +14,7 @@ mod tickets;
 
 pub use access::{Access, FIRST_SLOT, Made, READ_PLACE, Seen, Step, WRITE_PLACE, word_place};
 pub use aql_packet::is_invalid;
-pub use calls::{has_room, retire_steps, show_steps, store_steps};
+pub use calls::has_room;
 pub use laws::{
     each_part_follows_from_its_own_steps, each_retired_packet_is_its_tickets,
     each_step_keeps_the_rule, every_run_meets_the_rule, numbers_are_those_of_the_rules,
