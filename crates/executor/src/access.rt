@@ -64,7 +64,12 @@ fn access<'v>(view: &'v View<'v>, right: Right, address: u64, size: usize) -> Re
 /// The same, test by test, in the order of the rules.
 #[cold]
 #[inline(never)]
-fn access_by_rules<'v>(view: &'v View<'v>, right: Right, address: u64, size: usize) -> Result<&'v [u8], Rule>
+fn access_by_rules<'v>(
+    view: &'v View<'v>,
+    right: Right,
+    address: u64,
+    size: usize,
+) -> Result<&'v [u8], Rule>
     requires { size ≤ 8 }
     ensures allowed { IfOk result (λ bytes. broken (map lent_region view.now) right address size ≡ None) }
     ensures bytes { IfOk result (λ bytes. bytes.now ≡ lent (map lent_region view.now) address size) }

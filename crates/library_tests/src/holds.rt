@@ -151,7 +151,9 @@ fn holder_that_blocks(
 #[test]
 fn a_held_right_blocks_a_policy_that_denies_it(rt: HostRuntime) -> Result<(), Fail> {
     let alloc = rt.alloc();
-    assert!(rt; holder_that_blocks(alloc, opened(alloc)?, denying())? == Some((QUEUE, PacketId(7))));
+    assert!(rt;
+        holder_that_blocks(alloc, opened(alloc)?, denying())? == Some((QUEUE, PacketId(7)))
+    );
     assert!(rt; holder_that_blocks(alloc, opened(alloc)?, POLICY)?.is_none());
     Ok(())
 }
