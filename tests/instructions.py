@@ -18,8 +18,8 @@ from trial import FILL, HERE, PRELUDE, SAMPLE, TOP, program_given, text
 
 BENCH = f"{TOP}/crates/bench/out/bench"
 
-# kernels that count in registers, that load and store at random places, and that meet at barriers, with how many steps
-# an item takes: those of crates/bench/src/kernel_speed.rt
+# kernels that count in registers, that load and store once in twelve steps at random places, and that meet at barriers,
+# with how many steps an item takes
 COUNTING = ("""
   mov_u32 $s0, 0;
   mov_u32 $s1, 13106;
@@ -32,22 +32,25 @@ COUNTING = ("""
   ret;
 """, 65_533)
 STORING = ("""
-  ld_kernarg_u64 $d0, [%words];
-  workitemabsid_u32 $s0, 0;
-  mov_u32 $s1, 6553;
+  ld_kernarg_u64 $d6, [%words];
+  workitemabsid_u64 $d0, 0;
+  mov_u64 $d3, 5400;
+  mov_u64 $d4, 0;
 @turn:
-  mad_u32 $s0, $s0, 1664525, 1013904223;
-  shr_u32 $s2, $s0, 21;
-  cvt_u64_u32 $d1, $s2;
-  mad_u64 $d1, $d1, 4, $d0;
-  ld_global_u32 $s3, [$d1];
-  add_u32 $s3, $s3, 1;
-  st_global_u32 $s3, [$d1];
-  sub_u32 $s1, $s1, 1;
-  cmp_ne_b1_u32 $c0, $s1, 0;
+  mul_u64 $d0, $d0, 1103515245;
+  add_u64 $d0, $d0, 12345;
+  shr_u64 $d2, $d0, 33;
+  and_b64 $d2, $d2, 1023;
+  shl_u64 $d2, $d2, 3;
+  add_u64 $d2, $d6, $d2;
+  ld_global_u64 $d5, [$d2];
+  add_u64 $d5, $d5, $d0;
+  st_global_u64 $d5, [$d2];
+  add_u64 $d4, $d4, 1;
+  cmp_lt_b1_u64 $c0, $d4, $d3;
   cbr_b1 $c0, @turn;
   ret;
-""", 65_534)
+""", 64_805)
 MEETING = ("""
   group_u32 %sum;
   ld_kernarg_u64 $d0, [%words];
@@ -148,7 +151,7 @@ class Counter:
             sample = it.read()
         yield "scripted packet", lambda: self.script(sample, packets(500), packets(1500), 1000)
         yield "step in registers", lambda: self.kernel(COUNTING)
-        yield "step with loads and stores", lambda: self.kernel(STORING)
+        yield "step with a load and a store in twelve", lambda: self.kernel(STORING)
         yield "step with atomics and barriers", lambda: self.kernel(MEETING)
         yield "run line, 2 regions, 8 in flight", lambda: self.script(policy(2, "\n  ret;\n"), run_lines(2, 1, 100), run_lines(2, 1, 300), 200)
         yield "run line, 64 regions, 512 in flight", lambda: self.script(policy(64, "\n  ret;\n"), run_lines(64, 64, 10), run_lines(64, 64, 30), 20)

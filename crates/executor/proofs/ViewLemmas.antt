@@ -1,6 +1,6 @@
 -- The regions that are lent, as items see them.
 use Rattle.std.proofs.Common.{◌≡◌, ◌≢◌, ◌∙◌, ℕ, zero, suc, ◌-◌, ◌/◌, ◌%◌, ◌^◌, ◌<◌, ◌≤◌, ◌==◌, List, [], ◌∷◌, ◌++◌, length, get_or, set, slice_get, replicate, refl, sym, ap, arith, subst, Bool, true, false, Option, Some, None, All, inl, inr}
-use Rattle.std.specs.Prelude.{IfSome, find, map, option_map}
+use Rattle.std.specs.Prelude.{find, map, option_map}
 use Rattle.std.specs.Option.{option_or}
 use Rattle.std.proofs.lemmas.Bool.{cases_eq, cond-false, cond-true, le-ltb, lt-ltb}
 use Rattle.std.proofs.lemmas.Bool.Decides.{nat_tests}
@@ -24,12 +24,6 @@ found_lent (r ∷ rs) address = by_test (covers_address (lent_region r) address)
         → option_map lent_region (find (λ region. covers_address (lent_region region) address) (r ∷ rs)) ≡ region_of (map lent_region (r ∷ rs)) address
     by_test true is rest = rw is refl
     by_test false is rest = rw is rest
-
--- so is the one that is found for a whole access
-pub whole_lent : (view : List HeldRegion) (address : ℕ) (found : Option HeldRegion)
-    → IfSome found (λ region. find (λ r. has_byte_at r address) view ≡ Some region) → IfSome found (λ region. region_of (map lent_region view) address ≡ Some (lent_region region))
-whole_lent view address None is = tt
-whole_lent view address (Some region) is = sym (found_lent view address) ∙ ap (option_map lent_region) is
 
 -- ---- the table by which a region is found
 

@@ -1,5 +1,5 @@
 //! Accesses to the memory that is lent, and to what is written over it.
-ghost use Rattle.std.specs.Prelude.{◌≡◌, ◌+◌, ◌/◌, ◌%◌, ◌==◌, ◌≤◌, ◌^◌, None, Some, Ok, Err, IfSome, IfOk, IfErr, OnOk, MatchResult, length, map, option_map};
+ghost use Rattle.std.specs.Prelude.{◌≡◌, ◌+◌, ◌/◌, ◌==◌, ◌≤◌, ◌^◌, None, Some, Ok, Err, IfOk, IfErr, OnOk, MatchResult, length, map, option_map};
 ghost use Rattle.std.specs.Option.{option_copied};
 ghost use Rattle.executor.specs.Accesses.{region_of, broken, lent, loaded, stored};
 ghost use Rattle.executor.specs.Items.{lent_region};
@@ -29,47 +29,9 @@ pub fn region_of<'v>(view: &'v View<'v>, address: u64) -> Option<&'v HeldRegion<
     view.find(address)
 }
 
-/// The region that all bytes of an access lie in.
-#[inline(always)]
-fn region_around<'v>(view: &'v View<'v>, address: u64, size: usize) -> Option<&'v HeldRegion<'v>>
-    requires some { 1 ≤ size }
-    requires few { size ≤ 8 }
-    ensures found { IfSome (option_copied result) (λ region. region_of (map lent_region view.now) address ≡ Some (lent_region region)) }
-    ensures whole { IfSome (option_copied result) (λ region. address % 2 ^ 32 + size ≤ length region.bytes.now) }
-{
-    view.find_whole(address, size)
-}
-
 /// The bytes that are lent for an access of a size, or the rule that it breaks first.
 #[inline(always)]
 fn access<'v>(view: &'v View<'v>, right: Right, address: u64, size: usize) -> Result<&'v [u8], Rule>
-    requires some { 1 ≤ size }
-    requires few { size ≤ 8 }
-    ensures allowed { IfOk result (λ bytes. broken (map lent_region view.now) right address size ≡ None) }
-    ensures bytes { IfOk result (λ bytes. bytes.now ≡ lent (map lent_region view.now) address size) }
-    ensures size { IfOk result (λ bytes. length bytes.now ≡ size) }
-    ensures end { IfOk result (λ bytes. address + size ≤ 2 ^ 64) }
-    ensures refused { IfErr result (λ rule. broken (map lent_region view.now) right address size ≡ Some rule) }
-{
-    let Some(region) = region_around(view, address, size) else {
-        return access_by_rules(view, right, address, size);
-    };
-    if !region.rights.has(right) {
-        return Err(Rule::A2);
-    }
-    let offset = (address % REGION_SPAN) as usize;
-    Ok(&region.bytes[offset..offset + size])
-}
-
-/// The same, test by test, in the order of the rules.
-#[cold]
-#[inline(never)]
-fn access_by_rules<'v>(
-    view: &'v View<'v>,
-    right: Right,
-    address: u64,
-    size: usize,
-) -> Result<&'v [u8], Rule>
     requires { size ≤ 8 }
     ensures allowed { IfOk result (λ bytes. broken (map lent_region view.now) right address size ≡ None) }
     ensures bytes { IfOk result (λ bytes. bytes.now ≡ lent (map lent_region view.now) address size) }
@@ -113,8 +75,7 @@ pub fn store(
     size: usize,
     value: u64,
 ) -> Result<(), StoreError>
-    requires some { 1 ≤ size }
-    requires few { size ≤ 8 }
+    requires { size ≤ 8 }
     ensures ok { OnOk result (stored (map lent_region view.now) (byte_at written.old) address size value ≡ Ok (byte_at written.new)) }
     ensures err { IfErr result (StoreFails (stored (map lent_region view.now) (byte_at written.old) address size value)) }
 {

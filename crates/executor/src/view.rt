@@ -1,5 +1,5 @@
 //! The regions that a packet holds, and how the one that an address lies in is found.
-ghost use Rattle.std.specs.Prelude.{◌≡◌, ◌+◌, ◌%◌, ◌^◌, ◌<◌, ◌≤◌, ◌++◌, ◌∷◌, [], All, IfSome, OnErr, OnOk, Some, find, length};
+ghost use Rattle.std.specs.Prelude.{◌≡◌, ◌<◌, ◌≤◌, ◌++◌, ◌∷◌, [], All, OnErr, OnOk, find};
 ghost use Rattle.std.specs.Option.{option_copied};
 ghost use Rattle.aql_packet.specs.Memory.{most_regions};
 ghost use Rattle.executor.specs.Views.{has_byte_at};
@@ -70,31 +70,6 @@ impl<'a> View<'a> {
         }
         let region = &self.regions[place - 1];
         if address % REGION_SPAN < region.bytes.len() as u64 {
-            Some(region)
-        } else {
-            None
-        }
-    }
-
-    /// The region that all bytes of an access lie in, found by one test of its end.
-    #[inline(always)]
-    pub fn find_whole(&self, address: u64, size: usize) -> Option<&HeldRegion<'a>>
-        requires some { 1 ≤ size }
-        requires few { size ≤ 8 }
-        ensures found { IfSome (option_copied result) (λ region. find (λ region. has_byte_at region address) self.now ≡ Some region) }
-        ensures whole { IfSome (option_copied result) (λ region. address % 2 ^ 32 + size ≤ length region.bytes.now) }
-    {
-        let places = &self.places;
-        let number = (address / REGION_SPAN) as usize;
-        if number >= places.len() {
-            return None;
-        }
-        let place = places[number] as usize;
-        if place == 0 {
-            return None;
-        }
-        let region = &self.regions[place - 1];
-        if (address % REGION_SPAN) as usize + size <= region.bytes.len() {
             Some(region)
         } else {
             None
