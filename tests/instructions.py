@@ -32,25 +32,24 @@ COUNTING = ("""
   ret;
 """, 65_533)
 STORING = ("""
-  ld_kernarg_u64 $d6, [%words];
-  workitemabsid_u64 $d0, 0;
-  mov_u64 $d3, 5400;
-  mov_u64 $d4, 0;
+  ld_kernarg_u64 $d0, [%words];
+  workitemabsid_u32 $s0, 0;
+  mov_u32 $s1, 5000;
 @turn:
-  mul_u64 $d0, $d0, 1103515245;
-  add_u64 $d0, $d0, 12345;
-  shr_u64 $d2, $d0, 33;
-  and_b64 $d2, $d2, 1023;
-  shl_u64 $d2, $d2, 3;
-  add_u64 $d2, $d6, $d2;
-  ld_global_u64 $d5, [$d2];
-  add_u64 $d5, $d5, $d0;
-  st_global_u64 $d5, [$d2];
-  add_u64 $d4, $d4, 1;
-  cmp_lt_b1_u64 $c0, $d4, $d3;
+  mad_u32 $s0, $s0, 1664525, 1013904223;
+  shr_u32 $s2, $s0, 21;
+  cvt_u64_u32 $d1, $s2;
+  mad_u64 $d1, $d1, 4, $d0;
+  ld_global_u32 $s3, [$d1];
+  add_u32 $s3, $s3, 1;
+  st_global_u32 $s3, [$d1];
+  xor_b32 $s4, $s4, $s3;
+  add_u32 $s5, $s5, $s4;
+  sub_u32 $s1, $s1, 1;
+  cmp_ne_b1_u32 $c0, $s1, 0;
   cbr_b1 $c0, @turn;
   ret;
-""", 64_805)
+""", 60_004)
 MEETING = ("""
   group_u32 %sum;
   ld_kernarg_u64 $d0, [%words];
