@@ -1,0 +1,6 @@
+mod WordSteps
+mod WordLaws
+mod Times
+mod EntryLaws
+mod ReadBack
+mod LineLaws

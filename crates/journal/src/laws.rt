@@ -1,0 +1,27 @@
+//! The laws of an entry's text form.
+
+ghost use Rattle.std.specs.Prelude.{◌≡◌, ◌+◌, ◌<◌, ◌^◌, List, length, true, Some};
+ghost use Rattle.core_model.specs.declared.entry.Entry.{Entry};
+ghost use Rattle.journal.specs.declared.chain.Chain.{Chain};
+ghost use Rattle.journal.specs.Entries.{all_fit, fit, text_of_entry, words_of_entry};
+ghost use Rattle.journal.specs.Lines.{entry_line, entry_lines, entry_of_line};
+ghost use Rattle.journal.specs.Readings.{entry_of};
+
+/// What was written of an entry, of numbers that have their bits, is read as the same entry. So two different
+/// entries never print the same. It does nothing.
+pub fn written_entries_are_read()
+    ensures read { (entry : Entry) → fit (words_of_entry entry) ≡ true → entry_of (text_of_entry entry) ≡ Some entry }
+    ensures apart { (one other : Entry) → fit (words_of_entry one) ≡ true → fit (words_of_entry other) ≡ true → text_of_entry one ≡ text_of_entry other → one ≡ other }
+{}
+
+/// The line of an entry is read as that entry, where the journal stands as it stood when it was written, if its numbers
+/// have their bits. It does nothing.
+pub fn written_lines_are_read()
+    ensures { (chain : Chain) (entry : Entry) → chain.number + 1 < 2 ^ 64 → fit (words_of_entry entry) ≡ true → entry_of_line chain (entry_line chain entry) ≡ Some entry }
+{}
+
+/// Two lists of entries that have the same lines, where a journal stands so, are the same, if their numbers have their
+/// bits. So two different histories never print the same. It does nothing.
+pub fn journals_are_told_apart()
+    ensures { (chain : Chain) (one other : List Entry) → all_fit one ≡ true → all_fit other ≡ true → chain.number + length one < 2 ^ 64 → chain.number + length other < 2 ^ 64 → entry_lines chain one ≡ entry_lines chain other → one ≡ other }
+{}

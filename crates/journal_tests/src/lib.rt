@@ -1,0 +1,7 @@
+//! Tests of journals: rows of texts.
+#![tactic(auto)]
+
+#[cfg(test)]
+mod entries;
+#[cfg(test)]
+mod lines;
