@@ -1,0 +1,406 @@
+//! The fields of each type of packet, in the order of their places (PSA, Architected Queuing Language).
+
+use crate::field::{Field, Form};
+
+/// The header, which each packet has.
+pub const HEADER: [Field; 5] = [
+    Field {
+        name: "type",
+        place: 0,
+        size: 2,
+        low: 0,
+        high: 7,
+        form: Form::Type,
+    },
+    Field {
+        name: "barrier",
+        place: 0,
+        size: 2,
+        low: 8,
+        high: 8,
+        form: Form::Number,
+    },
+    Field {
+        name: "acquire_fence_scope",
+        place: 0,
+        size: 2,
+        low: 9,
+        high: 10,
+        form: Form::Scope,
+    },
+    Field {
+        name: "release_fence_scope",
+        place: 0,
+        size: 2,
+        low: 11,
+        high: 12,
+        form: Form::Scope,
+    },
+    Field {
+        name: "reserved",
+        place: 0,
+        size: 2,
+        low: 13,
+        high: 15,
+        form: Form::Reserved,
+    },
+];
+
+// What a kernel dispatch has behind its header.
+const KERNEL: [Field; 15] = [
+    Field {
+        name: "dimensions",
+        place: 2,
+        size: 2,
+        low: 0,
+        high: 1,
+        form: Form::Number,
+    },
+    Field {
+        name: "reserved",
+        place: 2,
+        size: 2,
+        low: 2,
+        high: 15,
+        form: Form::Reserved,
+    },
+    Field {
+        name: "workgroup_size_x",
+        place: 4,
+        size: 2,
+        low: 0,
+        high: 15,
+        form: Form::Number,
+    },
+    Field {
+        name: "workgroup_size_y",
+        place: 6,
+        size: 2,
+        low: 0,
+        high: 15,
+        form: Form::Number,
+    },
+    Field {
+        name: "workgroup_size_z",
+        place: 8,
+        size: 2,
+        low: 0,
+        high: 15,
+        form: Form::Number,
+    },
+    Field {
+        name: "reserved",
+        place: 10,
+        size: 2,
+        low: 0,
+        high: 15,
+        form: Form::Reserved,
+    },
+    Field {
+        name: "grid_size_x",
+        place: 12,
+        size: 4,
+        low: 0,
+        high: 31,
+        form: Form::Number,
+    },
+    Field {
+        name: "grid_size_y",
+        place: 16,
+        size: 4,
+        low: 0,
+        high: 31,
+        form: Form::Number,
+    },
+    Field {
+        name: "grid_size_z",
+        place: 20,
+        size: 4,
+        low: 0,
+        high: 31,
+        form: Form::Number,
+    },
+    Field {
+        name: "private_segment_size",
+        place: 24,
+        size: 4,
+        low: 0,
+        high: 31,
+        form: Form::Number,
+    },
+    Field {
+        name: "group_segment_size",
+        place: 28,
+        size: 4,
+        low: 0,
+        high: 31,
+        form: Form::Number,
+    },
+    Field {
+        name: "kernel_object",
+        place: 32,
+        size: 8,
+        low: 0,
+        high: 63,
+        form: Form::Number,
+    },
+    Field {
+        name: "kernarg_address",
+        place: 40,
+        size: 8,
+        low: 0,
+        high: 63,
+        form: Form::Address,
+    },
+    Field {
+        name: "reserved",
+        place: 48,
+        size: 8,
+        low: 0,
+        high: 63,
+        form: Form::Reserved,
+    },
+    Field {
+        name: "completion_signal",
+        place: 56,
+        size: 8,
+        low: 0,
+        high: 63,
+        form: Form::Signal,
+    },
+];
+
+// What an agent dispatch has.
+const AGENT: [Field; 9] = [
+    Field {
+        name: "function",
+        place: 2,
+        size: 2,
+        low: 0,
+        high: 15,
+        form: Form::Number,
+    },
+    Field {
+        name: "reserved",
+        place: 4,
+        size: 4,
+        low: 0,
+        high: 31,
+        form: Form::Reserved,
+    },
+    Field {
+        name: "return_address",
+        place: 8,
+        size: 8,
+        low: 0,
+        high: 63,
+        form: Form::Address,
+    },
+    Field {
+        name: "argument 0",
+        place: 16,
+        size: 8,
+        low: 0,
+        high: 63,
+        form: Form::Word,
+    },
+    Field {
+        name: "argument 1",
+        place: 24,
+        size: 8,
+        low: 0,
+        high: 63,
+        form: Form::Word,
+    },
+    Field {
+        name: "argument 2",
+        place: 32,
+        size: 8,
+        low: 0,
+        high: 63,
+        form: Form::Word,
+    },
+    Field {
+        name: "argument 3",
+        place: 40,
+        size: 8,
+        low: 0,
+        high: 63,
+        form: Form::Word,
+    },
+    Field {
+        name: "reserved",
+        place: 48,
+        size: 8,
+        low: 0,
+        high: 63,
+        form: Form::Reserved,
+    },
+    Field {
+        name: "completion_signal",
+        place: 56,
+        size: 8,
+        low: 0,
+        high: 63,
+        form: Form::Signal,
+    },
+];
+
+// What a barrier packet has.
+const BARRIER: [Field; 8] = [
+    Field {
+        name: "reserved",
+        place: 2,
+        size: 6,
+        low: 0,
+        high: 47,
+        form: Form::Reserved,
+    },
+    Field {
+        name: "dependency 1",
+        place: 8,
+        size: 8,
+        low: 0,
+        high: 63,
+        form: Form::Signal,
+    },
+    Field {
+        name: "dependency 2",
+        place: 16,
+        size: 8,
+        low: 0,
+        high: 63,
+        form: Form::Signal,
+    },
+    Field {
+        name: "dependency 3",
+        place: 24,
+        size: 8,
+        low: 0,
+        high: 63,
+        form: Form::Signal,
+    },
+    Field {
+        name: "dependency 4",
+        place: 32,
+        size: 8,
+        low: 0,
+        high: 63,
+        form: Form::Signal,
+    },
+    Field {
+        name: "dependency 5",
+        place: 40,
+        size: 8,
+        low: 0,
+        high: 63,
+        form: Form::Signal,
+    },
+    Field {
+        name: "reserved",
+        place: 48,
+        size: 8,
+        low: 0,
+        high: 63,
+        form: Form::Reserved,
+    },
+    Field {
+        name: "completion_signal",
+        place: 56,
+        size: 8,
+        low: 0,
+        high: 63,
+        form: Form::Signal,
+    },
+];
+
+// What 64 bytes have whose type says nothing of them: eight words.
+const WORDS: [Field; 8] = [
+    Field {
+        name: "word 0",
+        place: 0,
+        size: 8,
+        low: 0,
+        high: 63,
+        form: Form::Word,
+    },
+    Field {
+        name: "word 1",
+        place: 8,
+        size: 8,
+        low: 0,
+        high: 63,
+        form: Form::Word,
+    },
+    Field {
+        name: "word 2",
+        place: 16,
+        size: 8,
+        low: 0,
+        high: 63,
+        form: Form::Word,
+    },
+    Field {
+        name: "word 3",
+        place: 24,
+        size: 8,
+        low: 0,
+        high: 63,
+        form: Form::Word,
+    },
+    Field {
+        name: "word 4",
+        place: 32,
+        size: 8,
+        low: 0,
+        high: 63,
+        form: Form::Word,
+    },
+    Field {
+        name: "word 5",
+        place: 40,
+        size: 8,
+        low: 0,
+        high: 63,
+        form: Form::Word,
+    },
+    Field {
+        name: "word 6",
+        place: 48,
+        size: 8,
+        low: 0,
+        high: 63,
+        form: Form::Word,
+    },
+    Field {
+        name: "word 7",
+        place: 56,
+        size: 8,
+        low: 0,
+        high: 63,
+        form: Form::Word,
+    },
+];
+
+/// What is behind the header in 64 bytes of a type; of a type that isn't run, their eight words.
+pub fn layout_of(kind: u8) -> &'static [Field] {
+    match kind {
+        2 => &KERNEL,
+        4 => &AGENT,
+        3 | 5 => &BARRIER,
+        _ => &WORDS,
+    }
+}
+
+/// What a type is called.
+pub fn type_name(kind: u8) -> &'static str {
+    match kind {
+        0 => "vendor specific",
+        1 => "INVALID",
+        2 => "kernel dispatch",
+        3 => "barrier-AND",
+        4 => "agent dispatch",
+        5 => "barrier-OR",
+        _ => "no type of the standard",
+    }
+}
