@@ -10,7 +10,7 @@ from trial import FILL, PRELUDE, SAMPLE, TOP, Ended, Trials, run, text
 KERNEL_TEXT = f"{TOP}/crates/cases/data/inc.hsail"
 # how many entries an audit has place for at the most, and where none is named
 MOST, DEFAULT = 1_048_576, 65_536
-COMMANDS = ("check", "run", "picture", "kernel", "assemble", "explain", "threads")
+COMMANDS = ("check", "run", "picture", "kernel", "assemble", "explain", "decode", "threads")
 
 
 def is_told(words):
@@ -46,6 +46,8 @@ WRONG = [
     (["kernel"], ["FILE"]),
     (["assemble"], ["POLICY"]),
     (["explain"], ["WORD"]),
+    (["decode"], ["128"]),
+    (["decode", "--slots"], ["--slots"]),
     (["run", *[SAMPLE] * 18], ["[NEXT]"]),
     (["run", *[SAMPLE] * 10, "--strict", *[SAMPLE] * 8], ["16"]),
     (["threads", SAMPLE], ["--producers"]),

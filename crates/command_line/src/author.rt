@@ -1,15 +1,14 @@
 //! The commands for authors of kernels, scripts and policies.
 
 use crate::meanings::{UNKNOWN, explained};
-use crate::perform::{failed, unread_file};
+use crate::perform::{failed, read_most, unread_file};
 use crate::writers::Nowhere;
 use assemble::{AssembleError, Book, BookError, assemble_script};
 use commands::{Status, check_policy};
 use kernel_listing::{Listing, list};
 use std::alloc::Global;
-use std::fs::File;
 use std::io;
-use std::io::{Read, Write};
+use std::io::Write;
 
 // How many bytes of a kernel's text are read: one more than a text may have.
 const MOST_TEXT: u64 = 65_537;
@@ -45,17 +44,9 @@ pub fn list_kernel<O: io::Write, E: io::Write>(
     }
 }
 
-// The first bytes of a file.
-fn read_text(rt: &HostRuntime, file: &str) -> io::Result<Vec<u8>> {
-    let mut text = Vec::new(rt.alloc());
-    let mut reader = File::open(rt, file)?.take(MOST_TEXT);
-    reader.read_to_end(&mut text)?;
-    Ok(text)
-}
-
 /// Lists the kernels of the text in a file.
 pub fn kernel(rt: &HostRuntime, file: &str) -> Status {
-    match read_text(rt, file) {
+    match read_most(rt, file, MOST_TEXT) {
         Ok(text) => list_kernel(
             rt.alloc(),
             text.as_slice(),

@@ -1,12 +1,14 @@
 //! The program's command line: `brokerd check POLICY` checks a policy, and `brokerd run POLICY` runs a script from
 //! standard input over it, of which `brokerd picture POLICY` draws a picture; `brokerd kernel FILE` lists the kernels of a
-//! text, `brokerd assemble POLICY` turns readable packets into digits, `brokerd explain WORD` tells what a rule means, and
-//! `brokerd threads POLICY` runs a load of threads over a policy.
+//! text, `brokerd assemble POLICY` turns readable packets into digits, `brokerd explain WORD` tells what a rule means,
+//! `brokerd threads POLICY` runs a load of threads over a policy, and
+//! `brokerd decode DIGITS` tells the fields of a packet.
 
 // The check tries its tactics on what is left of each proof.
 #![tactic(auto)]
 
 mod author;
+mod decoding;
 mod explained_run;
 mod explaining;
 mod further;
@@ -21,6 +23,7 @@ mod writers;
 
 pub use author::{assemble_policy, list_kernel};
 pub use commands::run_strictly;
+pub use decoding::{decode_digits, decode_slots};
 pub use explained_run::run_explaining;
 pub use explaining::{PolicyFile, check_explaining};
 pub use meanings::explained;

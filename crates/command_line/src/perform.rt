@@ -1,6 +1,7 @@
 //! Does what a command line asks.
 
 use crate::author::{assemble_input, explain, kernel};
+use crate::decoding::{MOST_DUMP, decode_digits, decode_slots};
 use crate::explaining::{PolicyFile, check_explaining};
 use crate::further::{Manner, run};
 use crate::request::{Asked, Request, Unread, read_words};
@@ -31,13 +32,17 @@ pub fn unread_file(rt: &HostRuntime, error: &io::Error) -> Status {
     }
 }
 
+/// The first bytes of a file: so many at the most.
+pub fn read_most(rt: &HostRuntime, file: &str, most: u64) -> io::Result<Vec<u8>> {
+    let mut text = Vec::new(rt.alloc());
+    File::open(rt, file)?.take(most).read_to_end(&mut text)?;
+    Ok(text)
+}
+
 /// The text of a policy file, and of one that is longer than a policy may be a byte more than that, so that it is
 /// refused for its length.
 pub fn read_file(rt: &HostRuntime, policy: &str) -> io::Result<Vec<u8>> {
-    let most = (MOST_POLICY_BYTES as u64).saturating_add(1);
-    let mut text = Vec::new(rt.alloc());
-    File::open(rt, policy)?.take(most).read_to_end(&mut text)?;
-    Ok(text)
+    read_most(rt, policy, (MOST_POLICY_BYTES as u64).saturating_add(1))
 }
 
 // Checks the policy in a file.
@@ -87,6 +92,35 @@ fn assemble_by(rt: &HostRuntime, policy: &str) -> Status {
         Ok(text) => assemble_input(rt, text.as_slice()),
         Err(error) => unread_file(rt, &error),
     }
+}
+
+// Tells the slots in a file.
+fn decode_file(rt: &HostRuntime, slots: &str) -> Status {
+    match read_most(rt, slots, MOST_DUMP) {
+        Ok(dump) => decode_slots(
+            rt.alloc(),
+            dump.as_slice(),
+            &mut rt.stdout(),
+            &mut rt.stderr(),
+        ),
+        Err(error) => unread_file(rt, &error),
+    }
+}
+
+// The exit status of a command whose words may be no such as it takes.
+fn number_of(ended: Option<Status>) -> u8 {
+    match ended {
+        Some(status) => status.number(),
+        None => NOT_UNDERSTOOD,
+    }
+}
+
+// Tells the packet of some digits, or the slots in a file.
+fn decode(rt: &HostRuntime, slots: Option<&str>, digits: &[&str]) -> u8 {
+    number_of(match slots {
+        Some(file) => Some(decode_file(rt, file)),
+        None => decode_digits(rt.alloc(), digits, &mut rt.stdout(), &mut rt.stderr()),
+    })
 }
 
 // Says on a terminal that a load runs.
@@ -148,10 +182,8 @@ fn perform<R: Threads + Wait + Sync>(rt: &HostRuntime, threads: &R, asked: &Aske
         } => run(rt, policy, further, Manner::drawing(places, span)).number(),
         Request::Kernel { file } => kernel(rt, file).number(),
         Request::Assemble { policy } => assemble_by(rt, policy).number(),
-        Request::Explain { word } => match explain(rt, word) {
-            Some(status) => status.number(),
-            None => NOT_UNDERSTOOD,
-        },
+        Request::Explain { word } => number_of(explain(rt, word)),
+        Request::Decode { slots } => decode(rt, slots, further),
         Request::Threads {
             policy,
             producers,

@@ -1,8 +1,8 @@
 //! What the words of a command line ask for.
 
 use crate::syntax::{
-    ASSEMBLE, AUDIT, CHECK, EXPLAIN, FILE, FROM, KERNEL, MOST_NEXT, NEXT, PICTURE, POLICY,
-    PRODUCERS, RUN, STRICT, THREADS, TO, WORD, program,
+    ASSEMBLE, AUDIT, CHECK, DECODE, DIGITS, EXPLAIN, FILE, FROM, KERNEL, MOST_NEXT, NEXT, PICTURE,
+    POLICY, PRODUCERS, RUN, SLOTS, STRICT, THREADS, TO, WORD, program,
 };
 use clap::error::ErrorKind;
 use clap::{ArgMatches, Error};
@@ -60,6 +60,11 @@ pub enum Request<'a> {
     Explain {
         word: &'a str,
     },
+    /// `decode DIGITS..`: to tell the packet of the further words field by field, `decode --slots FILE` those in the slots of
+    /// a ring.
+    Decode {
+        slots: Option<&'a str>,
+    },
     /// `threads POLICY --producers N [--explain]`: to run the load of threads over the policy in this file, with so many
     /// producers a queue, 1 to 16, and, if it explains, to tell beside a fault or the report why.
     Threads {
@@ -69,7 +74,8 @@ pub enum Request<'a> {
     },
 }
 
-/// What a command line asks for, and the files of the further policies of a run or a picture, at most 16, in their order (own).
+/// What a command line asks for, and the further words in their order: the files of the further policies of a run or a
+/// picture, at most 16, or the digits of a packet (own).
 #[derive(Debug, Drop)]
 pub struct Asked<'a> {
     pub request: Request<'a>,
@@ -177,24 +183,35 @@ fn request_of<'a>(command: &str, asked: &ArgMatches<'a>) -> Option<Request<'a>> 
         EXPLAIN => Some(Request::Explain {
             word: asked.get_str(WORD)?,
         }),
+        DECODE => Some(Request::Decode {
+            slots: asked.get_str(SLOTS),
+        }),
         THREADS => threads_request(asked),
         _ => policy_request(command, asked),
     }
 }
 
-// The files of further policies, which `run` and `picture` have.
-fn further_of<'a>(alloc: Global, asked: &ArgMatches<'a>) -> Result<Vec<&'a str>, AllocError> {
-    let mut further = Vec::new(alloc);
-    if let Some(files) = asked.get_strs(NEXT) {
-        further.extend_from_slice(files)?;
+// The words of an argument that may have many.
+fn words_of<'a>(
+    alloc: Global,
+    name: &str,
+    asked: &ArgMatches<'a>,
+) -> Result<Vec<&'a str>, AllocError> {
+    let mut words = Vec::new(alloc);
+    if let Some(given) = asked.get_strs(name) {
+        words.extend_from_slice(given)?;
     }
-    Ok(further)
+    Ok(words)
 }
 
 // What a command with its arguments asks for.
 fn asked_by<'a>(alloc: Global, command: &str, asked: &ArgMatches<'a>) -> Result<Asked<'a>, Unread> {
     let request = request_of(command, asked).ok_or(Unread::NoCommand)?;
-    let further = further_of(alloc, asked)?;
+    if command == DECODE {
+        let further = words_of(alloc, DIGITS, asked)?;
+        return Ok(Asked { request, further });
+    }
+    let further = words_of(alloc, NEXT, asked)?;
     if further.len() > MOST_NEXT {
         return Err(Unread::TooManyPolicies);
     }

@@ -57,11 +57,23 @@ pub const AUDIT: &str = "audit";
 /// The name of the command that runs a load of threads.
 pub const THREADS: &str = "threads";
 
+/// The name of the command that tells a packet's bytes field by field.
+pub const DECODE: &str = "decode";
+
+/// The argument that has a packet's digits.
+pub const DIGITS: &str = "DIGITS";
+
+/// The option that names the dump of a ring's slots.
+pub const SLOTS: &str = "slots";
+
 /// The option that says how many producers each queue has.
 pub const PRODUCERS: &str = "producers";
 
 /// How many entries an audit has place for at the most.
 const MOST_PLACES: u64 = 1_048_576;
+
+/// How many words the digits of a packet have at the most: one for each byte.
+const MOST_PARTS: usize = 64;
 
 /// How many producers a queue has at the most.
 const MOST_PRODUCERS: u64 = 16;
@@ -194,6 +206,31 @@ fn explain_command<'a>(alloc: Global) -> Result<Command<'a>, Error> {
     Ok(explain)
 }
 
+fn packet_digits<'a>(alloc: Global) -> Arg<'a> {
+    Arg::new(alloc, DIGITS)
+        .num_args(0..=MOST_PARTS)
+        .action(ArgAction::Append)
+        .help("The 128 hexadecimal digits of a packet, with blanks between them or without")
+}
+
+fn slots_file<'a>(alloc: Global) -> Arg<'a> {
+    Arg::new(alloc, SLOTS)
+        .long(SLOTS)
+        .value_name("FILE")
+        .action(ArgAction::Set)
+        .help("Reads in their place the slots of a ring, 64 bytes each, from a file")
+}
+
+fn decode_command<'a>(alloc: Global) -> Result<Command<'a>, Error> {
+    let decode = Command::new(alloc, DECODE)
+        .about(
+            "Tells a packet's 64 bytes field by field, and the first of L1 to L3 that they break",
+        )
+        .arg(packet_digits(alloc))?
+        .arg(slots_file(alloc))?;
+    Ok(decode)
+}
+
 fn producer_count<'a>(alloc: Global) -> Arg<'a> {
     Arg::new(alloc, PRODUCERS)
         .long(PRODUCERS)
@@ -252,9 +289,11 @@ fn with_authoring<'a>(alloc: Global) -> Result<Command<'a>, Error> {
 /// The program with its commands.
 pub fn program<'a>(alloc: Global) -> Result<Command<'a>, Error> {
     let explain = explain_command(alloc)?;
+    let decode = decode_command(alloc)?;
     let threads = threads_command(alloc)?;
     let program = with_authoring(alloc)?
         .subcommand(explain)?
+        .subcommand(decode)?
         .subcommand(threads)?;
     Ok(program)
 }
