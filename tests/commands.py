@@ -271,6 +271,8 @@ def files(room):
     for name, text in texts.items():
         with open(f"{room}/{name}", "w", encoding="utf-8") as it:
             it.write(text)
+    with open(f"{room}/ring.slots", "wb") as it:
+        it.write(b"".join(bytes.fromhex(packet) for packet in (FILL, KERNEL, BARRIER, "01" + "00" * 63)))
 
 
 class Row:
@@ -298,6 +300,10 @@ def rows(room):
         Row("check of a fault of a kernel", ["check", file("bad_kernel.toml")]),
         Row("the help", ["--help"]),
         Row("a bad command line", ["run", "--loud"]),
+        Row("check that lists", ["check", file("large.toml"), "--list"], is_new=True),
+        Row("check that lists as JSON", ["check", SAMPLE, "--json"], is_new=True),
+        Row("decode", ["decode", FILL], is_new=True),
+        Row("decode of slots", ["decode", "--slots", file("ring.slots")], is_new=True),
         Row("kernel", ["kernel", file("inc.hsail")]),
         Row("kernel of a fault", ["kernel", file("bad.hsail")]),
         Row("explain", ["explain", "L8"]),

@@ -46,6 +46,7 @@ WRONG = [
     (["kernel"], ["FILE"]),
     (["assemble"], ["POLICY"]),
     (["explain"], ["WORD"]),
+    (["check", SAMPLE, "--explain=maybe"], ["maybe", "always", "never"]),
     (["decode"], ["128"]),
     (["decode", "--slots"], ["--slots"]),
     (["run", *[SAMPLE] * 18], ["[NEXT]"]),

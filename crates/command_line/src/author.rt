@@ -1,7 +1,8 @@
 //! The commands for authors of kernels, scripts and policies.
 
+use crate::explaining::{PolicyFile, policy_told, tell};
 use crate::meanings::{UNKNOWN, explained};
-use crate::perform::{failed, read_most, unread_file};
+use crate::perform::{failed, read_most, unread};
 use crate::writers::Nowhere;
 use assemble::{AssembleError, Book, BookError, assemble_script};
 use commands::{Status, check_policy};
@@ -45,7 +46,7 @@ pub fn list_kernel<O: io::Write, E: io::Write>(
 }
 
 /// Lists the kernels of the text in a file.
-pub fn kernel(rt: &HostRuntime, file: &str) -> Status {
+pub fn kernel(rt: &HostRuntime, file: &str, explains: bool) -> Status {
     match read_most(rt, file, MOST_TEXT) {
         Ok(text) => list_kernel(
             rt.alloc(),
@@ -53,7 +54,7 @@ pub fn kernel(rt: &HostRuntime, file: &str) -> Status {
             &mut rt.stdout(),
             &mut rt.stderr(),
         ),
-        Err(error) => unread_file(rt, &error),
+        Err(error) => unread(rt, file, explains, &error),
     }
 }
 
@@ -103,15 +104,31 @@ pub fn assemble_policy<R: io::Read, O: io::Write, E: io::Write>(
     }
 }
 
-/// Assembles the script on standard input by the policy in a text.
-pub fn assemble_input(rt: &HostRuntime, policy: &[u8]) -> Status {
-    assemble_policy(
-        rt.alloc(),
-        policy,
-        &mut rt.stdin(),
-        &mut rt.stdout(),
-        &mut rt.stderr(),
-    )
+/// Assembles the same as `assemble_policy`, and tells behind a fault of the policy where it lies and what may stand there.
+pub fn assemble_explaining<R: io::Read, O: io::Write, E: io::Write>(
+    alloc: Global,
+    file: PolicyFile<'_>,
+    script: &mut R,
+    out: &mut O,
+    err: &mut E,
+) -> Status {
+    match check_policy(alloc, file.text, &mut Nowhere, err) {
+        Status::Done => assemble_checked(alloc, file.text, script, out, err),
+        Status::Refused => tell(err, policy_told(alloc, file), Status::Refused),
+        Status::Failed => Status::Failed,
+    }
+}
+
+/// Assembles the script on standard input by the policy in a file, and tells why it has a fault, if it explains.
+pub fn assemble_input(rt: &HostRuntime, file: PolicyFile<'_>, explains: bool) -> Status {
+    let mut script = rt.stdin();
+    let mut out = rt.stdout();
+    let mut err = rt.stderr();
+    if explains {
+        assemble_explaining(rt.alloc(), file, &mut script, &mut out, &mut err)
+    } else {
+        assemble_policy(rt.alloc(), file.text, &mut script, &mut out, &mut err)
+    }
 }
 
 /// Tells what a rule, a refusal or a cause means; none where the word is none of them, which is told too.

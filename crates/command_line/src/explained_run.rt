@@ -295,6 +295,15 @@ fn read_later(
     Ok(())
 }
 
+/// What is told of the first of the further policies that has a fault.
+pub fn faults_told(alloc: Global, further: Further<'_>) -> Result<String, AllocError> {
+    let mut later = Vec::new(alloc);
+    match read_later(alloc, further.texts, &mut later) {
+        Ok(()) => Ok(String::new(alloc)),
+        Err((place, why)) => further_told(alloc, further, place, why),
+    }
+}
+
 // What is told of a further policy with a fault.
 fn further_told(
     alloc: Global,

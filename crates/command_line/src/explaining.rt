@@ -67,7 +67,8 @@ pub fn tell<E: io::Write>(err: &mut E, told: Result<String, AllocError>, status:
     }
 }
 
-/// Checks the policy in a file as `check_policy` does, and tells behind a fault where it lies and what may stand there.
+/// Checks the policy in a file as `check_policy` does, and tells behind a fault where it lies and what may stand there; of one
+/// without a fault, which kernel's text has none of its entry's name.
 pub fn check_explaining<O: io::Write, E: io::Write>(
     alloc: Global,
     file: PolicyFile<'_>,
@@ -75,7 +76,7 @@ pub fn check_explaining<O: io::Write, E: io::Write>(
     err: &mut E,
 ) -> Status {
     match check_policy(alloc, file.text, out, err) {
-        Status::Refused => tell(err, policy_told(alloc, file), Status::Refused),
-        status => status,
+        Status::Failed => Status::Failed,
+        status => tell(err, policy_told(alloc, file), status),
     }
 }

@@ -1,8 +1,9 @@
 //! Runs the script on standard input over the policy in a file, with the policies in further files behind it.
 
+use crate::drawing::{Drawn, draw_explaining};
 use crate::explained_run::{Further, run_explaining};
 use crate::explaining::PolicyFile;
-use crate::perform::{read_file, unread_file, unread_policy};
+use crate::perform::{read_file, unread};
 use commands::{PolicyText, Span, Status, draw_policies, run_policies, run_strictly};
 use std::io;
 
@@ -48,12 +49,12 @@ impl Manner {
         }
     }
 
-    /// With a picture of these entries.
-    pub fn drawing(places: usize, span: Span) -> Manner {
+    /// With a picture of these entries; explaining, if so.
+    pub fn drawing(places: usize, span: Span, is_explaining: bool) -> Manner {
         Manner {
             places,
             is_strict: false,
-            is_explaining: false,
+            is_explaining,
             drawn: Some(span),
         }
     }
@@ -124,6 +125,20 @@ fn run_over<R: io::Read>(
     if !manner.is_explaining {
         return run_plainly(rt, file.text, further.texts, manner, script);
     }
+    if let Some(span) = manner.drawn {
+        return draw_explaining(
+            rt.alloc(),
+            file,
+            further,
+            Drawn {
+                places: manner.places,
+                span,
+            },
+            script,
+            &mut rt.stdout(),
+            &mut rt.stderr(),
+        );
+    }
     run_explaining(
         rt.alloc(),
         file,
@@ -133,15 +148,6 @@ fn run_over<R: io::Read>(
         &mut rt.stdout(),
         &mut rt.stderr(),
     )
-}
-
-// Tells why a file can't be read.
-fn tell_of_file(rt: &HostRuntime, name: &str, manner: Manner, error: &io::Error) -> Status {
-    if manner.is_explaining {
-        unread_policy(rt, name, error)
-    } else {
-        unread_file(rt, error)
-    }
 }
 
 // Tells the first fault of the policies before one that can't be read, and where they have none, why it can't.
@@ -160,7 +166,7 @@ fn tell_unread(
     match run_over(rt, file, before, undrawn, &mut nothing) {
         Status::Done => {
             let name = before.names.get(before.texts.len()).unwrap_or(&file.name);
-            tell_of_file(rt, name, manner, error)
+            unread(rt, name, manner.is_explaining, error)
         }
         status => status,
     }
@@ -191,6 +197,6 @@ pub fn run(rt: &HostRuntime, policy: &str, further: &[&str], manner: Manner) -> 
             };
             run_behind(rt, file, further, manner)
         }
-        Err(error) => tell_of_file(rt, policy, manner, &error),
+        Err(error) => unread(rt, policy, manner.is_explaining, &error),
     }
 }

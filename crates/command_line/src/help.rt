@@ -24,6 +24,8 @@ Lines that assemble reads beside these (docs/assemble.md):
   fill Q P ADDRESS length N with BYTE ..       copy Q P ADDRESS to ADDRESS length N ..
   add Q P N to ADDRESS ..                      all-of Q P SIGNAL.. ..       any-of Q P SIGNAL.. ..
 
+A file that is called - is standard input. On a terminal faults are explained unasked (--explain=never).
+
 Names that explain tells:
   rules      L1 to L10, A1 to A7, B1
   refusals   0 OutOfMemory 1 UnknownClient 2 UnknownQueue 3 Denied 4 Busy 5 NotAllowed 6 OutOfStep 7 QueueDown

@@ -9,11 +9,13 @@
 
 mod author;
 mod decoding;
+mod drawing;
 mod explained_run;
 mod explaining;
 mod further;
 mod help;
 mod line_reader;
+mod listing;
 mod meanings;
 mod perform;
 mod request;
@@ -26,6 +28,7 @@ pub use commands::run_strictly;
 pub use decoding::{decode_digits, decode_slots};
 pub use explained_run::run_explaining;
 pub use explaining::{PolicyFile, check_explaining};
+pub use listing::{ListForm, list_policy};
 pub use meanings::explained;
 pub use perform::{obey, out_of_memory};
 pub use request::{Asked, Request, Unread, read_words};

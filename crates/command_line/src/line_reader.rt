@@ -25,6 +25,8 @@ pub struct LineReader<'a, R> {
     // The first bytes of the line that is begun or was given last, and how many there are.
     line: [u8; 16_385],
     length: usize,
+    // How many lines were begun.
+    number: u64,
     // Whether the next byte begins a line, and whether there is none.
     is_between: bool,
     is_over: bool,
@@ -40,6 +42,7 @@ impl<'a, R: io::Read> LineReader<'a, R> {
             to: 0,
             line: [0; 16_385],
             length: 0,
+            number: 0,
             is_between: true,
             is_over: false,
         }
@@ -48,6 +51,11 @@ impl<'a, R: io::Read> LineReader<'a, R> {
     /// The line that was given last, without its line feed, or its first 16,385 bytes.
     pub fn line(&self) -> &[u8] {
         self.line.split_at(self.length.min(KEPT)).0
+    }
+
+    /// The number of that line, from 1; 0 where none was given.
+    pub fn number(&self) -> u64 {
+        self.number
     }
 
     // Reads a block, where all of the last was given.
@@ -67,6 +75,7 @@ impl<'a, R: io::Read> LineReader<'a, R> {
         if self.is_between {
             self.is_between = false;
             self.length = 0;
+            self.number = self.number.saturating_add(1);
         }
         if byte == b'\n' {
             self.is_between = true;

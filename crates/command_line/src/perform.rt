@@ -4,6 +4,7 @@ use crate::author::{assemble_input, explain, kernel};
 use crate::decoding::{MOST_DUMP, decode_digits, decode_slots};
 use crate::explaining::{PolicyFile, check_explaining};
 use crate::further::{Manner, run};
+use crate::listing::{ListForm, list_policy};
 use crate::request::{Asked, Request, Unread, read_words};
 use crate::syntax::MOST_NEXT;
 use crate::threads::{AskedLoad, run_threads};
@@ -32,10 +33,17 @@ pub fn unread_file(rt: &HostRuntime, error: &io::Error) -> Status {
     }
 }
 
-/// The first bytes of a file: so many at the most.
+/// The name of a file that stands for standard input.
+const STANDARD_INPUT: &str = "-";
+
+/// The first bytes of a file, or of standard input where it is called `-`: so many at the most.
 pub fn read_most(rt: &HostRuntime, file: &str, most: u64) -> io::Result<Vec<u8>> {
     let mut text = Vec::new(rt.alloc());
-    File::open(rt, file)?.take(most).read_to_end(&mut text)?;
+    if file == STANDARD_INPUT {
+        rt.stdin().take(most).read_to_end(&mut text)?;
+    } else {
+        File::open(rt, file)?.take(most).read_to_end(&mut text)?;
+    }
     Ok(text)
 }
 
@@ -58,16 +66,26 @@ fn check(rt: &HostRuntime, policy: &str) -> Status {
     }
 }
 
-/// Tells which policy couldn't be read, and why.
-pub fn unread_policy(rt: &HostRuntime, policy: &str, error: &io::Error) -> Status {
+/// Tells which file couldn't be read, and why.
+pub fn unread_policy(rt: &HostRuntime, file: &str, error: &io::Error) -> Status {
     let status = unread_file(rt, error);
     let why = match error.kind() {
         io::ErrorKind::NotFound => "there is no such file",
         io::ErrorKind::PermissionDenied => "it may not be read",
+        io::ErrorKind::IsADirectory => "it is a directory, and a file is asked for",
         _ => "reading it failed",
     };
-    let _ = eprintln!(rt; "{policy}: {why}");
+    let _ = eprintln!(rt; "{file}: {why}");
     status
+}
+
+/// The same, where it is told why; else that it failed.
+pub fn unread(rt: &HostRuntime, file: &str, explains: bool, error: &io::Error) -> Status {
+    if explains {
+        unread_policy(rt, file, error)
+    } else {
+        unread_file(rt, error)
+    }
 }
 
 // Checks the policy in a file, and tells where its fault lies.
@@ -87,10 +105,34 @@ fn check_and_explain(rt: &HostRuntime, policy: &str) -> Status {
 }
 
 // Assembles the script on standard input by the policy in a file.
-fn assemble_by(rt: &HostRuntime, policy: &str) -> Status {
+fn assemble_by(rt: &HostRuntime, policy: &str, explains: bool) -> Status {
     match read_file(rt, policy) {
-        Ok(text) => assemble_input(rt, text.as_slice()),
-        Err(error) => unread_file(rt, &error),
+        Ok(text) => {
+            let file = PolicyFile {
+                name: policy,
+                text: text.as_slice(),
+            };
+            assemble_input(rt, file, explains)
+        }
+        Err(error) => unread(rt, policy, explains, &error),
+    }
+}
+
+// Lists what the policy in a file declares.
+fn list(rt: &HostRuntime, policy: &str, form: ListForm, explains: bool) -> Status {
+    match read_file(rt, policy) {
+        Ok(text) => list_policy(
+            rt.alloc(),
+            PolicyFile {
+                name: policy,
+                text: text.as_slice(),
+            },
+            form,
+            explains,
+            &mut rt.stdout(),
+            &mut rt.stderr(),
+        ),
+        Err(error) => unread(rt, policy, explains, &error),
     }
 }
 
@@ -103,7 +145,7 @@ fn decode_file(rt: &HostRuntime, slots: &str) -> Status {
             &mut rt.stdout(),
             &mut rt.stderr(),
         ),
-        Err(error) => unread_file(rt, &error),
+        Err(error) => unread_policy(rt, slots, &error),
     }
 }
 
@@ -150,51 +192,66 @@ fn run_load_of<R: Threads + Wait + Sync>(
             &mut rt.stdout(),
             &mut rt.stderr(),
         ),
-        Err(error) if asked.explains => unread_policy(rt, policy, &error),
-        Err(error) => unread_file(rt, &error),
+        Err(error) => unread(rt, policy, asked.explains, &error),
+    }
+}
+
+// Runs a script as is asked, or draws its run.
+fn perform_run(rt: &HostRuntime, asked: &Asked<'_>) -> Option<Status> {
+    let (policy, manner) = match asked.request {
+        Request::Run { policy, places } => (policy, Manner::plain(places)),
+        Request::RunStrictly { policy, places } => (policy, Manner::strict(places)),
+        Request::RunExplaining {
+            policy,
+            places,
+            is_strict,
+        } => (policy, Manner::explaining(places, is_strict)),
+        Request::Picture {
+            policy,
+            places,
+            span,
+            explains,
+        } => (policy, Manner::drawing(places, span, explains)),
+        _ => return None,
+    };
+    Some(run(rt, policy, asked.further.as_slice(), manner))
+}
+
+// Does what is asked of a file that isn't run, of a word or of digits, and tells the exit status.
+fn perform_alone(rt: &HostRuntime, asked: &Asked<'_>) -> u8 {
+    match asked.request {
+        Request::Check { policy } => check(rt, policy).number(),
+        Request::CheckExplaining { policy } => check_and_explain(rt, policy).number(),
+        Request::List {
+            policy,
+            form,
+            explains,
+        } => list(rt, policy, form, explains).number(),
+        Request::Kernel { file, explains } => kernel(rt, file, explains).number(),
+        Request::Assemble { policy, explains } => assemble_by(rt, policy, explains).number(),
+        Request::Explain { word } => number_of(explain(rt, word)),
+        Request::Decode { slots } => decode(rt, slots, asked.further.as_slice()),
+        _ => NOT_UNDERSTOOD,
     }
 }
 
 // Does what is asked, and tells the exit status.
 fn perform<R: Threads + Wait + Sync>(rt: &HostRuntime, threads: &R, asked: &Asked<'_>) -> u8 {
-    let further = asked.further.as_slice();
-    match asked.request {
-        Request::Check { policy } => check(rt, policy).number(),
-        Request::CheckExplaining { policy } => check_and_explain(rt, policy).number(),
-        Request::Run { policy, places } => {
-            run(rt, policy, further, Manner::plain(places)).number()
-        }
-        Request::RunStrictly { policy, places } => {
-            run(rt, policy, further, Manner::strict(places)).number()
-        }
-        Request::RunExplaining {
-            policy,
-            places,
-            is_strict,
-        } => {
-            let manner = Manner::explaining(places, is_strict);
-            run(rt, policy, further, manner).number()
-        }
-        Request::Picture {
-            policy,
-            places,
-            span,
-        } => run(rt, policy, further, Manner::drawing(places, span)).number(),
-        Request::Kernel { file } => kernel(rt, file).number(),
-        Request::Assemble { policy } => assemble_by(rt, policy).number(),
-        Request::Explain { word } => number_of(explain(rt, word)),
-        Request::Decode { slots } => decode(rt, slots, further),
-        Request::Threads {
-            policy,
+    if let Request::Threads {
+        policy,
+        producers,
+        explains,
+    } = asked.request
+    {
+        let load = AskedLoad {
             producers,
             explains,
-        } => {
-            let asked = AskedLoad {
-                producers,
-                explains,
-            };
-            run_load_of(rt, threads, policy, asked).number()
-        }
+        };
+        return run_load_of(rt, threads, policy, load).number();
+    }
+    match perform_run(rt, asked) {
+        Some(status) => status.number(),
+        None => perform_alone(rt, asked),
     }
 }
 
@@ -234,9 +291,10 @@ fn too_many_policies(rt: &HostRuntime) -> u8 {
 /// Reads the words of a command line, the program's own name first, does what they ask or says how they are to be
 /// written, and tells the exit status: that of the command (`Status::number`), 0 for the help and the version, 2 for
 /// words that aren't understood, 3 where the text that says so can't be written. The second runtime is the one whose
-/// threads a load runs on.
+/// threads a load runs on. Where standard error is a terminal and the words don't say otherwise, faults are explained.
 pub fn obey<R: Threads + Wait + Sync>(rt: &HostRuntime, threads: &R, words: &[String]) -> u8 {
-    match read_words(rt.alloc(), words) {
+    let unasked = rt.stderr().is_terminal();
+    match read_words(rt.alloc(), words, unasked) {
         Ok(asked) => perform(rt, threads, &asked),
         Err(Unread::Text(error)) => tell(rt, &error),
         Err(Unread::NoCommand) => NOT_UNDERSTOOD,

@@ -1,8 +1,9 @@
 //! What the words of a command line ask for.
 
+use crate::listing::ListForm;
 use crate::syntax::{
-    ASSEMBLE, AUDIT, CHECK, DECODE, DIGITS, EXPLAIN, FILE, FROM, KERNEL, MOST_NEXT, NEXT, PICTURE,
-    POLICY, PRODUCERS, RUN, SLOTS, STRICT, THREADS, TO, WORD, program,
+    ALWAYS, ASSEMBLE, AUDIT, CHECK, DECODE, DIGITS, EXPLAIN, FILE, FROM, JSON, KERNEL, LIST,
+    MOST_NEXT, NEXT, PICTURE, POLICY, PRODUCERS, RUN, SLOTS, STRICT, THREADS, TO, WORD, program,
 };
 use clap::error::ErrorKind;
 use clap::{ArgMatches, Error};
@@ -18,6 +19,12 @@ pub enum Request<'a> {
     /// `check POLICY`: to check the policy in this file.
     Check {
         policy: &'a str,
+    },
+    /// `check POLICY --list [--json]`: to check it, and to list what it declares and allows.
+    List {
+        policy: &'a str,
+        form: ListForm,
+        explains: bool,
     },
     /// `run POLICY [NEXT..] [--audit N]`: to run the script on standard input over the policy in this file, with places
     /// for so many entries in the audit, 1 to 1,048,576.
@@ -46,15 +53,18 @@ pub enum Request<'a> {
         policy: &'a str,
         places: usize,
         span: Span,
+        explains: bool,
     },
     /// `kernel FILE`: to list the kernels of the text in this file.
     Kernel {
         file: &'a str,
+        explains: bool,
     },
     /// `assemble POLICY`: to turn the script on standard input into one without readable packets, by the policy in
     /// this file.
     Assemble {
         policy: &'a str,
+        explains: bool,
     },
     /// `explain WORD`: to tell what a rule, a refusal or a cause means.
     Explain {
@@ -123,11 +133,20 @@ fn span_in(asked: &ArgMatches<'_>) -> Span {
     }
 }
 
+// Whether it is told why: as the command line says, or else where that is done unasked.
+fn explains_in(asked: &ArgMatches<'_>, unasked: bool) -> bool {
+    match asked.get_str(EXPLAIN) {
+        Some(ALWAYS) => true,
+        Some(_) => false,
+        None => unasked,
+    }
+}
+
 // The request of `run` with its arguments.
-fn run_request<'a>(policy: &'a str, asked: &ArgMatches<'a>) -> Request<'a> {
+fn run_request<'a>(policy: &'a str, asked: &ArgMatches<'a>, explains: bool) -> Request<'a> {
     let places = places_in(asked);
     let is_strict = asked.get_flag(STRICT);
-    if asked.get_flag(EXPLAIN) {
+    if explains {
         Request::RunExplaining {
             policy,
             places,
@@ -140,9 +159,27 @@ fn run_request<'a>(policy: &'a str, asked: &ArgMatches<'a>) -> Request<'a> {
     }
 }
 
+// The form of the list that is asked for, if one is.
+fn list_form_in(asked: &ArgMatches<'_>) -> Option<ListForm> {
+    if asked.get_flag(JSON) {
+        Some(ListForm::Json)
+    } else if asked.get_flag(LIST) {
+        Some(ListForm::Table)
+    } else {
+        None
+    }
+}
+
 // The request of `check` with its arguments.
-fn check_request<'a>(policy: &'a str, asked: &ArgMatches<'a>) -> Request<'a> {
-    if asked.get_flag(EXPLAIN) {
+fn check_request<'a>(policy: &'a str, asked: &ArgMatches<'a>, explains: bool) -> Request<'a> {
+    if let Some(form) = list_form_in(asked) {
+        return Request::List {
+            policy,
+            form,
+            explains,
+        };
+    }
+    if explains {
         Request::CheckExplaining { policy }
     } else {
         Request::Check { policy }
@@ -150,44 +187,45 @@ fn check_request<'a>(policy: &'a str, asked: &ArgMatches<'a>) -> Request<'a> {
 }
 
 // The request of a command on a policy.
-fn policy_request<'a>(command: &str, asked: &ArgMatches<'a>) -> Option<Request<'a>> {
+fn policy_request<'a>(
+    command: &str,
+    asked: &ArgMatches<'a>,
+    explains: bool,
+) -> Option<Request<'a>> {
     let policy = asked.get_str(POLICY)?;
     match command {
-        CHECK => Some(check_request(policy, asked)),
-        RUN => Some(run_request(policy, asked)),
+        CHECK => Some(check_request(policy, asked, explains)),
+        RUN => Some(run_request(policy, asked, explains)),
         PICTURE => Some(Request::Picture {
             policy,
             places: places_in(asked),
             span: span_in(asked),
+            explains,
         }),
-        ASSEMBLE => Some(Request::Assemble { policy }),
+        ASSEMBLE => Some(Request::Assemble { policy, explains }),
+        THREADS => Some(Request::Threads {
+            policy,
+            producers: asked.get_one(PRODUCERS)?,
+            explains,
+        }),
         _ => None,
     }
 }
 
-// The request of `threads` with its arguments.
-fn threads_request<'a>(asked: &ArgMatches<'a>) -> Option<Request<'a>> {
-    Some(Request::Threads {
-        policy: asked.get_str(POLICY)?,
-        producers: asked.get_one(PRODUCERS)?,
-        explains: asked.get_flag(EXPLAIN),
-    })
-}
-
 // The request of a command with its arguments.
-fn request_of<'a>(command: &str, asked: &ArgMatches<'a>) -> Option<Request<'a>> {
+fn request_of<'a>(command: &str, asked: &ArgMatches<'a>, unasked: bool) -> Option<Request<'a>> {
     match command {
-        KERNEL => Some(Request::Kernel {
-            file: asked.get_str(FILE)?,
-        }),
         EXPLAIN => Some(Request::Explain {
             word: asked.get_str(WORD)?,
         }),
         DECODE => Some(Request::Decode {
             slots: asked.get_str(SLOTS),
         }),
-        THREADS => threads_request(asked),
-        _ => policy_request(command, asked),
+        KERNEL => Some(Request::Kernel {
+            file: asked.get_str(FILE)?,
+            explains: explains_in(asked, unasked),
+        }),
+        _ => policy_request(command, asked, explains_in(asked, unasked)),
     }
 }
 
@@ -205,8 +243,13 @@ fn words_of<'a>(
 }
 
 // What a command with its arguments asks for.
-fn asked_by<'a>(alloc: Global, command: &str, asked: &ArgMatches<'a>) -> Result<Asked<'a>, Unread> {
-    let request = request_of(command, asked).ok_or(Unread::NoCommand)?;
+fn asked_by<'a>(
+    alloc: Global,
+    command: &str,
+    asked: &ArgMatches<'a>,
+    unasked: bool,
+) -> Result<Asked<'a>, Unread> {
+    let request = request_of(command, asked, unasked).ok_or(Unread::NoCommand)?;
     if command == DECODE {
         let further = words_of(alloc, DIGITS, asked)?;
         return Ok(Asked { request, further });
@@ -218,11 +261,16 @@ fn asked_by<'a>(alloc: Global, command: &str, asked: &ArgMatches<'a>) -> Result<
     Ok(Asked { request, further })
 }
 
-/// Reads the words of a command line, the program's own name first.
-pub fn read_words<'a>(alloc: Global, words: &'a [String]) -> Result<Asked<'a>, Unread> {
+/// Reads the words of a command line, the program's own name first. Where they don't say whether faults are explained, they
+/// are if `unasked`.
+pub fn read_words<'a>(
+    alloc: Global,
+    words: &'a [String],
+    unasked: bool,
+) -> Result<Asked<'a>, Unread> {
     let matches = program(alloc)?.try_get_matches_from(words)?;
     match matches.subcommand() {
-        Some((command, asked)) => asked_by(alloc, command, asked),
+        Some((command, asked)) => asked_by(alloc, command, asked, unasked),
         None => Err(Unread::NoCommand),
     }
 }

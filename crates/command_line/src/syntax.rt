@@ -8,6 +8,12 @@ use std::alloc::Global;
 /// The name of the command that checks a policy.
 pub const CHECK: &str = "check";
 
+/// The option by which a check lists what the policy declares.
+pub const LIST: &str = "list";
+
+/// The option by which that list is one for programs.
+pub const JSON: &str = "json";
+
 /// The name of the command that runs a script.
 pub const RUN: &str = "run";
 
@@ -32,6 +38,12 @@ pub const ASSEMBLE: &str = "assemble";
 /// The name of the command that tells what a rule, a refusal or a cause means, and of the option by which a check and a
 /// run tell why.
 pub const EXPLAIN: &str = "explain";
+
+/// That it is always told why.
+pub const ALWAYS: &str = "always";
+
+/// That it is never told why, on a terminal too.
+pub const NEVER: &str = "never";
 
 /// The argument that names the file of a kernel's text.
 pub const FILE: &str = "FILE";
@@ -131,10 +143,31 @@ fn strictly<'a>(alloc: Global) -> Arg<'a> {
 fn explaining<'a>(alloc: Global) -> Arg<'a> {
     Arg::new(alloc, EXPLAIN)
         .long(EXPLAIN)
+        .value_name("WHEN")
+        .action(ArgAction::Set)
+        .num_args(0..=1)
+        .require_equals(true)
+        .default_missing_value(ALWAYS)
+        .value_parser(ValueParser::Names(&[NEVER, ALWAYS]))
+        .help(
+            "Tells on standard error behind each fault, refusal and denial why, and what mends it: `always` or `never`; if not given, where standard error is a terminal",
+        )
+}
+
+fn listing<'a>(alloc: Global) -> Arg<'a> {
+    Arg::new(alloc, LIST)
+        .long(LIST)
         .action(ArgAction::SetTrue)
         .help(
-            "Tells on standard error behind each fault, refusal and denial why, and what mends it",
+            "Lists in place of the counts what is declared, and the rights that each client may have",
         )
+}
+
+fn as_json<'a>(alloc: Global) -> Arg<'a> {
+    Arg::new(alloc, JSON)
+        .long(JSON)
+        .action(ArgAction::SetTrue)
+        .help("Lists it as JSON, on one line (docs/json.md)")
 }
 
 fn kernel_file<'a>(alloc: Global) -> Arg<'a> {
@@ -155,6 +188,8 @@ fn check_command<'a>(alloc: Global) -> Result<Command<'a>, Error> {
     let check = Command::new(alloc, CHECK)
         .about("Checks a policy: counts its rows, or names its first fault")
         .arg(policy_file(alloc))?
+        .arg(listing(alloc))?
+        .arg(as_json(alloc))?
         .arg(explaining(alloc))?;
     Ok(check)
 }
@@ -179,7 +214,8 @@ fn picture_command<'a>(alloc: Global) -> Result<Command<'a>, Error> {
         .arg(further_files(alloc))?
         .arg(audit_places(alloc))?
         .arg(first_entry(alloc))?
-        .arg(last_entry(alloc))?;
+        .arg(last_entry(alloc))?
+        .arg(explaining(alloc))?;
     Ok(picture)
 }
 
@@ -188,14 +224,16 @@ fn kernel_command<'a>(alloc: Global) -> Result<Command<'a>, Error> {
         .about(
             "Reads and checks a kernel's text, and lists its kernels with their layout and steps",
         )
-        .arg(kernel_file(alloc))?;
+        .arg(kernel_file(alloc))?
+        .arg(explaining(alloc))?;
     Ok(kernel)
 }
 
 fn assemble_command<'a>(alloc: Global) -> Result<Command<'a>, Error> {
     let assemble = Command::new(alloc, ASSEMBLE)
         .about("Turns a script with readable packets, on standard input, into one that run takes")
-        .arg(policy_file(alloc))?;
+        .arg(policy_file(alloc))?
+        .arg(explaining(alloc))?;
     Ok(assemble)
 }
 

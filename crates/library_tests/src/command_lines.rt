@@ -1,6 +1,6 @@
 //! What command lines ask for, and their exit statuses.
 
-use command_line::{Request, obey, read_words};
+use command_line::{ListForm, Request, obey, read_words};
 use commands::Span;
 use std::alloc::{AllocError, Global};
 use std::process::Abort;
@@ -19,12 +19,12 @@ fn words_of(alloc: Global, line: &str) -> Result<Vec<String>, AllocError> {
 
 /// What the words of a line ask for, apart from further policies.
 fn request_of<'a>(alloc: Global, words: &'a [String]) -> Option<Request<'a>> {
-    Some(read_words(alloc, words).ok()?.request)
+    Some(read_words(alloc, words, false).ok()?.request)
 }
 
 /// The files of further policies that the words of a line name, with a blank behind each.
 fn further_of(alloc: Global, words: &[String]) -> Result<Option<String>, AllocError> {
-    let Ok(asked) = read_words(alloc, words) else {
+    let Ok(asked) = read_words(alloc, words, false) else {
         return Ok(None);
     };
     let mut files = String::new(alloc);
@@ -78,22 +78,63 @@ fn a_command_is_asked_for_with_its_arguments(rt: HostRuntime) -> Result<(), Fail
         first: 7,
         last: u64::MAX,
     };
+    let explains = false;
     let picture = Some(Request::Picture {
         policy,
         places,
         span,
+        explains,
     });
     check_request(
         &rt,
         "brokerd picture a.toml --from 7 --audit 1048576",
         picture,
     )?;
-    let assemble = Some(Request::Assemble { policy });
+    let assemble = Some(Request::Assemble { policy, explains });
     check_request(&rt, "brokerd assemble a.toml", assemble)?;
-    let kernel = Some(Request::Kernel { file: "k.hsail" });
+    let file = "k.hsail";
+    let kernel = Some(Request::Kernel { file, explains });
     check_request(&rt, "brokerd kernel k.hsail", kernel)?;
     let explain = Some(Request::Explain { word: "L8" });
     check_request(&rt, "brokerd explain L8", explain)
+}
+
+#[test]
+fn a_list_and_digits_are_asked_for(rt: HostRuntime) -> Result<(), Fail> {
+    let policy = "a.toml";
+    let explains = false;
+    let list = |form| {
+        Some(Request::List {
+            policy,
+            form,
+            explains,
+        })
+    };
+    check_request(&rt, "brokerd check a.toml --list", list(ListForm::Table))?;
+    check_request(&rt, "brokerd check --json a.toml", list(ListForm::Json))?;
+    let slots = Some("a.slots");
+    let decode = Some(Request::Decode { slots });
+    check_request(&rt, "brokerd decode --slots a.slots", decode)?;
+    check_further(&rt, "brokerd decode 00 01", Some("00 01 "))
+}
+
+/// What the words of a line ask for where faults are explained unasked.
+fn check_unasked(rt: &(impl Abort + AllocGlobal), line: &str, explains: bool) -> Result<(), Fail> {
+    let words = words_of(rt.alloc(), line)?;
+    let policy = "a.toml";
+    let wanted = Some(Request::Assemble { policy, explains });
+    let asked = read_words(rt.alloc(), words.as_slice(), true);
+    let request = asked.ok().map(|asked| asked.request);
+    assert!(rt; request == wanted, "{line}");
+    Ok(())
+}
+
+#[test]
+fn faults_are_explained_as_the_words_say(rt: HostRuntime) -> Result<(), Fail> {
+    check_unasked(&rt, "brokerd assemble a.toml", true)?;
+    check_unasked(&rt, "brokerd assemble a.toml --explain=never", false)?;
+    check_unasked(&rt, "brokerd assemble a.toml --explain=always", true)?;
+    check_unasked(&rt, "brokerd assemble --explain a.toml", true)
 }
 
 /// The line of a run with so many further policies.
@@ -137,7 +178,7 @@ fn sixteen_further_policies_are_the_most(rt: HostRuntime) -> Result<(), Fail> {
 }
 
 /// Command lines, and the exit status of each: 2 where it isn't understood, 3 where its policy can't be read.
-const STATUSES: [(&str, u8); 26] = [
+const STATUSES: [(&str, u8); 30] = [
     ("brokerd", 2),
     ("brokerd mend", 2),
     ("brokerd check", 2),
@@ -164,6 +205,10 @@ const STATUSES: [(&str, u8); 26] = [
     ("brokerd explain", 2),
     ("brokerd explain L8", 0),
     ("brokerd explain L11", 2),
+    ("brokerd decode", 2),
+    ("brokerd decode 00", 2),
+    ("brokerd decode --slots nowhere.slots", 3),
+    ("brokerd check --list nowhere.toml", 3),
 ];
 
 fn status_of<R: Threads + Wait + Sync>(
