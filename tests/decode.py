@@ -162,6 +162,7 @@ def main(program):
         whole = [it for it in many if not broken(it)]
         dumps = [[], [invalid] * 2, whole[:3] + [invalid], [*many, invalid], [invalid] * 4096]
         trials.every("the slots of a dump", lambda it: slots_told([dumped(it)], it), dumps)
+        trials.every("a dump on standard input", lambda it: slots_told(["-"], it, b"".join(it)), dumps)
         refused = lambda it: None if (ended := run([program, "decode", "--slots", dumped(*it[0])])).status == it[1] and it[2] in ended.err else f"{ended}"
         trials.every("a dump that ends within a slot, or is longer than a ring", refused,
                      [(([whole[0]], b"\0" * 63), 1, b"63 are left"), (([invalid] * 4097,), 1, b"4096 slots")])

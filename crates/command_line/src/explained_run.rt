@@ -1,8 +1,10 @@
 //! A run that tells beside each refusal, denial and failure why, and what mends it.
 
+use crate::author::told;
 use crate::explaining::{PolicyFile, policy_told, tell};
 use crate::further::Manner;
 use crate::line_reader::LineReader;
+use crate::session::help_told;
 use commands::{Failure, PolicyText, Status, check_kernels, name_failure, tell_end};
 use core_model::Part;
 use explain::{Asked, asked_by, bad_line, policy_fault, retold};
@@ -65,6 +67,11 @@ enum Cause {
 struct Explainer {
     alloc: Global,
     is_strict: bool,
+    // Whether it is told why.
+    tells: bool,
+    // Whether the run goes on behind a line of no form, and whether it has.
+    goes_on: bool,
+    has_gone_on: bool,
     // How many lines came before those of this run.
     before: u64,
     // What the line asked that was asked last.
@@ -77,10 +84,13 @@ struct Explainer {
 }
 
 impl Explainer {
-    fn new(alloc: Global, is_strict: bool) -> Explainer {
+    fn new(alloc: Global, manner: Manner) -> Explainer {
         Explainer {
             alloc,
-            is_strict,
+            is_strict: manner.is_strict,
+            tells: manner.is_explaining,
+            goes_on: manner.is_session && !manner.is_strict,
+            has_gone_on: false,
             before: 0,
             asked: Asked::Nothing,
             told: String::new(alloc),
@@ -96,6 +106,9 @@ impl Explainer {
 
     // Keeps what is to be told of a reply, if there is memory for it.
     fn explain(&mut self, world: &World, number: u64, reply: &LineReply) {
+        if !self.tells {
+            return;
+        }
         let told = retold(
             self.alloc,
             world,
@@ -210,26 +223,103 @@ fn run_on<R: io::Read, O: io::Write>(
     )
 }
 
+// What is told of a line of no form.
+fn bad_line_told(explainer: &Explainer, line: &[u8], number: u64) -> Result<String, AllocError> {
+    if explainer.tells {
+        bad_line(explainer.alloc, line, number)
+    } else {
+        Ok(String::new(explainer.alloc))
+    }
+}
+
+// Names a line of no form, and tells why.
+fn name_bad_line<E: io::Write>(
+    explainer: &Explainer,
+    line: &[u8],
+    number: u64,
+    err: &mut E,
+) -> Status {
+    let told = bad_line_told(explainer, line, number);
+    name_and_tell(explainer.alloc, err, Failure::Line(number), told)
+}
+
+// Writes what a person asked for.
+fn write_help<E: io::Write>(
+    alloc: Global,
+    help: Result<String, AllocError>,
+    err: &mut E,
+) -> Option<Status> {
+    let Ok(help) = help else {
+        return Some(name(alloc, err, Failure::OutOfMemory));
+    };
+    match told(err, help.as_str(), Status::Done) {
+        Status::Failed => Some(Status::Failed),
+        _ => None,
+    }
+}
+
+// Tells of a line of no form behind which the run goes on, and says how the command ends, if it does.
+fn tell_and_go_on<E: io::Write>(
+    explainer: &mut Explainer,
+    line: &[u8],
+    number: u64,
+    err: &mut E,
+) -> Option<Status> {
+    if let Some(help) = help_told(explainer.alloc, line) {
+        return write_help(explainer.alloc, help, err);
+    }
+    explainer.has_gone_on = true;
+    match name_bad_line(explainer, line, number, err) {
+        Status::Refused => None,
+        status => Some(status),
+    }
+}
+
+// Tells of a line of no form, and says how the command ends, if it does.
+fn tell_of_bad_line<R: io::Read, E: io::Write>(
+    number: u64,
+    explainer: &mut Explainer,
+    lines: &mut LineReader<'_, R>,
+    err: &mut E,
+) -> Option<Status> {
+    let whole = explainer.number_of(number);
+    if !explainer.goes_on {
+        return Some(name_bad_line(explainer, lines.line(), whole, err));
+    }
+    if lines.skip_line().is_err() {
+        return Some(name(explainer.alloc, err, Failure::Read));
+    }
+    explainer.go_on(number);
+    tell_and_go_on(explainer, lines.line(), whole, err)
+}
+
+// How the command ends behind the last line.
+fn ended_with(status: Status, explainer: &Explainer) -> Status {
+    if status == Status::Done && explainer.has_gone_on {
+        Status::Refused
+    } else {
+        status
+    }
+}
+
 // Tells how a run ended, and says how the command ends, if it does.
 fn tell_of_run<R: io::Read, E: io::Write>(
     ended: Result<(), ScriptFault>,
     explainer: &mut Explainer,
-    lines: &LineReader<'_, R>,
+    lines: &mut LineReader<'_, R>,
     err: &mut E,
 ) -> Option<Status> {
-    let alloc = explainer.alloc;
     match ended {
         Err(ScriptFault::Stopped(number)) => {
             let status = tell_of_line(explainer, err);
             explainer.go_on(number);
             status
         }
-        Err(ScriptFault::BadLine(number)) => {
-            let number = explainer.number_of(number);
-            let told = bad_line(alloc, lines.line(), number);
-            Some(name_and_tell(alloc, err, Failure::Line(number), told))
+        Err(ScriptFault::BadLine(number)) => tell_of_bad_line(number, explainer, lines, err),
+        ended => {
+            let status = tell_end(explainer.alloc, ended, err, &mut IoLog::none());
+            Some(ended_with(status, explainer))
         }
-        ended => Some(tell_end(alloc, ended, err, &mut IoLog::none())),
     }
 }
 
@@ -246,7 +336,7 @@ fn run_in<R: io::Read, O: io::Write, E: io::Write>(
     let mut lines = LineReader::new(script);
     for _ in 0..MOST_RUNS {
         let ended = run_on(&mut world, later, explainer, &mut lines, out);
-        if let Some(status) = tell_of_run(ended, explainer, &lines, err) {
+        if let Some(status) = tell_of_run(ended, explainer, &mut lines, err) {
             return status;
         }
     }
@@ -319,8 +409,22 @@ fn further_told(
     }
 }
 
+// What is told, if it is told why.
+fn told_if(
+    alloc: Global,
+    manner: Manner,
+    told: Result<String, AllocError>,
+) -> Result<String, AllocError> {
+    if manner.is_explaining {
+        told
+    } else {
+        Ok(String::new(alloc))
+    }
+}
+
 /// Runs a script over the policies in files as `run_policies` does, strictly as `run_strictly` does, and tells on `err`
 /// behind each reply that was refused, denied, failed, waits or found nothing why that is so, before any reply behind it.
+/// A session tells a line of no form and goes on behind it, and answers lines that ask for help; it ends as refused then.
 pub fn run_explaining<R: io::Read, O: io::Write, E: io::Write>(
     alloc: Global,
     file: PolicyFile<'_>,
@@ -332,13 +436,16 @@ pub fn run_explaining<R: io::Read, O: io::Write, E: io::Write>(
 ) -> Status {
     let world = match open_text(alloc, file.text, manner.places) {
         Ok(world) => world,
-        Err(failure) => return name_and_tell(alloc, err, failure, policy_told(alloc, file)),
+        Err(failure) => {
+            let told = told_if(alloc, manner, policy_told(alloc, file));
+            return name_and_tell(alloc, err, failure, told);
+        }
     };
     let mut later = Vec::new(alloc);
     if let Err((place, why)) = read_later(alloc, further.texts, &mut later) {
-        let told = further_told(alloc, further, place, why);
+        let told = told_if(alloc, manner, further_told(alloc, further, place, why));
         return name_and_tell(alloc, err, Failure::of_reading(why), told);
     }
-    let mut explainer = Explainer::new(alloc, manner.is_strict);
+    let mut explainer = Explainer::new(alloc, manner);
     run_in(&mut explainer, world, later.as_slice(), script, out, err)
 }

@@ -3,7 +3,8 @@
 use access_core::Kernel;
 use commands::{KernelError, Status, check_kernels, check_policy};
 use explain::{kernel_fault, no_entry, policy_fault};
-use policy::{Policy, ReadPolicyError, read_policy};
+use pages::rows_of;
+use policy::{Policy, PolicyCause, PolicyFault, ReadPolicyError, read_policy};
 use std::alloc::{AllocError, Global};
 use std::io;
 use std::io::Write;
@@ -45,12 +46,53 @@ fn kernels_told(
     }
 }
 
+// The number and the text of the first line of a text that has a word and is no remark.
+fn first_line(text: &str) -> Option<(usize, &str)> {
+    for (place, line) in text.lines().enumerate() {
+        let line = line.trim();
+        if !line.is_empty() && !line.starts_with('#') {
+            return Some((place.saturating_add(1), line));
+        }
+    }
+    None
+}
+
+// What is told of a file that looks like a script, as its first line begins with a word that a script's lines begin with.
+fn script_told(alloc: Global, file: PolicyFile<'_>, text: &str) -> Result<String, AllocError> {
+    let Some((number, line)) = first_line(text) else {
+        return Ok(String::new(alloc));
+    };
+    let word = line.split(' ').next().unwrap_or(line);
+    if line.contains('=') || rows_of(alloc, word)?.is_empty() {
+        return Ok(String::new(alloc));
+    }
+    let name = file.name;
+    format!(in alloc;
+        "{name}: this looks like a script, as its line {number} begins with `{word}`: a policy is asked for here, and a script on standard input\n"
+    )
+}
+
+// What is told of a policy's first fault.
+fn fault_told(
+    alloc: Global,
+    file: PolicyFile<'_>,
+    fault: &PolicyFault,
+) -> Result<String, AllocError> {
+    let mut told = policy_fault(alloc, file.name, file.text, fault)?;
+    if fault.cause == PolicyCause::NotToml {
+        if let Ok(text) = std::str::from_utf8(file.text) {
+            told.push_str(script_told(alloc, file, text)?.as_str())?;
+        }
+    }
+    Ok(told)
+}
+
 /// What is told of a policy with a fault.
 pub fn policy_told(alloc: Global, file: PolicyFile<'_>) -> Result<String, AllocError> {
     match read_policy(alloc, file.text) {
         Ok(policy) => kernels_told(alloc, file, &policy),
         Err(ReadPolicyError::OutOfMemory) => Err(AllocError),
-        Err(ReadPolicyError::Fault(fault)) => policy_fault(alloc, file.name, file.text, &fault),
+        Err(ReadPolicyError::Fault(fault)) => fault_told(alloc, file, &fault),
     }
 }
 

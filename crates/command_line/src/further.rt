@@ -4,17 +4,20 @@ use crate::drawing::{Drawn, draw_explaining};
 use crate::explained_run::{Further, run_explaining};
 use crate::explaining::PolicyFile;
 use crate::perform::{read_file, unread};
+use crate::session::GREETING;
+use crate::terminal::{Beside, TerminalReader};
 use commands::{PolicyText, Span, Status, draw_policies, run_policies, run_strictly};
-use std::io;
+use std::io::{self, IsTerminal};
 
 /// How a script is run: with places for so many entries in the audit, up to the first line that isn't done, if it is
 /// strict, and with a text beside its replies that tells why, if it is explaining; or with a picture of these entries in
-/// place of its replies.
+/// place of its replies. In a session with a person it goes on behind a line of no form.
 #[derive(Clone, Copy)]
 pub struct Manner {
     pub places: usize,
     pub is_strict: bool,
     pub is_explaining: bool,
+    pub is_session: bool,
     pub drawn: Option<Span>,
 }
 
@@ -25,6 +28,7 @@ impl Manner {
             places,
             is_strict: false,
             is_explaining: false,
+            is_session: false,
             drawn: None,
         }
     }
@@ -35,6 +39,7 @@ impl Manner {
             places,
             is_strict: true,
             is_explaining: false,
+            is_session: false,
             drawn: None,
         }
     }
@@ -45,6 +50,7 @@ impl Manner {
             places,
             is_strict,
             is_explaining: true,
+            is_session: false,
             drawn: None,
         }
     }
@@ -55,6 +61,7 @@ impl Manner {
             places,
             is_strict: false,
             is_explaining,
+            is_session: false,
             drawn: Some(span),
         }
     }
@@ -122,7 +129,7 @@ fn run_over<R: io::Read>(
     manner: Manner,
     script: &mut R,
 ) -> Status {
-    if !manner.is_explaining {
+    if !manner.is_explaining && !manner.is_session {
         return run_plainly(rt, file.text, further.texts, manner, script);
     }
     if let Some(span) = manner.drawn {
@@ -181,8 +188,52 @@ fn run_behind(rt: &HostRuntime, file: PolicyFile<'_>, names: &[&str], manner: Ma
         texts: texts.as_slice(),
     };
     match read {
-        Ok(()) => run_over(rt, file, further, manner, &mut rt.stdin()),
+        Ok(()) => run_input(rt, file, further, manner),
         Err(error) => tell_unread(rt, file, further, manner, &error),
+    }
+}
+
+// What is written beside the lines of a script on standard input, where standard error is a terminal.
+fn beside(rt: &HostRuntime) -> Beside {
+    match (rt.stderr().is_terminal(), rt.stdin().is_terminal()) {
+        (false, _) => Beside::Nothing,
+        (true, false) => Beside::Count,
+        (true, true) => Beside::Prompt,
+    }
+}
+
+// Runs the script that a person types in, or one that is counted.
+fn run_beside(
+    rt: &HostRuntime,
+    file: PolicyFile<'_>,
+    further: Further<'_>,
+    manner: Manner,
+    beside: Beside,
+) -> Status {
+    let is_session = beside == Beside::Prompt && manner.drawn.is_none();
+    if is_session {
+        let _ = eprintln!(rt; "{GREETING}");
+    }
+    let manner = Manner {
+        is_session,
+        ..manner
+    };
+    let mut stdin = rt.stdin();
+    let mut err = rt.stderr();
+    let mut script = TerminalReader::new(rt.alloc(), &mut stdin, &mut err, beside);
+    run_over(rt, file, further, manner, &mut script)
+}
+
+// Runs the script on standard input over the policies in texts.
+fn run_input(
+    rt: &HostRuntime,
+    file: PolicyFile<'_>,
+    further: Further<'_>,
+    manner: Manner,
+) -> Status {
+    match beside(rt) {
+        Beside::Nothing => run_over(rt, file, further, manner, &mut rt.stdin()),
+        beside => run_beside(rt, file, further, manner, beside),
     }
 }
 

@@ -24,7 +24,9 @@ Lines that assemble reads beside these (docs/assemble.md):
   fill Q P ADDRESS length N with BYTE ..       copy Q P ADDRESS to ADDRESS length N ..
   add Q P N to ADDRESS ..                      all-of Q P SIGNAL.. ..       any-of Q P SIGNAL.. ..
 
-A file that is called - is standard input. On a terminal faults are explained unasked (--explain=never).
+Pages that help prints: brokerd help scripts, brokerd help policy, brokerd help kernels.
+A file that is called - is standard input. On a terminal faults are explained unasked (--explain=never), run prompts,
+goes on behind a line of no form, and knows help and help WORD.
 
 Names that explain tells:
   rules      L1 to L10, A1 to A7, B1

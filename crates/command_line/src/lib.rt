@@ -19,7 +19,9 @@ mod listing;
 mod meanings;
 mod perform;
 mod request;
+mod session;
 mod syntax;
+mod terminal;
 mod threads;
 mod writers;
 

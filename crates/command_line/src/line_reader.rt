@@ -4,6 +4,10 @@ ghost use Rattle.std.specs.Prelude.{◌≤◌};
 
 use script::LONGEST_LINE;
 use std::io;
+use std::io::Read;
+
+// The most reads that are made for what is left of a line.
+const MOST_READS: u64 = 1 << 40;
 
 // The most bytes of a read.
 const BLOCK: usize = 4096;
@@ -113,8 +117,8 @@ impl<'a, R: io::Read> LineReader<'a, R> {
     }
 }
 
-// A count, or a limit that it is above.
-fn at_most(count: usize, limit: usize) -> usize
+/// A count, or a limit that it is above.
+pub fn at_most(count: usize, limit: usize) -> usize
     ensures { result ≤ limit }
 {
     if count <= limit { count } else { limit }
@@ -125,5 +129,18 @@ impl<'a, R: io::Read> io::Read for LineReader<'a, R> {
         self.fill()?;
         let given = self.give(bytes);
         Ok(at_most(given, bytes.len()))
+    }
+}
+
+impl<'a, R: io::Read> LineReader<'a, R> {
+    /// Reads what is left of the line that was given last.
+    pub fn skip_line(&mut self) -> io::Result<()> {
+        let mut rest = [0; 256];
+        for _ in 0..MOST_READS {
+            if self.is_between || self.read(&mut rest)? == 0 {
+                return Ok(());
+            }
+        }
+        Ok(())
     }
 }

@@ -1,6 +1,6 @@
 //! Does what a command line asks.
 
-use crate::author::{assemble_input, explain, kernel};
+use crate::author::{assemble_input, explain, kernel, told};
 use crate::decoding::{MOST_DUMP, decode_digits, decode_slots};
 use crate::explaining::{PolicyFile, check_explaining};
 use crate::further::{Manner, run};
@@ -10,6 +10,7 @@ use crate::syntax::MOST_NEXT;
 use crate::threads::{AskedLoad, run_threads};
 use clap::Error;
 use commands::{Status, check_policy};
+use pages::Page;
 use policy::MOST_POLICY_BYTES;
 use std::fs::File;
 use std::io::{self, IsTerminal, Read};
@@ -137,7 +138,7 @@ fn list(rt: &HostRuntime, policy: &str, form: ListForm, explains: bool) -> Statu
 }
 
 // Tells the slots in a file.
-fn decode_file(rt: &HostRuntime, slots: &str) -> Status {
+fn decode_file(rt: &HostRuntime, slots: &str, explains: bool) -> Status {
     match read_most(rt, slots, MOST_DUMP) {
         Ok(dump) => decode_slots(
             rt.alloc(),
@@ -145,7 +146,7 @@ fn decode_file(rt: &HostRuntime, slots: &str) -> Status {
             &mut rt.stdout(),
             &mut rt.stderr(),
         ),
-        Err(error) => unread_policy(rt, slots, &error),
+        Err(error) => unread(rt, slots, explains, &error),
     }
 }
 
@@ -158,9 +159,9 @@ fn number_of(ended: Option<Status>) -> u8 {
 }
 
 // Tells the packet of some digits, or the slots in a file.
-fn decode(rt: &HostRuntime, slots: Option<&str>, digits: &[&str]) -> u8 {
+fn decode(rt: &HostRuntime, slots: Option<&str>, digits: &[&str], explains: bool) -> u8 {
     number_of(match slots {
-        Some(file) => Some(decode_file(rt, file)),
+        Some(file) => Some(decode_file(rt, file, explains)),
         None => decode_digits(rt.alloc(), digits, &mut rt.stdout(), &mut rt.stderr()),
     })
 }
@@ -193,6 +194,14 @@ fn run_load_of<R: Threads + Wait + Sync>(
             &mut rt.stderr(),
         ),
         Err(error) => unread(rt, policy, asked.explains, &error),
+    }
+}
+
+// Prints a page.
+fn print_page(rt: &HostRuntime, page: Page) -> Status {
+    match told(&mut rt.stdout(), page.text(), Status::Done) {
+        Status::Failed => failed(rt, "write fault"),
+        status => status,
     }
 }
 
@@ -230,7 +239,10 @@ fn perform_alone(rt: &HostRuntime, asked: &Asked<'_>) -> u8 {
         Request::Kernel { file, explains } => kernel(rt, file, explains).number(),
         Request::Assemble { policy, explains } => assemble_by(rt, policy, explains).number(),
         Request::Explain { word } => number_of(explain(rt, word)),
-        Request::Decode { slots } => decode(rt, slots, asked.further.as_slice()),
+        Request::Decode { slots, explains } => {
+            decode(rt, slots, asked.further.as_slice(), explains)
+        }
+        Request::Page { page } => print_page(rt, page).number(),
         _ => NOT_UNDERSTOOD,
     }
 }

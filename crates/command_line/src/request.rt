@@ -2,12 +2,13 @@
 
 use crate::listing::ListForm;
 use crate::syntax::{
-    ALWAYS, ASSEMBLE, AUDIT, CHECK, DECODE, DIGITS, EXPLAIN, FILE, FROM, JSON, KERNEL, LIST,
+    ALWAYS, ASSEMBLE, AUDIT, CHECK, DECODE, DIGITS, EXPLAIN, FILE, FROM, HELP, JSON, KERNEL, LIST,
     MOST_NEXT, NEXT, PICTURE, POLICY, PRODUCERS, RUN, SLOTS, STRICT, THREADS, TO, WORD, program,
 };
 use clap::error::ErrorKind;
 use clap::{ArgMatches, Error};
 use commands::Span;
+use pages::Page;
 use std::alloc::{AllocError, Global};
 
 /// How many entries an audit has place for, if the command line doesn't say.
@@ -74,6 +75,11 @@ pub enum Request<'a> {
     /// a ring.
     Decode {
         slots: Option<&'a str>,
+        explains: bool,
+    },
+    /// `help PAGE`: to print a page of the documentation.
+    Page {
+        page: Page,
     },
     /// `threads POLICY --producers N [--explain]`: to run the load of threads over the policy in this file, with so many
     /// producers a queue, 1 to 16, and, if it explains, to tell beside a fault or the report why.
@@ -220,6 +226,7 @@ fn request_of<'a>(command: &str, asked: &ArgMatches<'a>, unasked: bool) -> Optio
         }),
         DECODE => Some(Request::Decode {
             slots: asked.get_str(SLOTS),
+            explains: explains_in(asked, unasked),
         }),
         KERNEL => Some(Request::Kernel {
             file: asked.get_str(FILE)?,
@@ -261,6 +268,14 @@ fn asked_by<'a>(
     Ok(Asked { request, further })
 }
 
+// The page that is asked for, if one is: `help` of a command is told elsewhere.
+fn page_asked(words: &[String]) -> Option<Page> {
+    match (words.get(1), words.get(2), words.len()) {
+        (Some(command), Some(name), 3) if command.as_str() == HELP => Page::named(name.as_str()),
+        _ => None,
+    }
+}
+
 /// Reads the words of a command line, the program's own name first. Where they don't say whether faults are explained, they
 /// are if `unasked`.
 pub fn read_words<'a>(
@@ -268,6 +283,12 @@ pub fn read_words<'a>(
     words: &'a [String],
     unasked: bool,
 ) -> Result<Asked<'a>, Unread> {
+    if let Some(page) = page_asked(words) {
+        return Ok(Asked {
+            request: Request::Page { page },
+            further: Vec::new(alloc),
+        });
+    }
     let matches = program(alloc)?.try_get_matches_from(words)?;
     match matches.subcommand() {
         Some((command, asked)) => asked_by(alloc, command, asked, unasked),

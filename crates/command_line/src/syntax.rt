@@ -1,9 +1,12 @@
 //! The commands and arguments that the command line may have.
 
-use crate::help::{HELP, VERSION};
+use crate::help::{HELP as FURTHER_HELP, VERSION};
 use clap::builder::ValueParser;
 use clap::{Arg, ArgAction, Command, Error};
 use std::alloc::Global;
+
+/// The name of the command that tells how commands are written, or prints a page.
+pub const HELP: &str = "help";
 
 /// The name of the command that checks a policy.
 pub const CHECK: &str = "check";
@@ -265,7 +268,8 @@ fn decode_command<'a>(alloc: Global) -> Result<Command<'a>, Error> {
             "Tells a packet's 64 bytes field by field, and the first of L1 to L3 that they break",
         )
         .arg(packet_digits(alloc))?
-        .arg(slots_file(alloc))?;
+        .arg(slots_file(alloc))?
+        .arg(explaining(alloc))?;
     Ok(decode)
 }
 
@@ -294,7 +298,7 @@ fn with_check<'a>(alloc: Global) -> Result<Command<'a>, Error> {
     let program = Command::new(alloc, "brokerd")
         .about("A broker for user-mode queues")
         .version(VERSION)
-        .after_help(HELP)
+        .after_help(FURTHER_HELP)
         .subcommand_required(true)
         .subcommand(check)?;
     Ok(program)

@@ -2,6 +2,7 @@
 
 use command_line::{ListForm, Request, obey, read_words};
 use commands::Span;
+use pages::Page;
 use std::alloc::{AllocError, Global};
 use std::process::Abort;
 use std::sync::Wait;
@@ -100,7 +101,7 @@ fn a_command_is_asked_for_with_its_arguments(rt: HostRuntime) -> Result<(), Fail
 }
 
 #[test]
-fn a_list_and_digits_are_asked_for(rt: HostRuntime) -> Result<(), Fail> {
+fn a_list_a_page_and_digits_are_asked_for(rt: HostRuntime) -> Result<(), Fail> {
     let policy = "a.toml";
     let explains = false;
     let list = |form| {
@@ -113,9 +114,12 @@ fn a_list_and_digits_are_asked_for(rt: HostRuntime) -> Result<(), Fail> {
     check_request(&rt, "brokerd check a.toml --list", list(ListForm::Table))?;
     check_request(&rt, "brokerd check --json a.toml", list(ListForm::Json))?;
     let slots = Some("a.slots");
-    let decode = Some(Request::Decode { slots });
+    let decode = Some(Request::Decode { slots, explains });
     check_request(&rt, "brokerd decode --slots a.slots", decode)?;
-    check_further(&rt, "brokerd decode 00 01", Some("00 01 "))
+    check_further(&rt, "brokerd decode 00 01", Some("00 01 "))?;
+    let page = Some(Request::Page { page: Page::Policy });
+    check_request(&rt, "brokerd help policy", page)?;
+    check_request(&rt, "brokerd help policies", None)
 }
 
 /// What the words of a line ask for where faults are explained unasked.
@@ -178,7 +182,7 @@ fn sixteen_further_policies_are_the_most(rt: HostRuntime) -> Result<(), Fail> {
 }
 
 /// Command lines, and the exit status of each: 2 where it isn't understood, 3 where its policy can't be read.
-const STATUSES: [(&str, u8); 30] = [
+const STATUSES: [(&str, u8); 31] = [
     ("brokerd", 2),
     ("brokerd mend", 2),
     ("brokerd check", 2),
@@ -209,6 +213,7 @@ const STATUSES: [(&str, u8); 30] = [
     ("brokerd decode 00", 2),
     ("brokerd decode --slots nowhere.slots", 3),
     ("brokerd check --list nowhere.toml", 3),
+    ("brokerd help scripts", 0),
 ];
 
 fn status_of<R: Threads + Wait + Sync>(

@@ -1,0 +1,236 @@
+//! The page on how a kernel runs: docs/kernels.md, which `tests/pages.py --write` puts here.
+
+/// The page's text.
+pub const TEXT: &str = "# Running a kernel
+
+This page is for authors of kernels. It goes from a kernel's text to its writes in memory, and says at each step what may refuse it, and what helps. How a text is written is the matter of `docs/kernel_text.md`, what a policy is that of `docs/policy.md`, and how a packet is laid out that of `docs/aql_packets.md`.
+
+## From a text to a run
+
+1. **The text** stands in a `[[kernel]]` row of the policy, and `entry` names the kernel of it that packets launch. `brokerd check POLICY` reads and checks the texts of all rows in order, and names the first fault, as `kernel 1: check 3 line 4`. A module without a kernel of the entry's name is no fault of the check. `brokerd run` tells it, once there is no other, as `kernel 1: no entry`, before any reply, and ends with status 1.
+2. **The grants.** A packet launches only what its client was granted: `USE` on the agent, `LAUNCH` on the kernel, rights on regions, `CHANGE` on the completion signal.
+3. **The arguments** are written to memory as one block: each at the next multiple of its size, or of its `align`. The dispatch has the block's address (`kernarg_address`). An argument of 64 bits may be the address of memory that the kernel works on.
+4. **The launch** (`serve`). The launch rules below decide. The block is copied then: what is written there later the packet doesn't see.
+5. **The work-groups** (`run`) run one at a time, in the order of their places in the grid, with x fastest. The items of a group run in the order of their places, one after another, and see what those before wrote. A group that ends leaves all its writes at once, and is answered `ran G left N`. One that breaks a rule of access leaves none: `faulted ERROR`.
+6. **The completion** (`finish`). Where all groups ran the completion signal is decremented, and what the packet held can be revoked again.
+
+## A text alone
+
+`brokerd kernel FILE` reads and checks a kernel's text without a policy:
+
+```console
+$ brokerd kernel crates/cases/data/inc.hsail
+kernel &inc arguments 8 group 0 steps 9
+argument 0 u64 %p
+step 0 line 4 ld_kernarg_u64 $d0, [%p];
+step 1 line 5 workitemabsid_u32 $s0, 0;
+step 2 line 6 cvt_u64_u32 $d1, $s0;
+step 3 line 7 mul_u64 $d1, $d1, 4;
+step 4 line 8 add_u64 $d0, $d0, $d1;
+step 5 line 9 ld_global_u32 $s1, [$d0];
+step 6 line 10 add_u32 $s1, $s1, 1;
+step 7 line 11 st_global_u32 $s1, [$d0];
+step 8 line 12 ret;
+ok
+```
+For each kernel comes its line, with the bytes of its argument block and of its group variables and the number of its steps; then `argument OFFSET TYPE NAME` and `group OFFSET TYPE NAME` for its variables at their places; then its steps, counted from 0, each with its line and that line's text; and last `ok`. A fault goes to standard error, with the text of its line and a mark, and ends the command with status 1:
+```
+read 2 line 3 column 14: Syntax: no module goes on with this token
+  \tmov_b32 $s0,;
+  \t            ^
+```
+The reader knows the token, and it is marked. The check knows the line of an item: the whole line is marked, and the column is that of its first token. Bytes other than printing letters of ASCII and tabs are shown as `?`, so that a column is one letter. `brokerd explain WrongRegister` tells what a cause means.
+
+## The sample kernel, as typed
+
+`examples/increment.script`, over the sample policy, adds 1 to four numbers:
+
+```console
+$ (cd crates/brokerd && rt try -- run data/sample.toml) < examples/increment.script
+...
+9 take 1 0 launched
+10 run 1 0 group 0; write 0000000100000000 0200000003000000
+11 run 1 0 group 1; write 0000000100000008 0400000000000000
+12 finish 1 0; signal 1 1 0; release 1 0
+```
+
+After the grants and the queue stand, with their replies:
+
+```script over=crates/brokerd/data/sample.toml behind=examples/increment.script:6
+> write alice 0000000100000000 010000000200000003000000ffffffff
+ok
+> write alice 0000000200000000 0000000001000000
+ok
+> submit 1 1 02140100020001000100000004000000010000000100000000000000000000000100000000000000000000000200000000000000000000000100000000000000
+published 0
+> serve 1
+launched 0
+> revoke alice region buf WRITE
+refused 4 Busy queue 1 packet 0
+> run 1 0
+ran 0 left 1
+> run 1 0
+ran 1 left 0
+> finish 1 0
+ok
+> read alice 0000000100000000 16
+bytes 02000000030000000400000000000000
+```
+
+The packet's 64 bytes are those of `docs/aql_packets.md`, \"Kernel dispatch\":
+
+```
+bytes    0  02 14                    header: type 2, acquire and release scope 2
+         2  01 00                    setup: 1 dimension
+         4  02 00  01 00  01 00      a work-group has 2 work-items
+        10  00 00                    reserved
+        12  04 00 00 00              the grid has 4
+        16  01 00 00 00  01 00 00 00
+        24  00 00 00 00              private_segment_size
+        28  00 00 00 00              group_segment_size
+        32  01 00 00 00 00 00 00 00  kernel 1, `inc`
+        40  00 00 00 00 02 00 00 00  the argument block: address 0000000200000000, the start of `args`
+        48  00 00 00 00 00 00 00 00  reserved
+        56  01 00 00 00 00 00 00 00  completion signal 1, `done`
+```
+
+## Group memory, a barrier and an atomic operation
+
+This kernel adds up numbers, a total for each work-group. Its items share `%sum`, which begins as 0 for each group: each adds its number to it by an atomic operation and waits at the barrier; then the first item of the group stores what has come together. This policy has it, as `sums.toml`:
+
+```toml file=sums.toml
+client = [{ name = \"alice\" }]
+agent = [{ name = \"gpu\", takes = [\"kernel\"] }]
+region = [{ name = \"numbers\", length = 64 }, { name = \"totals\", length = 8 }, { name = \"args\", length = 16 }]
+signal = [{ name = \"done\", initial = 1 }]
+allow = [
+  { client = \"alice\", kind = \"agent\", object = \"gpu\", rights = [\"USE\"] },
+  { client = \"alice\", kind = \"region\", object = \"*\", rights = [\"READ\", \"WRITE\"] },
+  { client = \"alice\", kind = \"signal\", object = \"done\", rights = [\"CHANGE\"] },
+  { client = \"alice\", kind = \"kernel\", object = \"sums\", rights = [\"LAUNCH\"] },
+]
+
+[[kernel]]
+name = \"sums\"
+entry = \"&sums\"
+text = '''
+module &m:1:0:$base:$large:$default;
+prog kernel &sums(kernarg_u64 %numbers, kernarg_u64 %totals)
+{
+  group_u32 %sum;
+  ld_kernarg_u64 $d0, [%numbers];
+  workitemabsid_u64 $d1, 0;
+  mul_u64 $d1, $d1, 4;
+  add_u64 $d0, $d0, $d1;
+  ld_global_u32 $s0, [$d0];
+  atomicnoret_add_group_rlx_wg_u32 [%sum], $s0;
+  barrier;
+  workitemid_u32 $s1, 0;
+  cmp_ne_b1_u32 $c0, $s1, 0;
+  cbr_b1 $c0, @end;
+  ld_group_u32 $s2, [%sum];
+  ld_kernarg_u64 $d2, [%totals];
+  workgroupid_u32 $s3, 0;
+  cvt_u64_u32 $d3, $s3;
+  mul_u64 $d3, $d3, 4;
+  add_u64 $d2, $d2, $d3;
+  st_global_u32 $s2, [$d2];
+@end:
+  ret;
+};
+'''
+```
+
+Six numbers, two work-groups of three items. The group variable takes four bytes, and the packet has to give at least so many (`group_segment_size`, bytes 28 to 31): the first packet gives none, and is denied by rule L7.
+
+```script over=sums.toml
+> grant alice agent gpu USE
+ok
+> grant alice region numbers READ
+ok
+> grant alice region totals READ,WRITE
+ok
+> grant alice region args READ,WRITE
+ok
+> grant alice kernel sums LAUNCH
+ok
+> grant alice signal done CHANGE
+ok
+> grant alice region numbers WRITE
+ok
+> write alice 0000000100000000 010000000200000003000000040000000500000006000000
+ok
+> write alice 0000000300000000 00000000010000000000000002000000
+ok
+> queue alice gpu 2 1
+queue 1
+> submit 1 1 02140100030001000100000006000000010000000100000000000000000000000100000000000000000000000300000000000000000000000100000000000000
+published 0
+> serve 1
+denied queue 1 packet 0 rule L7
+> queue alice gpu 2 1
+queue 2
+> submit 2 1 02140100030001000100000006000000010000000100000000000000040000000100000000000000000000000300000000000000000000000100000000000000
+published 0
+> serve 2
+launched 0
+> run 2 0
+ran 0 left 1
+> run 2 0
+ran 1 left 0
+> finish 2 0
+ok
+> read alice 0000000200000000 8
+bytes 060000000f000000
+```
+
+1, 2 and 3 make 6; 4, 5 and 6 make 15. Without the barrier the first item would store what it alone had added, 1 and 4: items take their turns one after the other.
+
+At a barrier an item waits until every item of its group waits at the same one. Where some ended before it, or wait at another, no item can go on, and the least that waits breaks rule A6 at its barrier's line. So a branch around the barrier, as `cbr_b1 $c0, @end;` in front of it, would end the whole group.
+
+## What a launch wants
+
+A kernel dispatch is denied by the first of these rules that fails (L1 to L3 are those of its bytes). A denial stops its queue: `denied queue 1 packet 0 rule L6`. What counts is what is in force when the packet is taken, not when it was published.
+
+| Rule | Wants | What helps |
+|---|---|---|
+| L4 | `USE` on the queue's agent, which takes kernel dispatches | `grant alice agent gpu USE`; `\"kernel\"` in the agent's `takes` in the policy |
+| L5 | 1 to 3 dimensions; each size at least 1; a work-group and a grid of 1 in dimensions that aren't used; no grid smaller than its work-group; at most 1,024 work-items in a work-group, and at most 2^32 - 1 work-groups | another packet |
+| L6 | `LAUNCH` on the kernel. A number that no kernel has fails in the same way | `grant alice kernel inc LAUNCH` |
+| L7 | a `group_segment_size` of at least the bytes of the kernel's group variables, and at most 65,536; a `private_segment_size` of at most 65,536, which has no effect | another packet |
+| L8 | the argument block lies whole in one region, with `READ`. A kernel without arguments wants nothing here, whatever the address | `grant alice region args READ`; another `kernarg_address` |
+| L10 | `CHANGE` on the completion signal, unless it is 0 | `grant alice signal done CHANGE` |
+
+The block is as long as the end of the last argument; no alignment of its address is asked.
+
+## What a packet in flight holds
+
+From its launch until it is released a kernel dispatch holds `USE` on its agent, `LAUNCH` on its kernel, `CHANGE` on its completion signal, and **all rights that were in force at its launch on each region in which one of its arguments of 64 bits points**. None of these can be revoked meanwhile (`refused 4 Busy queue 1 packet 0`). So the work-groups run on rights that are in force.
+
+- An argument points in a region where its number is the address of one of the region's bytes. What else the number may mean doesn't matter.
+- A region on which no right was in force at the launch is not held, and one that no argument points in isn't either, whatever rights there are. Arguments of 8, 16 and 32 bits hold nothing.
+- The argument block's own region isn't held by it. It can be revoked and overwritten after the launch.
+- A right that is granted after the launch is of no use to the packet.
+
+## What an access wants
+
+Each load and each store of global memory is judged by these rules, in this order. An address is wrapped at 2^64 first.
+
+| Rule | Wants | What helps |
+|---|---|---|
+| A1 | the first byte lies in a region that the packet holds | an argument of 64 bits that points in that region, and a right on it in force at the launch |
+| A2 | the right is held: `READ` for a load, `WRITE` for a store | `grant alice region buf READ,WRITE` before the launch |
+| A3 | the access ends inside that region | a smaller grid, or a test in the kernel: the grid's size need not be a multiple of the work-group's, and the last group has then fewer items |
+| A4 | an atomic operation's address is a multiple of its size | another address |
+| A5 | a work-item takes at most 65,536 instructions. `ret` is one, reaching the closing brace isn't | a loop that ends, or more work-items |
+
+An atomic operation is both a load and a store: it needs both rights. Group memory knows two rules of its own: A7, that an access ends inside the packet's `group_segment_size`, and A4 likewise. A6 is that of barriers, below.
+
+A work-item that breaks one ends its whole work-group: none of the group's writes is made, the packet is released, and its queue has an error and launches nothing more. The error says where, as `queue 1 packet 0 rule A3 group 1 item 1 line 9`: the group's number, the item's in it with x fastest, both from 0, and the line of the text; `--explain` tells the address too (`docs/explaining.md`). The writes of groups before stay, the completion signal isn't touched, and other packets of the queue that are in flight go on.
+
+In the example, with `3100000001000000` as the argument (byte 49 of `buf`, which has 64) the first group runs, and the second is told just that error: its second item loads the four bytes from byte 61 on, and the last one is past the end. After `revoke alice region buf WRITE` before the launch, the first item's store is rule A2 on line 11. With an argument of 0 its load is rule A1 on line 9.
+
+## Where this is tried
+
+`crates/cases/data` has each of these rules at both sides of its bounds: `kernel_launches.case`, `kernel_holds.case`, `access_rules.case`; barriers, group memory and atomic operations in `work_groups.case`, `work_group_faults.case`, `group_segments.case` and `atomics_32.case`; runs with their audits in `kernel_runs.case`; and what each instruction leaves, at each of its types, in `pairs_32.case` and the files after it.
+";

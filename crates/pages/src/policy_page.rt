@@ -1,0 +1,246 @@
+//! The page on policies: docs/policy.md, which `tests/pages.py --write` puts here.
+
+/// The page's text.
+pub const TEXT: &str = "# Writing a policy
+
+A policy says what exists in a broker, and which rights may be granted to whom. It grants nothing by itself: a right is in force only once it was granted (`grant ..` in a script), and a grant is made only where allow rows of the policy cover each of its rights and no deny row covers one. This page is for the administrator who writes the file.
+
+The sample policy, `crates/brokerd/data/sample.toml`, is the running example. To check a policy:
+
+```
+(cd crates/brokerd && out/brokerd check data/sample.toml)
+```
+
+prints
+
+```
+clients 2
+agents 1
+regions 2
+signals 2
+kernels 2
+allows 6
+ok
+```
+
+`brokerd run POLICY [NEXT..] [--audit N]` opens a broker with a policy, reads a script from standard input and writes its replies. N is how many entries the audit has room for: 1 to 1,048,576, and 65,536 if it is absent. NEXT are the files of at most 16 further policies, which the script may put in force (\"Another policy for a broker that runs\", below).
+
+`brokerd check POLICY --list` lists in place of the counts what a policy without a fault declares, with the numbers that packets and audits use, and the rights that its rows allow each client; `--json` writes the same for programs, on one line ([its members](json.md)):
+```console
+$ brokerd check crates/brokerd/data/sample.toml --list
+KIND    NUMBER  NAME
+client  1       alice
+client  2       bob
+agent   1       gpu    takes kernel,agent
+region  1       buf    0000000100000000, 64 bytes
+region  2       args   0000000200000000, 16 bytes
+signal  1       done   begins at 1
+signal  2       go     begins at 1
+kernel  1       inc    &inc
+kernel  2       spin   &spin
+
+CLIENT  KIND    NUMBER  NAME   RIGHTS
+alice   agent   1       gpu    USE
+alice   region  1       buf    READ,WRITE
+alice   region  2       args   READ,WRITE
+alice   signal  1       done   WAIT,CHANGE
+alice   signal  2       go     WAIT,CHANGE
+alice   kernel  1       inc    LAUNCH
+alice   kernel  2       spin   LAUNCH
+bob     agent   1       gpu    USE
+bob     region  1       buf    READ
+```
+
+## The file
+
+A policy is a TOML file of at most 1,048,576 bytes. It may begin with `version = 1` or `version = 2`; without it the version is 1. All else is in arrays of tables, each of which may be absent or empty: six of them, and in version 2 a seventh, `deny`. Numbers count from 1 in the order of the rows, for clients and for each kind of object; packets, scripts and audits use these numbers.
+
+| Array | Rows at most | Keys of a row |
+|---|---|---|
+| `[[client]]` | 64 | `name` |
+| `[[agent]]` | 16 | `name`; `takes`: an array of `\"kernel\"` and `\"agent\"`, the dispatches that it takes (barrier packets are taken by all) |
+| `[[region]]` | 64 | `name`; `length` in bytes, 1 to 16,777,216; all regions together at most 67,108,864 |
+| `[[signal]]` | 1,024 | `name`; `initial`, the number with which it begins |
+| `[[kernel]]` | 64 | `name`; `entry`, the kernel's name in the module, beginning with `&`; `text`, the module |
+| `[[allow]]` | 4,096 | `client`, a name or `\"*\"`; `kind`, one of `\"agent\"`, `\"region\"`, `\"signal\"`, `\"kernel\"`; `object`, a name or `\"*\"`; `rights`, an array |
+| `[[deny]]`, in version 2 alone | 4,096 | those of `[[allow]]` |
+
+A name is 1 to 64 ASCII letters, digits, `_` or `-`, and no two rows of an array share one. Each key has to be there, and no other key may be. Region h covers the addresses from `h * 2^32`: in the sample `buf` is region 1, and its first byte has the address `0000000100000000`.
+
+## Rights
+
+| Right | On | Permits |
+|---|---|---|
+| `USE` | agent | to open queues on the agent, and to have packets of these queues launched |
+| `READ` | region | to read it: by the host, as the source of a COPY, for ADD64, as a kernel's argument block, and by a kernel's loads |
+| `WRITE` | region | to write it: by the host, by FILL, COPY and ADD64, for their results, and by a kernel's stores |
+| `WAIT` | signal | to load and test it, and to wait on it by barrier packets |
+| `CHANGE` | signal | to change it, and to name it as a packet's completion signal |
+| `LAUNCH` | kernel | to launch it by kernel dispatches (`docs/kernels.md`) |
+
+An allow row covers a right where its `client` is the client or `\"*\"`, its `kind` and `object` are the object's (or `\"*\"`, all objects of the kind), and its `rights` have the right. Rows only add to each other, and their order doesn't matter. In the sample, alice may be granted everything, and bob only `USE` on `gpu` and `READ` on `buf`:
+
+```
+[[allow]]
+client = \"alice\"
+kind = \"region\"
+object = \"*\"
+rights = [\"READ\", \"WRITE\"]
+
+[[allow]]
+client = \"bob\"
+kind = \"region\"
+object = \"buf\"
+rights = [\"READ\"]
+```
+
+So `grant bob region buf READ` is answered `ok`, and `grant bob region buf WRITE` is `refused 5 NotAllowed`.
+
+### Deny rows
+
+A policy of version 2 may also say what isn't allowed. A deny row covers rights as an allow row does, and what a deny row covers isn't allowed, whatever allow rows say and wherever they stand. So everybody may be allowed to read and write all regions, but nobody to write `args`:
+
+```
+version = 2
+
+[[allow]]
+client = \"*\"
+kind = \"region\"
+object = \"*\"
+rights = [\"READ\", \"WRITE\"]
+
+[[deny]]
+client = \"*\"
+kind = \"region\"
+object = \"args\"
+rights = [\"WRITE\"]
+```
+
+Then `grant alice region buf READ,WRITE` is answered `ok`, `grant alice region args READ` too, and `grant alice region args READ,WRITE` is `refused 5 NotAllowed`. In a file of version 1 the array isn't known: `policy: 3 BadValue`. `brokerd check` counts deny rows in files of version 2 alone, in a line `denies N` after `allows N`.
+
+### Another policy for a broker that runs
+
+What may be granted can be changed while a broker runs, and what may exist can't. The line `reload N` of a script hands in the N-th of the further policies that the command line names. To take from bob what the sample allows him on `buf`, write the sample once more, with `version = 2` first and a deny row last:
+
+```toml file=deny.toml
+[[deny]]
+client = \"bob\"
+kind = \"region\"
+object = \"buf\"
+rights = [\"READ\"]
+```
+```text file=reload.script
+grant bob region buf READ
+reload 1
+list bob
+grant bob region buf READ
+audit
+```
+```console
+$ (echo 'version = 2'; cat crates/brokerd/data/sample.toml deny.toml) > next.toml
+$ brokerd run crates/brokerd/data/sample.toml next.toml < reload.script
+ok
+ok
+list 0
+refused 5 NotAllowed
+audit 2
+1 grant bob region 1 READ
+2 reload
+```
+
+From the reload on the new rows decide: each right in force that they don't allow is taken, from every client, and each grant is asked of them. What the rows before didn't allow and these do may be granted from then on, and nothing is granted by itself: a right that one reload took doesn't come back with the next. A reload is refused, and changes nothing:
+
+- `refused 16 OtherObjects`, where the policy doesn't declare the same clients and objects, in the same order and with the same keys: a region of another length, a kernel with a blank more in its text. Only the order in `takes` may be another. Versions and rows aren't compared.
+- `refused 4 Busy queue Q packet ID`, where a packet in flight holds a right that the rows don't allow: the one named has the least queue and id of all clients' packets. Bring it to its end, then reload.
+- `refused 10 AuditFull`, as every call that leaves an entry; `refused 0 OutOfMemory`, where there is no memory for the copy of the policy.
+
+A client whose `USE` on an agent was cut keeps its queues: they stay open, and each packet that is taken from then on is denied by rule L4, the first that is denied stopping its queue. So it goes with every right: a launched packet holds what it needs until it is released, and a packet that waits in a ring is judged by what is in force when it is taken.
+
+Each further policy is read in full before the script begins, in the order of the files and after all faults of the first policy and its kernels. Its first fault is told as that of any policy; `brokerd check` on the file tells the same. The texts of its kernels aren't read, since a policy with another text is refused.
+
+Give each client the least that its packets need. A right that a packet in flight holds can't be revoked until the packet is released: `refused 4 Busy queue Q packet ID` names the packet to wait for.
+
+## When a packet is denied
+
+A denied packet stops its queue, and the error names the first rule that failed: `queue 1 packet 0 rule L8`. For these rules a grant, or something that the policy declares, is missing. A grant has to be in force when the packet is taken.
+
+| Rule | What is missing | With the sample |
+|---|---|---|
+| L4 | `USE` on the queue's agent, or the agent doesn't take this kind of dispatch (its key `takes`) | `grant alice agent gpu USE` |
+| L5 | an agent dispatch names a function that agents have: FILL, COPY or ADD64 (`docs/aql_packets.md`); a kernel dispatch has dimensions and sizes that may be (`docs/kernels.md`). No grant helps | |
+| L6 | `LAUNCH` on the kernel | `grant alice kernel inc LAUNCH` |
+| L7 | the segments of a kernel dispatch: at least as much group memory as its kernel's variables take, and at most 65,536 bytes each. No grant helps | |
+| L8 | for an agent dispatch, the rights on each of its ranges: FILL `WRITE` on its target, COPY `READ` on its source and `WRITE` on its target, ADD64 `READ` and `WRITE`, and `WRITE` on the return address. A range that leaves its region fails here too. For a kernel dispatch, `READ` on the region in which its argument block lies | `grant alice region buf READ,WRITE` for a FILL of `buf` whose client reads it afterwards; `grant alice region args READ` for arguments in `args` |
+| L9 | `WAIT` on a dependency of a barrier packet | `grant alice signal go WAIT` |
+| L10 | `CHANGE` on the completion signal | `grant alice signal done CHANGE` |
+
+L1 to L3 are rules of a packet's layout. What a kernel then may touch is judged at each of its loads and stores: an error with a rule A1, A2, A3 or A5 names the group, the item and the line, and `docs/kernels.md` says what helps.
+
+An object that isn't declared fails the same rule as one without a grant. Where a grant is answered `refused 5 NotAllowed`, the policy itself has to be widened by an allow row, or a deny row has to go; `refused 13 UnknownObject` and `refused 1 UnknownClient` say that a name isn't declared.
+
+## What a refusal means
+A refused call changes nothing. Whoever makes it meets one of these numbers; they are tried in the order that each call's page gives, 10 always last.
+
+| Refusal | Who meets it | What it means, and what helps |
+|---|---|---|
+| 0 OutOfMemory | an opening, a reservation (`reserve`, `submit`), a launch, a group, a client's write, a reload, and a query that is answered by a list; of these only the line `reload` also where it is refused otherwise, since the policy is copied first | memory was wanted and not to be had; the same call later counts as the first |
+| 1 UnknownClient | all calls of a client or about one | the policy declares no client of this name or number |
+| 2 UnknownQueue | calls about a queue | no queue of this number was opened |
+| 3 Denied RIGHT | `queue`, `write`, `read`, `signal`, `load`, `test` | the client lacks this right on the agent, region or signal, which may not exist, or the range leaves its region: a grant helps |
+| 4 Busy queue Q packet ID | `revoke`, `reload` | this packet in flight holds a right that is to be taken: finish it, then revoke or reload |
+| 5 NotAllowed | `grant` | no allow row of the policy covers one of the rights, or a deny row covers it: the policy has to be widened |
+| 6 OutOfStep N | the packet processor's hand-over | the queue's next packet is N |
+| 7 QueueDown | `serve`, `stop` | the queue has an error or was stopped and launches nothing more; open another. For `stop`: it was stopped before |
+| 8 NotInFlight | `run`, `poll`, `finish` | no packet in flight has this id, or it is of a kind that the call doesn't take |
+| 9 NotFinished | `finish` | the packet has groups to run, or its barrier isn't ready |
+| 10 AuditFull | every call that would leave an entry | the audit has no room beside what packets in flight will need: finish them, or open the broker with more |
+| 11 BadSize | `queue`, `write`, `read` | a queue's size is a power of two from 2 to 4,096 with 1 to 16 producers; a client reads or writes 1 to 65,536 bytes in one call |
+| 12 TooMany | `queue` | 64 queues were opened |
+| 13 UnknownObject | `grant`, `revoke` | the policy declares no object of this name or number |
+| 14 NotAStep | `submit` | the ring has no producer of this number |
+| 15 Spent | `submit` | the producer has reserved 2^40 ids; the ring's others may go on |
+| 16 OtherObjects | `reload` | the further policy declares other clients or objects than the first, or one of them with another key: only rows on rights may change |
+
+## When a policy is refused
+
+`brokerd` writes the first fault to standard error, as `policy: N NAME KIND ROW`, and ends with status 1. KIND is the array and ROW the row, from 1; row 0 is the array as a whole. Faults before the arrays have neither.
+
+| Fault | Means |
+|---|---|
+| 1 NotToml | the file isn't UTF-8 text in TOML; numbers past 64 bits are refused so too |
+| 2 MissingKey | a row lacks a key |
+| 3 BadValue | a key that isn't known (as `deny` in version 1), a value that isn't right for its key, another version, or an array that isn't one of tables |
+| 4 UnknownName | an allow or deny row names a client or an object that isn't declared |
+| 5 DoubleName | a row has the name of an earlier row of its array |
+| 6 TooMany | the file is too long, an array has too many rows, or the regions are too long together (region, row 0) |
+
+They are looked for in this order: the length of the file, its form, its version and keys, and then the arrays in the order of the table above, row by row. In a row, unknown keys come first, then each key in the table's order, then the name. So the sample with a further allow row for the object `nosuch` is refused with `policy: 4 UnknownName allow 7`.
+
+The kernels' texts are read and checked after the policy itself, in order; the first that fails is named, as `kernel 1: check 3 line 4` (`docs/kernel_text.md`). `brokerd run` needs more than `brokerd check`: each module has to have a kernel of its entry's name. The first that has none is named as `kernel 1: no entry`, after all other faults and before any reply.
+
+## What reading and asking cost
+
+None of this is proved; it is what the code in `crates/policy/src` does.
+
+**Reading** (`read_policy`) is done once, before the first reply. A file over 2^20 bytes is refused by its length alone, before a byte of it is looked at. Else the bytes are checked to be UTF-8 and parsed once into a tree, in which each table keeps its keys in order. Then each array is gone through once, in the order of the table above:
+
+- How many rows there are is seen before the first row is read.
+- A row costs one look at each of its keys, to find unknown ones, and one search of its tree for each key that it has to have.
+- A name is looked up among the earlier rows of its array, by its hash. A name in an allow or deny row is looked up in the same way among the clients or the objects of its kind.
+- Names, entries and kernel texts are copied out of the tree, and an allow or deny row becomes a few numbers.
+
+Reading stops at the first fault. The tree lives until `read_policy` returns, so at most the file, its tree and the policy are in memory together. Kernel texts are kept as they are; they are read and checked later, once each, before the first reply.
+
+**Asking** takes no memory.
+
+| Question | Cost |
+|---|---|
+| the number of a name (`client_named`, `object_named`) | one hash of the name, and a comparison with each name of that hash: one, unless names collide |
+| what has a number (`client_name`, `object_name`, `takes`, `region_length`, `signal_initial`, `kernel_source`), how many there are, and whether it is declared | one step: a number less 1 is the place of the row |
+| whether rights are allowed (`allows`) | one walk over all allow rows and one over all deny rows, 4,096 each at most, which join the rights of those that cover the client and the object, and then one look at each of the six rights |
+| whether another policy declares the same clients and objects (`declares_as`) | one comparison of all names and of what the rows hold, kernel texts among them |
+
+A grant asks whether rights are allowed, and nothing that a packet does: a launch looks at the rights in force. A wildcard row costs no more than another, so a policy for many clients is best kept short with `\"*\"`.
+
+The hash has a fixed seed. Somebody who picks the names can therefore make them collide, and a look-up then compares with each of them, of which there are 1,024 at most.
+";

@@ -1,0 +1,179 @@
+#!/usr/bin/env python3
+"""What a person at a terminal is told beside what a program is: terminal.py PROGRAM
+
+Streams are terminals by Python's `pty`, each of its own, or pipes.
+"""
+import os
+import pty
+import subprocess
+import sys
+import tempfile
+import threading
+
+import pages
+from trial import FILL, SAMPLE, TOP, Ended, Trials, run, text
+
+KERNEL_TEXT = f"{TOP}/crates/cases/data/inc.hsail"
+DENIED = text(["grant alice agent gpu USE", "queue alice gpu 2 1", f"submit 1 1 {FILL}", "serve 1"])
+REPLIES = b"ok\nqueue 1\npublished 0\ndenied queue 1 packet 0 rule L8\n"
+
+
+def drained(end, into):
+    """Reads an end until nobody writes there any more."""
+    while True:
+        try:
+            some = os.read(end, 65536)
+        except OSError:
+            some = b""
+        if not some:
+            break
+        into.append(some)
+    os.close(end)
+
+
+def at_terminal(words, given=b"", typed=False, out=False, err=True):
+    """Runs a program whose streams are terminals, or pipes. The end of what is typed is the key for it."""
+    ends, parts, threads = [], [], []
+    for is_terminal in (typed, out, err):
+        ends.append(pty.openpty() if is_terminal else os.pipe())
+    stdin = (ends[0][1], ends[0][0]) if typed else ends[0]
+    streams = [stdin[0], ends[1][1], ends[2][1]]
+    child = subprocess.Popen(words, stdin=streams[0], stdout=streams[1], stderr=streams[2])
+    for stream in streams:
+        os.close(stream)
+    for end in (ends[1][0], ends[2][0]):
+        parts.append([])
+        threads.append(threading.Thread(target=drained, args=(end, parts[-1])))
+        threads[-1].start()
+    feed = stdin[1]
+    try:
+        sent = given + b"\x04" if typed else given
+        while sent:
+            sent = sent[os.write(feed, sent) :]
+    except BrokenPipeError:
+        pass
+    if not typed:
+        os.close(feed)
+    try:
+        status = child.wait(60)
+    except subprocess.TimeoutExpired:
+        child.kill()
+        status = "none: it did not end"
+    for it in threads:
+        it.join()
+    if typed:
+        os.close(feed)
+    return Ended(status, *(b"".join(it).replace(b"\r\n", b"\n") for it in parts))
+
+
+def has(ended, status, out, told, untold=()):
+    """What is wrong with how a run ended: its status, its replies, and what its errors tell."""
+    if ended.status != status or (out is not None and ended.out != out):
+        return f"it ended otherwise: {ended}"
+    missing = [it for it in told if it.encode() not in ended.err]
+    beside = [it for it in untold if it.encode() in ended.err]
+    return f"{missing} missing, {beside} beside: {ended}" if missing or beside else None
+
+
+def explained(trials, program, room):
+    """Where standard error is a terminal, faults are explained unasked."""
+    files = {"wrong.toml": b"[[client]]\nname = 1\n", "a.script": b"# a script\n\ngrant alice agent gpu USE\n", "not.toml": b"= 1\n", "wrong.hsail": b"module"}
+    for name, given in files.items():
+        with open(f"{room}/{name}", "wb") as it:
+            it.write(given)
+    wrong, script, absent, other = (f"{room}/{it}" for it in ("wrong.toml", "a.script", "nothing", "not.toml"))
+    why = [f"{wrong}, line 2"]
+    looks = [f"{script}: this looks like a script, as its line 3 begins with `grant`"]
+    rows = [
+        (["run", SAMPLE], DENIED, 0, ["alice has no WRITE on region buf", "grant alice region buf WRITE"]),
+        (["run", SAMPLE], b"nonsense\n", 1, ["line 1: bad request", "line 1: `nonsense` is no word that a line begins with"]),
+        (["picture", SAMPLE], b"\ngrant alice\n", 1, ["line 2: bad request", "line 2: the form is `grant CLIENT KIND NAME RIGHT,RIGHT`"]),
+        *(([*it, wrong], b"", 1, ["policy: 3 BadValue client 1", *why]) for it in (["check"], ["check", "--list"], ["run"], ["run", "--strict"], ["picture"], ["assemble"])),
+        (["threads", wrong, "--producers", "1"], b"", 1, why),
+        *(([it, SAMPLE, SAMPLE, wrong], b"", 1, why) for it in ("run", "picture")),
+        *(([*it, script], b"", 1, ["policy: 1 NotToml", *looks]) for it in (["check"], ["run"], ["picture"], ["assemble"])),
+        *(([*it, absent], b"", 3, ["read fault", f"{absent}: there is no such file"]) for it in (["check"], ["check", "--json"], ["run"], ["picture"], ["assemble"], ["kernel"], ["decode", "--slots"], ["threads", "--producers", "1"], ["run", SAMPLE])),
+        *(([*it, room], b"", 3, ["read fault", f"{room}: it is a directory"]) for it in (["check"], ["run"], ["picture"], ["assemble"], ["kernel"], ["run", SAMPLE])),
+    ]
+    told = lambda it: has(at_terminal([program, *it[0]], it[1]), it[2], None, it[3])
+    trials.every("a fault is explained on a terminal", told, rows)
+    asked = lambda it: has(run([program, it[0][0], "--explain=always", *it[0][1:]], it[1]), it[2], None, it[3])
+    trials.every("and elsewhere where that is asked for", asked, rows)
+
+    def never(it):
+        """What is told then is just what is told without a terminal and without an option, but that a load runs."""
+        ended = at_terminal([program, it[0][0], "--explain=never", *it[0][1:]], it[1])
+        ended.err = ended.err.removeprefix(b"running, with 1 producers a queue\n")
+        return None if ended == run([program, *it[0]], it[1]) else f"it tells otherwise: {ended}"
+
+    trials.every("never is never", never, rows)
+    trials.every("TOML with a fault is no script", lambda it: has(at_terminal([program, "check", it]), 1, b"", ["policy: 1 NotToml"], ["looks like"]), [other])
+    same = lambda it: None if at_terminal([program, *it], DENIED).out == run([program, *it], DENIED).out == REPLIES else "the replies differ"
+    trials.every("replies are the same on a terminal", same, [["run", SAMPLE], ["run", "--explain", SAMPLE]])
+    wrong_words = lambda it: None if (ended := run([program, "run", SAMPLE, it])).status == 2 and not ended.out else f"{ended}"
+    trials.every("another word for --explain ends with 2", wrong_words, ["--explain=yes", "--explain=", "--explain=Always"])
+
+
+def sessions(trials, program):
+    """Where standard input is a terminal too, a person is prompted, and a bad line ends nothing."""
+    forms = pages.first_rows("scripts")
+    row = lambda verb: [cell.strip() for cells in forms[verb] for cell in cells]
+
+    def session(it):
+        given, words, status, out, told, untold = it
+        ended = at_terminal([program, "run", SAMPLE, *words], text(given), typed=True)
+        prompts = ended.err.count(b"> ")
+        wanted = len(given) + 1
+        return has(ended, status, out, told, untold) or (None if "--strict" in words or prompts == wanted else f"{prompts} prompts, and not {wanted}: {ended}")
+
+    rows = [
+        ([], [], 0, b"", ["help"], ["bad request"]),
+        (["list alice", "grant alice agent gpu USE"], [], 0, b"list 0\nok\n", [], ["bad request"]),
+        (["list alice", "nonsense", "list bob", "grant alice"], [], 1, b"list 0\nlist 0\n",
+         ["line 2: bad request", "line 2: `nonsense` is no word", "line 4: bad request", "line 4: it has 2 words"], []),
+        (["nonsense", "list bob"], ["--explain=never"], 1, b"list 0\n", ["line 1: bad request"], ["is no word"]),
+        (["help grant", "help serve", "list bob"], [], 0, b"list 0\n", [*row("grant"), *row("serve")], ["bad request"]),
+        (["help L8", "help AuditFull"], [], 0, b"", ["rule L8:", "refused 10 AuditFull:"], []),
+        (["help"], [], 0, b"", [cells[0].strip("`") .split(" ")[0] for verb, (cells, *_) in forms.items() if verb in ("grant", "serve", "reload", "audit")], ["bad request"]),
+        (["help mend", "helper"], [], 1, b"", ["nothing is called `mend`", "line 2: bad request"], ["line 1: bad request"]),
+        (["load alice done", "x", "list bob"], ["--strict"], 1, b"refused 3 Denied WAIT\n", ["alice has no WAIT"], ["bad request"]),
+        (["x", "list bob"], ["--strict"], 1, b"", ["line 1: bad request"], []),
+        ([*DENIED.decode().splitlines(), "y"], [], 1, REPLIES, ["line 4: alice has no WRITE", "line 5: bad request"], []),
+    ]
+    trials.every("a person is prompted, helped, and goes on behind a bad line", session, rows)
+    piped = lambda it: None if (ended := at_terminal([program, "run", SAMPLE], it, typed=True, err=False)) == Ended(1, b"list 0\n", b"line 2: bad request\n") else f"{ended}"
+    trials.every("where standard error is no terminal nothing is added", piped, [b"list bob\nhelp\nlist bob\n"])
+
+
+def counts(trials, program):
+    """A long script is counted on a terminal, and nowhere else."""
+
+    def counted(it):
+        words, lines, told = it
+        ended = at_terminal([program, *words], b"# a remark\n" * lines)
+        found = [int(part.split(b" ")[0]) for part in ended.err.split(b"\r") if part.endswith(b" lines")]
+        wanted = told and sorted(found) == found and len(found) == told and all(number >= 10_000 * place for place, number in enumerate(found, 1))
+        return None if ended.status == 0 and (wanted or not told and not ended.err) else f"{found}: {ended}"
+
+    rows = [(words, lines, lines // 10_000) for words in (["run", SAMPLE], ["run", SAMPLE, "--explain=never"], ["picture", SAMPLE]) for lines in (0, 9_999, 10_500, 35_000)]
+    trials.every("a script of over ten thousand lines is counted", counted, rows)
+    silent = lambda it: None if run([program, "run", SAMPLE], b"#\n" * it) == Ended(0, b"", b"") else "it tells something"
+    trials.every("where standard error is no terminal it isn't", silent, [35_000])
+
+
+def main(program):
+    trials = Trials("terminal")
+    with tempfile.TemporaryDirectory(prefix="terminal-") as room:
+        explained(trials, program, room)
+    sessions(trials, program)
+    counts(trials, program)
+    listed = lambda it: None if (ended := run([program, "kernel", "-"], it)) == run([program, "kernel", KERNEL_TEXT]) and ended.status == 0 else f"{ended}"
+    with open(KERNEL_TEXT, "rb") as it:
+        trials.every("a kernel's text on standard input", listed, [it.read()])
+    with open(SAMPLE, "rb") as it:
+        trials.every("a policy on standard input, and no script", lambda given: None if run([program, "run", "-"], given) == Ended(0, b"", b"") else "it ended otherwise", [it.read()])
+    trials.end()
+
+
+if __name__ == "__main__":
+    main(os.path.abspath(sys.argv[1]))
