@@ -17,6 +17,7 @@ use Rattle.client_threads.specs.Rings.{QueueRing, IsOf, ring_of}
 use Rattle.client_threads.specs.Serving.{ServesTo, IsServed, IsLeft, IsEmpty, served_of}
 use Rattle.client_threads.specs.Advancing.{AdvancesTo, IsAdvanced}
 use Rattle.client_threads.specs.Running.{EachGoesOn, GoesOn, IsLaneOf}
+use Rattle.client_threads.specs.inner.Turns.{Looks}
 
 pub goes_on_none : (lane : LaneSeen) → GoesOn lane lane
 goes_on_none lane = record { queue = refl; table = refl; more = []; served = sym (append-nil lane.served) }
@@ -37,6 +38,13 @@ still_of rings old new h on = record { is = (h.is.0, ap (λ q. ring_of q.0 rings
 -- a lane of which the pass alone changed
 passes_on : (old new : LaneSeen) → new.pass.table ≡ old.pass.table → new ≡ record old { pass = new.pass } → GoesOn old new
 passes_on old new table is = record { queue = ap (λ l. l.queue) is; table = table; more = []; served = ap (λ l. l.served) is ∙ sym (append-nil old.served) }
+
+pub looked_on : (old new : LaneSeen) → Looks old new → GoesOn old new
+looked_on old new looks = passes_on old new looks.table looks.lane
+
+-- a lane that looked and then went on went on
+pub looked_then_on : (old mid new : LaneSeen) → Looks old mid → GoesOn mid new → GoesOn old new
+looked_then_on old mid new looks on = goes_on_both old mid new (looked_on old mid looks) on
 
 served_on : (ring : RingSeen) (old new : LaneSeen) (before after : History) (shown : Shown) (became : Taken) (pending : List PacketId) → IsServed ring old before shown became pending new after → GoesOn old new
 served_on ring old new before after shown became pending h = record { queue = ap (λ l. l.queue) h.lane; table = h.retired.0 ∙ h.peeked.2.0; more = served_of shown ∷ []; served = ap (λ l. l.served) h.lane }

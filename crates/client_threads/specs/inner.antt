@@ -2,3 +2,4 @@ pub mod Kept
 pub mod Openings
 pub mod Partings
 pub mod Rooms
+pub mod Turns

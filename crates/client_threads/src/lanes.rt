@@ -2,11 +2,14 @@
 
 ghost use Rattle.std.specs.Prelude.{◌≡◌, ◌<◌, length, All};
 ghost use Rattle.client_threads.specs.Running.{EachGoesOn, GoesOn, IsLaneOf};
+ghost use Rattle.client_threads.specs.inner.Turns.{Looks};
 
 use crate::advancing::{Advanced, advance_one};
 use crate::broker::Broker;
 use crate::lane::Lane;
 use crate::serving::{ServeAnswer, serve_one};
+use access_core::AccessCore;
+use ring::{Peeked, Ring};
 use std::alloc::Global;
 use std::sync::Wait;
 use std::thread;
@@ -31,38 +34,85 @@ pub trait Gate {
     fn leave(&self, lane: u32, turn: u64, done: LaneAnswer);
 }
 
+// Whether a lane's ring shows a packet. All stays but what its pass knows.
+fn has_next(lane: &mut Lane, ring: &Ring) -> bool
+    requires { lane.old.pass.table ≡ ring.now.table }
+    ensures { Looks lane.old lane.new }
+{
+    match lane.pass.peek(ring) {
+        Peeked::Empty => false,
+        Peeked::Shown(_) => true,
+    }
+}
+
+// Whether a lane has nothing to do: its ring shows no packet, and none is pending.
+fn is_idle(lane: &mut Lane, ring: &Ring) -> bool
+    requires { lane.old.pass.table ≡ ring.now.table }
+    ensures { Looks lane.old lane.new }
+{
+    let next = has_next(lane, ring);
+    !next & lane.pending().is_empty()
+}
+
+// A lane hands the next packet of its queue to the core.
+#[tactic(auto, using(crate::proofs::GoingOn::serves_goes_on))]
+fn serve(alloc: Global, lane: &mut Lane, core: &mut AccessCore, ring: &Ring) -> ServeAnswer
+    requires { lane.old.pass.table ≡ ring.now.table }
+    ensures { GoesOn lane.old lane.new }
+{
+    serve_one(alloc, lane, core, ring)
+}
+
+// It advances its first pending packet.
+#[tactic(auto, using(crate::proofs::GoingOn::advances_goes_on))]
+fn advance(alloc: Global, lane: &mut Lane, core: &mut AccessCore) -> Advanced
+    ensures { GoesOn lane.old lane.new }
+{
+    advance_one(alloc, lane, core)
+}
+
+// What a lane does in a turn under the lock.
+#[tactic(auto, using(crate::proofs::GoingOn::goes_on_both))]
+fn do_turn(alloc: Global, lane: &mut Lane, core: &mut AccessCore, ring: &Ring) -> LaneAnswer
+    requires { lane.old.pass.table ≡ ring.now.table }
+    ensures { GoesOn lane.old lane.new }
+{
+    let served = serve(alloc, lane, core, ring);
+    let advanced = advance(alloc, lane, core);
+    LaneAnswer { served, advanced }
+}
+
 impl Broker {
-    // A lane hands the next packet of its queue to the core, in one section under the lock.
-    #[tactic(auto, using(crate::proofs::GoingOn::serves_goes_on))]
-    fn serve<R: Wait>(&self, rt: &R, alloc: Global, lane: &mut Lane) -> ServeAnswer
-        requires { IsLaneOf self.now lane.old }
-        ensures { GoesOn lane.old lane.new }
-    {
-        let ring = self.ring_of(lane.queue());
-        let mut guard = self.lock(rt);
-        let core = &mut *guard;
-        serve_one(alloc, lane, core, ring)
-    }
-
-    // A lane advances its first pending packet, in another section.
-    #[tactic(auto, using(crate::proofs::GoingOn::advances_goes_on))]
-    fn advance<R: Wait>(&self, rt: &R, alloc: Global, lane: &mut Lane) -> Advanced
+    // One turn of a lane that has something to do, in one section under the lock.
+    fn turn_locked<R: Wait>(
+        &self,
+        rt: &R,
+        alloc: Global,
+        lane: &mut Lane,
+        ring: &Ring,
+    ) -> LaneAnswer
+        requires { lane.old.pass.table ≡ ring.now.table }
         ensures { GoesOn lane.old lane.new }
     {
         let mut guard = self.lock(rt);
         let core = &mut *guard;
-        advance_one(alloc, lane, core)
+        do_turn(alloc, lane, core, ring)
     }
 
-    // One turn of a lane.
-    #[tactic(auto, using(crate::proofs::GoingOn::goes_on_both))]
+    // One turn of a lane. Where it has nothing to do, it doesn't ask for the lock.
+    #[tactic(auto, using(crate::proofs::GoingOn::looked_on, crate::proofs::GoingOn::looked_then_on))]
     fn turn<R: Wait>(&self, rt: &R, alloc: Global, lane: &mut Lane) -> LaneAnswer
         requires { IsLaneOf self.now lane.old }
         ensures { GoesOn lane.old lane.new }
     {
-        let served = self.serve(rt, alloc, lane);
-        let advanced = self.advance(rt, alloc, lane);
-        LaneAnswer { served, advanced }
+        let ring = self.ring_of(lane.queue());
+        if is_idle(lane, ring) {
+            return LaneAnswer {
+                served: ServeAnswer::Empty,
+                advanced: Advanced::Idle,
+            };
+        }
+        self.turn_locked(rt, alloc, lane, ring)
     }
 }
 
@@ -125,8 +175,9 @@ fn run_any<R: Threads + Wait + Sync, G: Gate + Sync>(
 
 /// Runs lanes, each on a thread of its own, until the gate has ended each of them or it made 2^64 - 1 turns.
 /// In a turn the gate is asked whether the lane enters; then the next packet of its queue is handed to the
-/// core in one section under the core's lock, and its first pending packet is advanced in another; then the
-/// gate is told. Where no thread can be made, lanes run one after another. It takes no memory of its own.
+/// core and its first pending packet is advanced, in one section under the core's lock, for which it doesn't ask
+/// where its ring shows no packet and none is pending; then the gate is told. Where no thread can be made, lanes
+/// run one after another. It takes no memory of its own.
 /// The lanes come back in the order in which they were handed in, each of its queue and ring, and what each
 /// served begins with what it had served.
 #[tactic(auto, using(crate::proofs::GoingOn::all_still_of))]

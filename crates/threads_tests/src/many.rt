@@ -8,9 +8,9 @@ ghost use Rattle.threads_load.specs.Stages.{EachStaysOf, IsStage};
 use crate::stages::{packet, stage};
 use crate::waking::{EACH, PRODUCERS, WakingGate, publish_turns};
 use access_core::AccessCore;
-use aql_packet::{PacketId, QueueId};
+use aql_packet::PacketId;
 use client_threads::{Broker, ClientEnd, Lane, Served, Settlement, run_lanes, settle_all};
-use core_model::{Call, Entry, Event, Part};
+use core_model::Part;
 use std::alloc::Global;
 use std::sync::Wait;
 use std::thread;
@@ -185,37 +185,6 @@ pub(crate) fn settled_core(alloc: Global, stage: Stage, parts: &[Part]) -> Optio
     }
 }
 
-// The queue of an entry that tells of a packet.
-fn queue_of(entry: &Entry) -> Option<QueueId> {
-    match &entry.event {
-        Event::Take { queue, .. } => Some(*queue),
-        Event::Call(Call::RunNext { queue, .. }) => Some(*queue),
-        Event::Call(Call::Finish { queue, .. }) => Some(*queue),
-        _ => None,
-    }
-}
-
-// The queue of an entry that tells that a packet was handed over.
-fn taken_from(entry: &Entry) -> Option<QueueId> {
-    match &entry.event {
-        Event::Take { queue, .. } => Some(*queue),
-        _ => None,
-    }
-}
-
-// Whether another lane came in between the two sections of a turn: what comes next behind the launch of a packet is not
-// of its queue, though the lane that launched it advances a packet in the same turn.
-fn has_turn_between(entries: &[Entry]) -> bool {
-    let mut taken = None;
-    for entry in entries {
-        if taken.is_some() && queue_of(entry) != taken {
-            return true;
-        }
-        taken = taken_from(entry);
-    }
-    false
-}
-
 /// What many packets come to.
 #[derive(Clone, Copy, PartialEq, Eq)]
 struct Come {
@@ -223,17 +192,6 @@ struct Come {
     is_whole: bool,
     /// How many entries the audit has.
     entries: usize,
-    /// Whether another lane came in between the two sections of a turn.
-    is_between: bool,
-}
-
-// What packets come to with this audit.
-fn come_to(is_whole: bool, audit: &[Entry]) -> Come {
-    Come {
-        is_whole,
-        entries: audit.len(),
-        is_between: has_turn_between(audit),
-    }
 }
 
 // What 100,000 packets come to.
@@ -243,7 +201,10 @@ fn run_packets<R: Threads + Wait + Sync>(rt: &R, alloc: Global) -> Option<Come> 
     let stage = run_many(rt, alloc, stage, &gate);
     let is_whole = are_whole(stage.lanes.as_slice());
     let core = settled_core(alloc, stage, &[])?;
-    Some(come_to(is_whole, core.audit()))
+    Some(Come {
+        is_whole,
+        entries: core.audit().len(),
+    })
 }
 
 // Six grants, four openings, and of each packet a launch, a run and a completion.
@@ -252,7 +213,6 @@ fn a_hundred_thousand_packets_come_once_and_whole(rt: HostRuntime) {
     let come = Come {
         is_whole: true,
         entries: 300_010,
-        is_between: true,
     };
     assert!(rt; run_packets(&rt, rt.alloc()) == Some(come));
 }
