@@ -12,3 +12,5 @@ pub mod Writing
 pub mod Blocks
 pub mod Joining
 pub mod Reaching
+pub mod Fitting
+pub mod Formed

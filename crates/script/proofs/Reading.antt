@@ -1,12 +1,13 @@
 -- Numbers, bytes and items, one byte more.
-use Rattle.std.proofs.Common.{◌≡◌, ℕ, ◌+◌, ◌<◌, ◌≤◌, true, ◌⊎◌, inl, inr, List, [], ◌∷◌, ◌++◌, length, get_or, set, take, drop, Option, Some, None, refl, sym, ap, ◌∙◌, arith, append_assoc, append-nil, length-append}
-use Rattle.std.specs.Prelude.{option_map, option_and_then, ◌==◌, false, if◌then◌else◌}
+use Rattle.std.proofs.Common.{◌≡◌, ℕ, ◌+◌, ◌*◌, ◌<◌, ◌≤◌, Bool, true, ◌⊎◌, inl, inr, List, [], ◌∷◌, ◌++◌, length, get_or, set, take, drop, Option, Some, None, refl, sym, ap, ◌∙◌, arith, append_assoc, append-nil, length-append}
+use Rattle.std.specs.Prelude.{option_map, option_and_then, unwrap_or, ◌==◌, ◌&&◌, false, if◌then◌else◌}
+use Rattle.std.specs.Option.{is_some}
 use Rattle.std.proofs.lemmas.Bool.Decides.{nat_tests}
 use Rattle.policy.specs.declared.rights.Rights.{Rights}
 use Rattle.policy.specs.declared.rights.Right.{Right}
 use Rattle.std.proofs.lemmas.List.{take_more, take_more_set, take_all, drop_all, length-take-le}
 use Rattle.script.proofs.Splitting.{left_at}
-use Rattle.script.specs.Words.{Word, digit_of, with_digit, number_from, byte_of, bytes_word, packet_bytes, items_from, rights_with, with_right, right_of}
+use Rattle.script.specs.Words.{Word, digit_of, with_digit, number_from, byte_of, bytes_word, eight_bytes, word_at, packet_bytes, items_from, rights_with, with_right, right_of}
 
 pub number_end : (base number : ℕ) → number_from base number [] ≡ Some number
 unfolding number_from
@@ -191,3 +192,53 @@ packet_more word filled fuller rest last place high low byte so e some is_set le
 pub packet_pair : (word filled rest last : List ℕ) (place high low : ℕ) → bytes_word word ≡ option_map (λ bytes. take place filled ++ bytes) (bytes_word rest) →
     rest ≡ high ∷ low ∷ last → byte_of high low ≡ None → packet_bytes word ≡ None
 packet_pair word filled rest last place high low so e none = packet_bad word filled rest place so (bytes_bad rest high low (low ∷ last) last e refl none)
+
+-- whether digits are bytes, by what is left of them
+is_more : (byte : Option ℕ) (last : Option (List ℕ)) (some : ℕ) → byte ≡ Some some →
+    is_some (option_and_then (λ byte. option_map (λ bytes. byte ∷ bytes) last) byte) ≡ is_some last
+is_more byte None some e = rw e refl
+is_more byte (Some last) some e = rw e refl
+
+pub is_bytes_more : (rest : Word) (high low byte : ℕ) (last : Word) → rest ≡ high ∷ low ∷ last → byte_of high low ≡ Some byte →
+    is_some (bytes_word rest) ≡ is_some (bytes_word last)
+is_bytes_more rest high low byte last e some =
+    ap (λ word. is_some (bytes_word word)) e ∙ ap is_some (bytes_step high low last) ∙ is_more (byte_of high low) (bytes_word last) byte some
+
+pub is_bytes_bad : (rest : Word) (high low : ℕ) (last : Word) → rest ≡ high ∷ low ∷ last → byte_of high low ≡ None → is_some (bytes_word rest) ≡ false
+is_bytes_bad rest high low last e none = ap is_some (bytes_bad rest high low (low ∷ last) last e refl none)
+
+pub is_bytes_end : (rest : Word) → length rest < 2 → is_some (bytes_word rest) ≡ (length rest == 0)
+is_bytes_end [] few = ap is_some bytes_end
+is_bytes_end (high ∷ []) few = ap is_some (bytes_odd high)
+is_bytes_end (high ∷ low ∷ rest) few = absurd (omega (arith, few))
+
+-- bytes are half as many as their digits
+half_of : (byte : Option ℕ) (last : Option (List ℕ)) (digits : ℕ) (bytes : List ℕ) → ((further : List ℕ) → last ≡ Some further → digits ≡ 2 * length further) →
+    option_and_then (λ byte. option_map (λ bytes. byte ∷ bytes) last) byte ≡ Some bytes → 2 + digits ≡ 2 * length bytes
+half_of None last digits bytes half e = cc
+half_of (Some byte) None digits bytes half e = cc
+half_of (Some byte) (Some further) digits bytes half e =
+    let here : digits ≡ 2 * length further = half further refl in
+    let long : length (byte ∷ further) ≡ length bytes = ap (λ (o : Option (List ℕ)). length (unwrap_or o [])) e in omega (arith, here, long)
+
+half : (word : Word) (bytes : List ℕ) → bytes_word word ≡ Some bytes → length word ≡ 2 * length bytes
+half [] bytes e = let long : 0 ≡ length bytes = ap (λ (o : Option (List ℕ)). length (unwrap_or o [])) (sym bytes_end ∙ e) in omega (arith, long)
+half (high ∷ []) bytes e = let none : None ≡ Some bytes = sym (bytes_odd high) ∙ e in cc
+half (high ∷ low ∷ word) bytes e =
+    let here : 2 + length word ≡ 2 * length bytes =
+    half_of (byte_of high low) (bytes_word word) (length word) bytes (λ further is. half word further is) (sym (bytes_step high low word) ∙ e) in
+    omega (arith, here)
+
+is_eight_of : (word : Word) (bytes : Option (List ℕ)) → bytes_word word ≡ bytes →
+    (is_some bytes && (length word == 16)) ≡ is_some (option_and_then (λ bytes. if length bytes == 8 then Some (word_at bytes 0) else None) bytes)
+is_eight_of word None e = refl
+is_eight_of word (Some bytes) e = by_length (length bytes == 8) refl
+  where
+    by_length : (b : Bool) → (length bytes == 8) ≡ b → (length word == 16) ≡ is_some (if length bytes == 8 then Some (word_at bytes 0) else None)
+    by_length true is =
+        let so : (length word == 16) ≡ true = grind (arith, nat_tests, half word bytes e, is) in so ∙ sym (ap (λ b. is_some (if b then Some (word_at bytes 0) else None)) is)
+    by_length false is =
+        let so : (length word == 16) ≡ false = grind (arith, nat_tests, half word bytes e, is) in so ∙ sym (ap (λ b. is_some (if b then Some (word_at bytes 0) else None)) is)
+
+pub is_eight : (word : Word) → (is_some (bytes_word word) && (length word == 16)) ≡ is_some (eight_bytes word)
+is_eight word = is_eight_of word (bytes_word word) refl

@@ -3,6 +3,7 @@ pub mod Texts
 pub mod Entries
 pub mod Replies
 pub mod Words
+pub mod Forms
 pub mod Lines
 pub mod Expansions
 pub mod Watchers

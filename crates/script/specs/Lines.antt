@@ -1,5 +1,5 @@
 -- Lines and the requests that they stand for, row by row (own).
-use Rattle.std.specs.Prelude.{ℕ, Bool, false, ◌==◌, ◌&&◌, nat_le, nat_lt, ℤ, List, [], ◌∷◌, length, codes, Option, Some, None, option_map, option_and_then, bytes_eq, if◌then◌else◌}
+use Rattle.std.specs.Prelude.{ℕ, Bool, false, ◌==◌, ◌&&◌, nat_le, nat_lt, List, [], ◌∷◌, length, codes, Option, Some, None, option_map, option_and_then, bytes_eq, if◌then◌else◌}
 use Rattle.std.specs.Option.{option_or}
 use Rattle.aql_packet.specs.declared.ids.ClientId.{ClientId}
 use Rattle.aql_packet.specs.declared.ids.QueueId.{QueueId}
@@ -27,10 +27,11 @@ use Rattle.script.specs.declared.command.Command.{Command}
 use Rattle.script.specs.declared.command.Command.TheVariants as command
 use Rattle.script.specs.declared.lines.Line.{Line}
 use Rattle.script.specs.declared.lines.Line.TheVariants as line
-use Rattle.script.specs.declared.verbs.Verb.{Verb}
-use Rattle.script.specs.declared.verbs.Verb.TheVariants as verb
+use Rattle.script.specs.declared.forms.Verb.{Verb}
+use Rattle.script.specs.declared.forms.Verb.TheVariants as verb
 use Rattle.world.specs.Actions.{step}
-use Rattle.script.specs.Words.{Word, words, no_words, one_word, two_words, three_words, four_words, five_words, decimal_word, signed_word, address_word, bytes_word, eight_bytes, packet_word, rights_word, condition_word}
+use Rattle.script.specs.Forms.{verb_of}
+use Rattle.script.specs.Words.{Word, operation_of, words, no_words, one_word, two_words, three_words, four_words, five_words, decimal_word, signed_word, address_word, bytes_word, eight_bytes, packet_word, rights_word, condition_word}
 
 -- the client of a name; a name that isn't there is number 0
 abbrev pub client_in : Declared → Word → ClientId
@@ -131,18 +132,6 @@ abbrev pub read_row : Declared → List Word → Option Command
 read_row policy words = option_and_then (λ w. option_and_then (λ address. option_map (λ length.
     asks (query.HostRead (client_in policy w.0) (record { 0 = address }) length)) (decimal_word w.2)) (address_word w.1)) (three_words words)
 
--- an operation with one value
-abbrev pub operation_of : Word → ℤ → Option SignalOp
-operation_of word value =
-    if bytes_eq word (codes "store") then Some (op.Store value)
-    else if bytes_eq word (codes "add") then Some (op.Add value)
-    else if bytes_eq word (codes "subtract") then Some (op.Subtract value)
-    else if bytes_eq word (codes "and") then Some (op.And value)
-    else if bytes_eq word (codes "or") then Some (op.Or value)
-    else if bytes_eq word (codes "xor") then Some (op.Xor value)
-    else if bytes_eq word (codes "exchange") then Some (op.Exchange value)
-    else None
-
 -- `C NAME OP V`
 abbrev pub plain_operation : Declared → List Word → Option Command
 plain_operation policy words = option_and_then (λ w. option_and_then (λ value. option_map (λ operation.
@@ -186,56 +175,6 @@ audit_row words = if no_words words then Some (asks query.Audit) else None
 -- `rotate`
 abbrev pub rotate_row : List Word → Option Command
 rotate_row words = if no_words words then Some (command.Ask request.Rotate) else None
-
--- the verb of a word, among those of clients' calls and of queries
-abbrev pub client_verb_of : Word → Option Verb
-client_verb_of word =
-    if bytes_eq word (codes "write") then Some verb.Write
-    else if bytes_eq word (codes "read") then Some verb.Read
-    else if bytes_eq word (codes "signal") then Some verb.Signal
-    else if bytes_eq word (codes "load") then Some verb.Load
-    else if bytes_eq word (codes "test") then Some verb.Test
-    else if bytes_eq word (codes "list") then Some verb.List
-    else if bytes_eq word (codes "errors") then Some verb.Errors
-    else if bytes_eq word (codes "audit") then Some verb.Audit
-    else if bytes_eq word (codes "reload") then Some verb.Reload
-    else if bytes_eq word (codes "rotate") then Some verb.Rotate
-    else None
-
--- the verb of a word, among those and those of single steps on a ring
-abbrev pub step_verb_of : Word → Option Verb
-step_verb_of word =
-    if bytes_eq word (codes "reserve") then Some verb.Reserve
-    else if bytes_eq word (codes "room") then Some verb.Room
-    else if bytes_eq word (codes "word") then Some verb.Word
-    else if bytes_eq word (codes "look") then Some verb.Look
-    else if bytes_eq word (codes "part") then Some verb.Part
-    else if bytes_eq word (codes "clear") then Some verb.Clear
-    else if bytes_eq word (codes "advance") then Some verb.Advance
-    else client_verb_of word
-
--- the verb of a word, among those and those of packets of a ring
-abbrev pub ring_verb_of : Word → Option Verb
-ring_verb_of word =
-    if bytes_eq word (codes "submit") then Some verb.Submit
-    else if bytes_eq word (codes "serve") then Some verb.Serve
-    else if bytes_eq word (codes "publish") then Some verb.Publish
-    else if bytes_eq word (codes "peek") then Some verb.Peek
-    else if bytes_eq word (codes "take") then Some verb.Take
-    else if bytes_eq word (codes "retire") then Some verb.Retire
-    else step_verb_of word
-
--- the verb of a word
-abbrev pub verb_of : Word → Option Verb
-verb_of word =
-    if bytes_eq word (codes "grant") then Some verb.Grant
-    else if bytes_eq word (codes "revoke") then Some verb.Revoke
-    else if bytes_eq word (codes "queue") then Some verb.Queue
-    else if bytes_eq word (codes "stop") then Some verb.Stop
-    else if bytes_eq word (codes "run") then Some verb.Run
-    else if bytes_eq word (codes "poll") then Some verb.Poll
-    else if bytes_eq word (codes "finish") then Some verb.Finish
-    else ring_verb_of word
 
 -- the row of a verb, where there are so many further policies
 abbrev pub command_of : Declared → ℕ → Verb → List Word → Option Command

@@ -7,6 +7,8 @@ use Rattle.policy.specs.declared.rights.Right.TheVariants.{Use, Read, Write, Wai
 use Rattle.policy.specs.declared.rights.Rights.{Rights}
 use Rattle.policy.specs.Rights.{bit_of}
 use Rattle.signals.specs.declared.operation.Condition.{Condition}
+use Rattle.signals.specs.declared.operation.SignalOp.{SignalOp}
+use Rattle.signals.specs.declared.operation.SignalOp.TheVariants as op
 use Rattle.signals.specs.declared.operation.Condition.TheVariants as condition
 
 -- a word, as its bytes
@@ -178,4 +180,16 @@ condition_word word =
     else if bytes_eq word (codes "NE") then Some condition.Ne
     else if bytes_eq word (codes "LT") then Some condition.Lt
     else if bytes_eq word (codes "GTE") then Some condition.Gte
+    else None
+
+-- an operation with one value
+abbrev pub operation_of : Word → ℤ → Option SignalOp
+operation_of word value =
+    if bytes_eq word (codes "store") then Some (op.Store value)
+    else if bytes_eq word (codes "add") then Some (op.Add value)
+    else if bytes_eq word (codes "subtract") then Some (op.Subtract value)
+    else if bytes_eq word (codes "and") then Some (op.And value)
+    else if bytes_eq word (codes "or") then Some (op.Or value)
+    else if bytes_eq word (codes "xor") then Some (op.Xor value)
+    else if bytes_eq word (codes "exchange") then Some (op.Exchange value)
     else None

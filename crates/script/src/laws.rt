@@ -1,7 +1,8 @@
 //! What the lines and the numbers of a script come to, as laws of their definitions.
 
-ghost use Rattle.std.specs.Prelude.{◌≡◌, ℕ, List, Option, Result, Some, true, ⊤};
+ghost use Rattle.std.specs.Prelude.{◌≡◌, ◌∷◌, ℕ, List, Option, Result, Some, true, false, ⊤, bytes_eq, codes};
 ghost use Rattle.std.specs.List.{list_all};
+ghost use Rattle.std.specs.Option.{is_some};
 ghost use Rattle.kernel_check.specs.Programs.{Program};
 ghost use Rattle.policy.specs.Policy.{Declared};
 ghost use Rattle.core_model.specs.History.{Part};
@@ -11,14 +12,17 @@ ghost use Rattle.world.specs.Headline.{Headline, IsBegun};
 ghost use Rattle.world.specs.States.{Joined};
 ghost use Rattle.script.specs.declared.command.Command.{Command};
 ghost use Rattle.script.specs.declared.fault.ScriptFault.{ScriptFault};
+ghost use Rattle.script.specs.declared.lines.Line.{Line};
 ghost use Rattle.script.specs.declared.lines.TheConstants.{LONGEST_LINE};
 ghost use Rattle.script.specs.declared.run.TheConstants.{MOST_READS};
 ghost use Rattle.script.specs.Expansions.{does};
+ghost use Rattle.script.specs.Forms.{form_rows, is_formed};
+ghost use Rattle.script.specs.Lines.{asked_by};
 ghost use Rattle.script.specs.Limits.{longest_line, most_reads};
 ghost use Rattle.script.specs.Runs.{Ends, Replied, Runs, Told, lines_of, parts_told, watched, worlds};
 ghost use Rattle.script.specs.Scripts.{RunsScript};
 ghost use Rattle.script.specs.Splitting.{digits_of, ended, is_line, joined, sum_of_digits};
-ghost use Rattle.script.specs.Words.{address_word, decimal_word};
+ghost use Rattle.script.specs.Words.{Word, address_word, decimal_word};
 
 use crate::watch::Watch;
 use policy::Policy;
@@ -60,6 +64,16 @@ pub fn watched_runs_are_runs<V: Watch>()
         Runs (watched V.says later) old lines text new → Runs (worlds later) old lines text new }
     ensures ends { (later : List Declared) (old : Joined) (line : List ℕ) (reply : List ℕ) (new : Joined) →
         Ends (watched V.says later) old line reply new → Replied (worlds later) old line reply new }
+{}
+
+/// The table of forms is what lines are read by. The words of a line that asks something are those of one of its forms,
+/// the first its name and each other one of its class. The words of a form ask something, whatever the policy is; those
+/// of `reload` where there is a further policy of that number.
+pub fn lines_are_of_forms()
+    ensures formed { (policy : Declared) (later : ℕ) (name : Word) (words : List Word) (asked : Line) →
+        asked_by policy later (name ∷ words) ≡ Some asked → is_formed form_rows name words ≡ true }
+    ensures read { (policy : Declared) (later : ℕ) (name : Word) (words : List Word) → is_formed form_rows name words ≡ true →
+        bytes_eq name (codes "reload") ≡ false → is_some (asked_by policy later (name ∷ words)) ≡ true }
 {}
 
 /// The code's limits of a line and of a run's reads are those of the rules.

@@ -8,6 +8,7 @@ mod engine;
 mod entries;
 mod expansions;
 mod fault;
+mod forms;
 mod io_log;
 mod laws;
 mod lines;
@@ -17,7 +18,6 @@ mod run;
 mod session;
 mod streams;
 mod texts;
-mod verbs;
 mod watch;
 mod watchers;
 mod words;
@@ -25,10 +25,11 @@ mod words;
 pub use command::{Command, LineAnswer, LineReply, NumberMeaning};
 pub use expansions::perform;
 pub use fault::ScriptFault;
+pub use forms::{Class, LineForm, Operand, line_forms};
 pub use io_log::{IoLog, flush_once};
 pub use laws::{
-    lines_give_their_text_back, numbers_are_sums_of_their_digits, numbers_are_those_of_the_rules,
-    scripts_are_requests, watched_runs_are_runs,
+    lines_are_of_forms, lines_give_their_text_back, numbers_are_sums_of_their_digits,
+    numbers_are_those_of_the_rules, scripts_are_requests, watched_runs_are_runs,
 };
 pub use lines::{LONGEST_LINE, Line, read_line};
 pub use replies::write_line;
@@ -36,3 +37,4 @@ pub use run::{run_script, run_watched};
 pub use streams::write_through;
 pub use watch::{Flow, Watch};
 pub use watchers::{Nobody, Strict, strictly};
+pub use words::split_word;

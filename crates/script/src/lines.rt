@@ -2,13 +2,13 @@
 
 ghost use Rattle.std.specs.Prelude.{◌≡◌, IfOk, option_map};
 ghost use Rattle.script.specs.Words.{words};
-ghost use Rattle.script.specs.Lines.{client_in, object_in, agent_in, signal_in, rights_on, grant_row, revoke_row, queue_row, queue_of, packet_of_queue, calls, asks, steps, processes, reserve_row, room_row, store_of, word_row, part_row, publish_row, submit_row, write_row, read_row, operation_of, plain_operation, cas_operation, signal_row, load_row, test_row, list_row, is_later, reload_row, audit_row, rotate_row, command_of, line_of, asked_by, is_comment, IsPlain};
+ghost use Rattle.script.specs.Lines.{client_in, object_in, agent_in, signal_in, rights_on, grant_row, revoke_row, queue_row, queue_of, packet_of_queue, calls, asks, steps, processes, reserve_row, room_row, store_of, word_row, part_row, publish_row, submit_row, write_row, read_row, plain_operation, cas_operation, signal_row, load_row, test_row, list_row, is_later, reload_row, audit_row, rotate_row, command_of, line_of, asked_by, is_comment, IsPlain};
 
 use crate::command::Command;
+use crate::forms::{Verb, verb_named};
 use crate::numbers::{
-    address, bytes, condition, decimal, kind, packet, packet_word, rights, signed,
+    address, bytes, condition, decimal, kind, operation, packet, packet_word, rights, signed,
 };
-use crate::verbs::{Verb, verb_named};
 use crate::words::{
     five_words, four_words, is_word, no_words, one_word, split_word, three_words, two_words,
 };
@@ -336,29 +336,6 @@ fn read(policy: &Policy, line: &[u8]) -> Option<Command>
         address,
         length,
     }))
-}
-
-// An operation with one value.
-fn operation(word: &[u8], value: i64) -> Option<SignalOp>
-    ensures { result ≡ operation_of word.now value }
-{
-    if is_word(word, "store") {
-        Some(SignalOp::Store(value))
-    } else if is_word(word, "add") {
-        Some(SignalOp::Add(value))
-    } else if is_word(word, "subtract") {
-        Some(SignalOp::Subtract(value))
-    } else if is_word(word, "and") {
-        Some(SignalOp::And(value))
-    } else if is_word(word, "or") {
-        Some(SignalOp::Or(value))
-    } else if is_word(word, "xor") {
-        Some(SignalOp::Xor(value))
-    } else if is_word(word, "exchange") {
-        Some(SignalOp::Exchange(value))
-    } else {
-        None
-    }
 }
 
 // `signal C NAME OP V`

@@ -1,15 +1,16 @@
 //! Numbers, bytes, rights and kinds that single words stand for.
 
 ghost use Rattle.std.specs.Prelude.{◌≡◌, ◌∷◌, [], ◌+◌, ◌<◌, ◌≤◌, IfOk, IfSome, MatchOption, option_map, length};
+ghost use Rattle.std.specs.Option.{is_some};
 ghost use Rattle.policy.specs.Format.{kind_named};
-ghost use Rattle.script.specs.Words.{digit_of, with_digit, number_from, decimal_word, negative, positive, signed_word, address_word, byte_of, bytes_word, word_at, eight_bytes, words_of, packet_bytes, packet_word, items_from, items_behind, right_of, with_right, rights_with, rights_word, condition_word};
+ghost use Rattle.script.specs.Words.{digit_of, with_digit, number_from, decimal_word, negative, positive, signed_word, address_word, byte_of, bytes_word, word_at, eight_bytes, words_of, packet_bytes, packet_word, items_from, items_behind, right_of, with_right, rights_with, rights_word, condition_word, operation_of};
 
 use crate::words::is_word;
 use aql_packet::Address;
 use bitflags::Flags;
 use byteorder::{ByteOrder, LittleEndian};
 use policy::{Kind, Right, Rights};
-use signals::Condition;
+use signals::{Condition, SignalOp};
 use std::alloc::{AllocError, Global};
 
 // The value of each byte as a digit, in either case; 255 where it is none.
@@ -194,6 +195,27 @@ fn split_digits(word: &[u8]) -> Option<(u8, u8, &[u8])>
     Some((*high, *low, further))
 }
 
+/// Whether a word is bytes in order, two hexadecimal digits each.
+pub fn are_bytes(word: &[u8]) -> bool
+    ensures { result ≡ is_some (bytes_word word.now) }
+{
+    let mut rest = word;
+    while let Some((high, low, further)) = split_digits(rest) {
+        let Some(_value) = byte(high, low) else {
+            return false;
+        };
+        rest = further;
+    }
+    rest.is_empty()
+}
+
+/// Whether a word is a packet's word: eight bytes.
+pub fn is_packet_word(word: &[u8]) -> bool
+    ensures { result ≡ is_some (eight_bytes word.now) }
+{
+    are_bytes(word) & (word.len() == 16)
+}
+
 // A packet's bytes: just 64.
 fn packet_bytes(word: &[u8]) -> Option<[u8; 64]>
     ensures { result ≡ packet_bytes word.now }
@@ -309,6 +331,29 @@ pub fn condition(word: &[u8]) -> Option<Condition>
         Some(Condition::Lt)
     } else if is_word(word, "GTE") {
         Some(Condition::Gte)
+    } else {
+        None
+    }
+}
+
+/// The operation on a signal of a name, among those with one value, and with this one.
+pub fn operation(word: &[u8], value: i64) -> Option<SignalOp>
+    ensures { result ≡ operation_of word.now value }
+{
+    if is_word(word, "store") {
+        Some(SignalOp::Store(value))
+    } else if is_word(word, "add") {
+        Some(SignalOp::Add(value))
+    } else if is_word(word, "subtract") {
+        Some(SignalOp::Subtract(value))
+    } else if is_word(word, "and") {
+        Some(SignalOp::And(value))
+    } else if is_word(word, "or") {
+        Some(SignalOp::Or(value))
+    } else if is_word(word, "xor") {
+        Some(SignalOp::Xor(value))
+    } else if is_word(word, "exchange") {
+        Some(SignalOp::Exchange(value))
     } else {
         None
     }
