@@ -27,25 +27,31 @@ fn write_object(out: &mut String, object: Object) -> Result<(), AllocError>
     }
 }
 
-// Writes `CLIENT KIND NUMBER RIGHTS`.
+// Writes a verb, which has its blank, and `CLIENT KIND NUMBER RIGHTS`.
 fn write_rights_on(
     out: &mut String,
+    verb: &str,
     client: ClientId,
     object: Object,
     rights: Rights,
 ) -> Result<(), AllocError>
-    ensures { OnOk result (string_bytes out.new ≡ string_bytes out.old ++ behind_blanks (words_of_rights_on client object rights)) }
+    ensures { OnOk result (string_bytes out.new ≡ string_bytes out.old ++ (verb.now ++ behind_blanks (words_of_rights_on client object rights))) }
 {
-    write!(out, " {}", client.0)?;
+    write!(out, "{verb} {}", client.0)?;
     write_object(out, object)?;
     write!(out, " {}", rights.bits())
 }
 
-// Writes `Q ID`.
-fn write_packet(out: &mut String, queue: QueueId, packet: PacketId) -> Result<(), AllocError>
-    ensures { OnOk result (string_bytes out.new ≡ string_bytes out.old ++ behind_blanks (words_of_packet queue packet)) }
+// Writes a verb, which has its blank, and `Q ID`.
+fn write_packet(
+    out: &mut String,
+    verb: &str,
+    queue: QueueId,
+    packet: PacketId,
+) -> Result<(), AllocError>
+    ensures { OnOk result (string_bytes out.new ≡ string_bytes out.old ++ (verb.now ++ behind_blanks (words_of_packet queue packet))) }
 {
-    write!(out, " {} {}", queue.0, packet.0)
+    write!(out, "{verb} {} {}", queue.0, packet.0)
 }
 
 // Writes an operation on a signal, with its operands.
@@ -73,31 +79,16 @@ fn write_call(out: &mut String, call: &Call) -> Result<(), AllocError>
             client,
             object,
             rights,
-        } => {
-            out.push_str(" grant")?;
-            write_rights_on(out, *client, *object, *rights)
-        }
+        } => write_rights_on(out, " grant", *client, *object, *rights),
         Call::Revoke {
             client,
             object,
             rights,
-        } => {
-            out.push_str(" revoke")?;
-            write_rights_on(out, *client, *object, *rights)
-        }
+        } => write_rights_on(out, " revoke", *client, *object, *rights),
         Call::Stop { queue } => write!(out, " stop {}", queue.0),
-        Call::RunNext { queue, packet } => {
-            out.push_str(" run")?;
-            write_packet(out, *queue, *packet)
-        }
-        Call::Poll { queue, packet } => {
-            out.push_str(" poll")?;
-            write_packet(out, *queue, *packet)
-        }
-        Call::Finish { queue, packet } => {
-            out.push_str(" finish")?;
-            write_packet(out, *queue, *packet)
-        }
+        Call::RunNext { queue, packet } => write_packet(out, " run", *queue, *packet),
+        Call::Poll { queue, packet } => write_packet(out, " poll", *queue, *packet),
+        Call::Finish { queue, packet } => write_packet(out, " finish", *queue, *packet),
         Call::HostWrite {
             client,
             address,
@@ -281,10 +272,7 @@ fn write_effect(out: &mut String, effect: &Effect) -> Result<(), AllocError>
             write_bytes(out, bytes.as_slice())
         }
         Effect::Signal { signal, old, new } => write!(out, " signal {} {old} {new}", signal.0),
-        Effect::Release { queue, packet } => {
-            out.push_str(" release")?;
-            write_packet(out, *queue, *packet)
-        }
+        Effect::Release { queue, packet } => write_packet(out, " release", *queue, *packet),
     }
 }
 
