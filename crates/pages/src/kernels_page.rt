@@ -7,12 +7,12 @@ This page is for authors of kernels. It goes from a kernel's text to its writes 
 
 ## From a text to a run
 
-1. **The text** stands in a `[[kernel]]` row of the policy, and `entry` names the kernel of it that packets launch. `brokerd check POLICY` reads and checks the texts of all rows in order, and names the first fault, as `kernel 1: check 3 line 4`. A module without a kernel of the entry's name is no fault of the check. `brokerd run` tells it, once there is no other, as `kernel 1: no entry`, before any reply, and ends with status 1.
+1. **The text** stands in a `[[kernel]]` row of the policy, and `entry` names the kernel of it that packets launch. `brokerd check POLICY` reads and checks the texts of all rows in order, and names the first fault, as `kernel 1: check 3 line 4`. A module without a kernel of the entry's name is no fault of the check. `brokerd run` tells it, where the policy and its kernels have no other fault, as `kernel 1: no entry`, before any reply, and ends with status 1.
 2. **The grants.** A packet launches only what its client was granted: `USE` on the agent, `LAUNCH` on the kernel, rights on regions, `CHANGE` on the completion signal.
 3. **The arguments** are written to memory as one block: each at the next multiple of its size, or of its `align`. The dispatch has the block's address (`kernarg_address`). An argument of 64 bits may be the address of memory that the kernel works on.
 4. **The launch** (`serve`). The launch rules below decide. The block is copied then: what is written there later the packet doesn't see.
-5. **The work-groups** (`run`) run one at a time, in the order of their places in the grid, with x fastest. The items of a group run in the order of their places, one after another, and see what those before wrote. A group that ends leaves all its writes at once, and is answered `ran G left N`. One that breaks a rule of access leaves none: `faulted ERROR`.
-6. **The completion** (`finish`). Where all groups ran the completion signal is decremented, and what the packet held can be revoked again.
+5. **The work-groups** (`run`) run one at a time, in the order of their places in the grid, with x fastest. The items of a group run in the order of their places, one after another, and see what those before wrote. A group that ends leaves all its writes at once, and is answered `ran G left N`. One that breaks a rule leaves none: `faulted ERROR`.
+6. **The completion** (`finish`). Where all groups ran the completion signal, if there is one, is decremented, and the packet holds nothing any more.
 
 ## A text alone
 
@@ -214,7 +214,7 @@ From its launch until it is released a kernel dispatch holds `USE` on its agent,
 
 ## What an access wants
 
-Each load and each store of global memory is judged by these rules, in this order. An address is wrapped at 2^64 first.
+Each load and each store of global memory is judged by rules A1 to A3, in this order, and an atomic operation by A4 after these. An address is wrapped at 2^64 first. A5 is judged before each instruction.
 
 | Rule | Wants | What helps |
 |---|---|---|

@@ -154,11 +154,11 @@ From the reload on the new rows decide: each right in force that they don't allo
 - `refused 4 Busy queue Q packet ID`, where a packet in flight holds a right that the rows don't allow: the one named has the least queue and id of all clients' packets. Bring it to its end, then reload.
 - `refused 10 AuditFull`, as every call that leaves an entry; `refused 0 OutOfMemory`, where there is no memory for the copy of the policy.
 
-A client whose `USE` on an agent was cut keeps its queues: they stay open, and each packet that is taken from then on is denied by rule L4, the first that is denied stopping its queue. So it goes with every right: a launched packet holds what it needs until it is released, and a packet that waits in a ring is judged by what is in force when it is taken.
+A client whose `USE` on an agent was cut keeps its queues: they stay open. The next packet that is judged in such a queue is denied, by rule L4 unless its bytes break one of L1 to L3, and that stops the queue. So it goes with every right: a launched packet holds what it needs until it is released, and a packet that waits in a ring is judged by what is in force when it is taken.
 
 Each further policy is read in full before the script begins, in the order of the files and after all faults of the first policy and its kernels. Its first fault is told as that of any policy; `brokerd check` on the file tells the same. The texts of its kernels aren't read, since a policy with another text is refused.
 
-Give each client the least that its packets need. A right that a packet in flight holds can't be revoked until the packet is released: `refused 4 Busy queue Q packet ID` names the packet to wait for.
+Give each client the least that its packets need. A right that a packet in flight holds can't be revoked until the packet is released: `refused 4 Busy queue Q packet ID` names the first that has to be waited for.
 
 ## When a packet is denied
 
@@ -179,11 +179,11 @@ L1 to L3 are rules of a packet's layout. What a kernel then may touch is judged 
 An object that isn't declared fails the same rule as one without a grant. Where a grant is answered `refused 5 NotAllowed`, the policy itself has to be widened by an allow row, or a deny row has to go; `refused 13 UnknownObject` and `refused 1 UnknownClient` say that a name isn't declared.
 
 ## What a refusal means
-A refused call changes nothing. Whoever makes it meets one of these numbers; they are tried in the order that each call's page gives, 10 always last.
+A refused call of the core changes nothing. The lines `publish`, `submit`, `peek`, `retire` and `serve` make several steps on a ring, and the steps before the one that is refused stay made. Whoever makes a call meets one of these numbers; they are tried in the order that each call's page gives, 10 after all others but 0.
 
 | Refusal | Who meets it | What it means, and what helps |
 |---|---|---|
-| 0 OutOfMemory | an opening, a reservation (`reserve`, `submit`), a launch, a group, a client's write, a reload, and a query that is answered by a list; of these only the line `reload` also where it is refused otherwise, since the policy is copied first | memory was wanted and not to be had; the same call later counts as the first |
+| 0 OutOfMemory | an opening, a reservation (`reserve`, `submit`), a launch, a group, a client's write, a reload, a rotation, and a query that is answered by a list. Where the call is refused otherwise it isn't told, but for a group for which the audit has no room, and for the line `reload`, since the policy is copied first | memory was wanted and not to be had; the same call later counts as the first |
 | 1 UnknownClient | all calls of a client or about one | the policy declares no client of this name or number |
 | 2 UnknownQueue | calls about a queue | no queue of this number was opened |
 | 3 Denied RIGHT | `queue`, `write`, `read`, `signal`, `load`, `test` | the client lacks this right on the agent, region or signal, which may not exist, or the range leaves its region: a grant helps |
@@ -193,12 +193,12 @@ A refused call changes nothing. Whoever makes it meets one of these numbers; the
 | 7 QueueDown | `serve`, `stop` | the queue has an error or was stopped and launches nothing more; open another. For `stop`: it was stopped before |
 | 8 NotInFlight | `run`, `poll`, `finish` | no packet in flight has this id, or it is of a kind that the call doesn't take |
 | 9 NotFinished | `finish` | the packet has groups to run, or its barrier isn't ready |
-| 10 AuditFull | every call that would leave an entry | the audit has no room beside what packets in flight will need: finish them, or open the broker with more |
+| 10 AuditFull | every call that would leave an entry, but those that take a packet out of flight | the audit has no room beside the places that are kept for packets in flight: hand it out (`rotate`), or open the broker with more. To finish packets makes no room, since each uses the place that was kept for it |
 | 11 BadSize | `queue`, `write`, `read` | a queue's size is a power of two from 2 to 4,096 with 1 to 16 producers; a client reads or writes 1 to 65,536 bytes in one call |
 | 12 TooMany | `queue` | 64 queues were opened |
 | 13 UnknownObject | `grant`, `revoke` | the policy declares no object of this name or number |
-| 14 NotAStep | `submit` | the ring has no producer of this number |
-| 15 Spent | `submit` | the producer has reserved 2^40 ids; the ring's others may go on |
+| 14 NotAStep | `submit`, and lines that make single steps | the ring has no producer of this number, or may not make this step now |
+| 15 Spent | `submit`, `reserve` | the producer has reserved 2^40 ids; the ring's others may go on |
 | 16 OtherObjects | `reload` | the further policy declares other clients or objects than the first, or one of them with another key: only rows on rights may change |
 
 ## When a policy is refused
@@ -216,7 +216,7 @@ A refused call changes nothing. Whoever makes it meets one of these numbers; the
 
 They are looked for in this order: the length of the file, its form, its version and keys, and then the arrays in the order of the table above, row by row. In a row, unknown keys come first, then each key in the table's order, then the name. So the sample with a further allow row for the object `nosuch` is refused with `policy: 4 UnknownName allow 7`.
 
-The kernels' texts are read and checked after the policy itself, in order; the first that fails is named, as `kernel 1: check 3 line 4` (`docs/kernel_text.md`). `brokerd run` needs more than `brokerd check`: each module has to have a kernel of its entry's name. The first that has none is named as `kernel 1: no entry`, after all other faults and before any reply.
+The kernels' texts are read and checked after the policy itself, in order; the first that fails is named, as `kernel 1: check 3 line 4` (`docs/kernel_text.md`). `brokerd run` needs more than `brokerd check`: each module has to have a kernel of its entry's name. The first that has none is named as `kernel 1: no entry`, after all other faults of the policy and its kernels, and before those of further policies and any reply.
 
 ## What reading and asking cost
 

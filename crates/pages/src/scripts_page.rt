@@ -78,19 +78,19 @@ Clients and objects go by their names in the policy; a name that isn't there sta
 | `audit` | the entries since the last `rotate`, or all | `audit N` and N lines |
 | `rotate` | hands out these entries, and goes on with an empty audit (`docs/audit.md`) | `rotated N` and N lines |
 
-ERROR is `queue Q packet ID rule RULE`, and for a rule of access ` group G item I line L` behind it. A refusal is `refused N NAME`; `14 NotAStep` is a step that its seat may not make now, a take without a packet that was read whole, or a header that would be cleared before its packet is launched or denied (`docs/rings.md`); `15 Spent` a producer that has reserved 2^40 ids.
+ERROR is `queue Q packet ID rule RULE`, and for a rule of access ` group G item I line L` after it. A refusal is `refused N NAME`; `14 NotAStep` is a step that its seat may not make now, a take without a packet that was read whole, or a header that would be cleared before its packet is launched or denied (`docs/rings.md`); `15 Spent` a producer that has reserved 2^40 ids.
 
 Each line is one request to the world, or several in turn: `publish`, `submit`, `peek`, `retire` and `serve` make those named, up to the first that is refused, and the refusal is the reply; what was done before it stays. So a `submit` that meets a full ring, or whose packet is of type INVALID, has reserved its id: the ticket stays open, and `publish` may try it again. A `publish` of type INVALID makes no request.
 
 ## What to do
 
-A refusal changes nothing, so the same line may be tried again once what it lacks is there. A denial, and a fault of a packet in flight, stop the queue: it launches nothing more, and another has to be opened.
+A line of one request that is refused changes nothing; of a line of several the steps before the refusal stay. Either may be tried again once what it lacks is there. A denial, and a fault of a packet in flight, stop the queue: it launches nothing more, and another has to be opened.
 
 ### A line is refused
 
 | Reply | Comes to | What to do |
 |---|---|---|
-| `refused 0 OutOfMemory` | what would take memory | try again; what was refused was not begun |
+| `refused 0 OutOfMemory` | what would take memory | try again; what was refused was not done |
 | `refused 1 UnknownClient` | lines that name a client | name a client of the policy, or give it a `[[client]]` row |
 | `refused 2 UnknownQueue` | lines that name a queue | open it, and use the number that `queue` was answered |
 | `refused 3 Denied RIGHT` | `queue`, `write`, `read`, `signal`, `load`, `test` | grant RIGHT on the agent, region or signal; for `write` and `read` see also that the range ends inside its region |
@@ -100,7 +100,7 @@ A refusal changes nothing, so the same line may be tried again once what it lack
 | `refused 7 QueueDown` | `take`, `serve`, `stop` | read `errors Q`, mend the cause, open another queue |
 | `refused 8 NotInFlight` | `run`, `poll`, `finish` | the packet was never launched, or has left; `run` is for dispatches, `poll` for barrier packets |
 | `refused 9 NotFinished` | `finish` | `run` until 0 are left, or `poll` until `ready` |
-| `refused 10 AuditFull` | what would leave an entry | finish what is in flight, which always has room; begin anew with `--audit N`, up to 1,048,576 |
+| `refused 10 AuditFull` | what would leave an entry | hand the audit out (`rotate`), or begin anew with `--audit N`, up to 1,048,576; finishing packets makes no room |
 | `refused 11 BadSize` | `queue`, `write`, `read` | a queue has 2 to 4,096 slots, a power of two, and 1 to 16 producers; a client writes and reads 1 to 65,536 bytes a line |
 | `refused 12 TooMany` | `queue` | 64 queues were opened: use those |
 | `refused 13 UnknownObject` | `grant`, `revoke` | name an object of the policy of that kind, or declare it |
@@ -156,7 +156,7 @@ A kernel by `run`, as `faulted queue 1 packet 0 rule A3 group 1 item 1 line 9`: 
 | B1 | a signal below 0 that a barrier packet depends on | a negative value means an error: see to what was to signal it, store another value, and open another queue |
 
 ### The run ends
-With 0 where all lines were done or answered, with 2 where the command line isn't understood, and else with one of these on standard error, and the status behind it:
+With 0 where all lines were done or answered, with 2 where the command line isn't understood, and else with one of these on standard error, and the status after it:
 
 | Line | Status | What to do |
 |---|---|---|
@@ -199,15 +199,15 @@ With 0 where all lines were done or answered, with 2 where the command line isn'
 ```console
 $ brokerd picture crates/brokerd/data/sample.toml < examples/two_queues.script | cmp - docs/picture.svg
 ```
-The colours are told on top. The numbers below them are those of the audit's entries, of the whole history: behind a `rotate` they go on, and the queues and packets in flight with which the rest of the audit begins have their lanes and bars from the left edge on. The first lane is the administrator's and the clients'; below it each queue has one, from its opening on. A bar is a packet from its launch to its release, in the first row of its lane that is free, with its id and its kernel or function where there is room for it: green where it completed, red where it faulted, grey where its queue was stopped, blue where it is still in flight. Ticks in its lower part are its groups, the dark end its completion. A red mark is a denial or a fault, with its rule behind it. A violet tick is a poll of a barrier packet that saw a signal at 0, and an arrow leads there from what set it to 0. In the first lane green marks are grants, orange ones revocations, blue ones a client's writes and violet ones its changes of signals. A line across all lanes is a reload. Under the pointer each mark tells its entry: queue and packet, rights, how many bytes of which region were written, and signals with the values before and after.
+The colours are told on top. The numbers below them are those of the audit's entries, of the whole history: after a `rotate` they go on, and the queues and packets in flight with which the rest of the audit begins have their lanes and bars from the left edge on. The first lane is the administrator's and the clients'; below it each queue has one, from its opening on. A bar is a packet from its launch to its release, in the first row of its lane that is free, with its id and its kernel or function where there is room for it: green where it completed, red where it faulted, grey where its queue was stopped, blue where it is still in flight. Ticks in its lower part are its groups, the dark end its completion. A red mark is a denial or a fault, with its rule after it. A violet tick is a poll of a barrier packet that saw a signal at 0, and an arrow leads there from what set it to 0. In the first lane green marks are grants, orange ones revocations, blue ones a client's writes and violet ones its changes of signals. A line across all lanes is a reload. Under the pointer each mark tells its entry: queue and packet, rights, how many bytes of which region were written, and signals with the values before and after.
 
 The more entries there are, the closer they stand: 200 packets fit on a screen. `--from N` and `--to N` draw the entries from one number to another; what is in flight before the first has its bar from the left edge on. Of more than 5,000 entries the last 5,000 are drawn.
 
-A page is that of a whole script or there is none: where a line has no form, or reading, writing or memory fails, nothing is drawn, and standard error and the status are those of `run`. So put a `#` before the bad line, or end the script before it. Refusals, denials and faults of packets end nothing.
+A page is that of a whole script or there is none: where a line has no form, or reading, writing or memory fails, nothing is drawn (but a beginning, where the page's writer fails), and standard error and the status are those of `run`. So put a `#` before the bad line, or end the script before it. Refusals, denials and faults of packets end nothing.
 
 ## What isn't done, and packets in words
 
-`brokerd run POLICY --strict` ends behind the first reply that tells that a line was refused or denied, or that a kernel or a poll faulted, with status 1. `brokerd run POLICY --explain` tells on standard error behind each such reply why, and the line that mends it (`docs/explaining.md`). `brokerd explain L8`, or `explain QueueDown`, or `explain 7`, tells what a rule, a refusal or a cause means. `brokerd assemble POLICY` turns packets in words into the digits above (`docs/assemble.md`).
+`brokerd run POLICY --strict` ends after the first reply that tells that a line was refused or denied, or that a kernel or a poll faulted, with status 1. `brokerd run POLICY --explain` tells on standard error after each such reply why, and the line that mends it (`docs/explaining.md`). `brokerd explain L8`, or `explain QueueDown`, or `explain 7`, tells what a rule, a refusal or a cause means. `brokerd assemble POLICY` turns packets in words into the digits above (`docs/assemble.md`).
 
 ## Every form once
 

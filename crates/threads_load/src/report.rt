@@ -17,7 +17,7 @@ use std::alloc::{AllocError, Global};
 /// How a load ended.
 #[derive(Clone, Copy, Debug, PartialEq, Eq)]
 pub enum Ending {
-    /// Of each queue the core took what its lane served, and each lane finished its packets.
+    /// Of each queue the core took what its lane served, and no lane met its turns.
     Settled,
     /// Of each queue the core took what its lane served, and a lane met its turns.
     Unsettled,
