@@ -14,3 +14,4 @@ pub mod Joining
 pub mod Reaching
 pub mod Fitting
 pub mod Formed
+pub mod FormLookup
