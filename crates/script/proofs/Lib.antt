@@ -14,4 +14,3 @@ pub mod Joining
 pub mod Reaching
 pub mod Fitting
 pub mod Formed
-pub mod FormLookup

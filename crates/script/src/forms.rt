@@ -1,7 +1,6 @@
 //! The forms of lines, a row each: its first word, what that asks, and what its further words stand for.
 
-ghost use Rattle.std.specs.Prelude.{◌≡◌, bytes_eq, find, map};
-ghost use Rattle.std.specs.Option.{option_copied};
+ghost use Rattle.std.specs.Prelude.{◌≡◌, map};
 ghost use Rattle.script.specs.Forms.{form_rows, form_view, is_of, verb_among, verb_of};
 
 use crate::numbers::{
@@ -137,21 +136,18 @@ pub fn line_forms() -> &'static [LineForm]
     &FORMS
 }
 
-// The first of some forms that begins with a word.
-fn form_among<'f>(forms: &'f [LineForm], word: &[u8]) -> Option<&'f LineForm>
-    ensures { option_copied result ≡ find (λ form. bytes_eq word.now form.name.now) forms.now }
-{
-    forms.iter().find(|form| is_word(word, form.name))
-}
-
 // The verb of the first of some forms that begins with a word.
 fn verb_among(forms: &[LineForm], word: &[u8]) -> Option<Verb>
     ensures { result ≡ verb_among (map form_view forms.now) word.now }
 {
-    match form_among(forms, word) {
-        Some(form) => Some(form.verb),
-        None => None,
+    let mut rest = forms;
+    while let [form, others @ ..] = rest {
+        if is_word(word, form.name) {
+            return Some(form.verb);
+        }
+        rest = others;
     }
+    None
 }
 
 /// The verb of a word, if a line may begin with it.
