@@ -94,8 +94,14 @@ macro_rules! forms {
     };
 }
 
-// The forms, in the order in which they are told.
+// The forms: first those that most lines have, as a line's word is looked for from the first on.
 const FORMS: [LineForm; 31] = forms! {
+    Submit "submit" "Q" Number, "PRODUCER" Number, "PACKET" Packet;
+    Serve "serve" "Q" Number;
+    Run "run" "Q" Number, "ID" Number;
+    Finish "finish" "Q" Number, "ID" Number;
+    Publish "publish" "Q" Number, "PRODUCER" Number, "T" Number, "PACKET" Packet;
+    Poll "poll" "Q" Number, "ID" Number;
     Grant "grant" "CLIENT" Name, "KIND" Kind, "NAME" Name, "RIGHT,RIGHT" Rights;
     Revoke "revoke" "CLIENT" Name, "KIND" Kind, "NAME" Name, "RIGHT,RIGHT" Rights;
     Queue "queue" "CLIENT" Name, "AGENT" Name, "SIZE" Number, "PRODUCERS" Number;
@@ -103,8 +109,6 @@ const FORMS: [LineForm; 31] = forms! {
     Reserve "reserve" "Q" Number, "PRODUCER" Number;
     Room "room" "Q" Number, "PRODUCER" Number, "T" Number;
     Word "word" "Q" Number, "PRODUCER" Number, "T" Number, "K" Number, "WORD" Word;
-    Publish "publish" "Q" Number, "PRODUCER" Number, "T" Number, "PACKET" Packet;
-    Submit "submit" "Q" Number, "PRODUCER" Number, "PACKET" Packet;
     Look "look" "Q" Number;
     Part "part" "Q" Number, "K" Number;
     Peek "peek" "Q" Number;
@@ -112,10 +116,6 @@ const FORMS: [LineForm; 31] = forms! {
     Clear "clear" "Q" Number;
     Advance "advance" "Q" Number;
     Retire "retire" "Q" Number;
-    Serve "serve" "Q" Number;
-    Run "run" "Q" Number, "ID" Number;
-    Poll "poll" "Q" Number, "ID" Number;
-    Finish "finish" "Q" Number, "ID" Number;
     Write "write" "CLIENT" Name, "ADDRESS" Address, "BYTES" Bytes;
     Read "read" "CLIENT" Name, "ADDRESS" Address, "N" Number;
     Signal "signal" "CLIENT" Name, "NAME" Name, "OP" Operation, "V" Value;
@@ -129,7 +129,7 @@ const FORMS: [LineForm; 31] = forms! {
     Rotate "rotate" ;
 };
 
-/// The forms of lines, in the order in which they are told: those of a verb stand together.
+/// The forms of lines, those that most lines have first: those of a verb stand together.
 pub fn line_forms() -> &'static [LineForm]
     ensures { map form_view result.now ≡ form_rows }
 {
