@@ -1,6 +1,6 @@
 //! The engine: it reads a line, does what it asks, and writes the reply.
 
-ghost use Rattle.std.specs.Prelude.{◌≡◌, ◌++◌, IfOk, MatchResult, OnOk, OnErr, Result, string_bytes, true};
+ghost use Rattle.std.specs.Prelude.{◌≡◌, ◌++◌, [], IfOk, MatchResult, OnOk, OnErr, Result, string_bytes, true};
 ghost use Rattle.core_model.specs.History.{beginning};
 ghost use Rattle.world.specs.declared.reply.Refusal.{Refusal};
 ghost use Rattle.script.specs.declared.command.LineAnswer.{LineAnswer};
@@ -20,8 +20,8 @@ use policy::Policy;
 use std::alloc::{AllocError, Global};
 use world::{Request, World};
 
-// The room that a reply begins with, which is enough for most (own).
-const REPLY_ROOM: usize = 64;
+// The most room that is kept from one reply to the next (own).
+const KEPT_ROOM: usize = 4096;
 
 // Whether a line asks for the audit.
 fn asks_for_audit(command: &Command) -> bool
@@ -50,18 +50,30 @@ fn tell_audit(alloc: Global, world: &World, out: &mut String) -> Result<(), Allo
     out.push_str(reply.as_str())
 }
 
-// Puts a reply behind the others; for want of memory nothing is written.
+// Empties the text in which a reply is made; it keeps its room, unless that is large.
+fn empty(alloc: Global, reply: &mut String)
+    ensures { string_bytes reply.new ≡ [] }
+{
+    if reply.capacity() > KEPT_ROOM {
+        *reply = String::new(alloc);
+    } else {
+        reply.clear();
+    }
+}
+
+// Puts a reply, made in a text that is kept for its room, behind the others; for want of memory nothing is put there.
 fn put_reply(
     alloc: Global,
     world: &World,
     told: &LineReply,
+    reply: &mut String,
     out: &mut String,
 ) -> Result<(), AllocError>
     ensures told { OnOk result (string_bytes out.new ≡ string_bytes out.old ++ text_of_line world.now.core.origin.policy told.now) }
     ensures wanted { OnErr result (string_bytes out.new ≡ string_bytes out.old) }
 {
-    let mut reply = String::with_capacity(alloc, REPLY_ROOM)?;
-    write_line(&mut reply, world.policy(), told)?;
+    empty(alloc, reply);
+    write_line(reply, world.policy(), told)?;
     out.push_str(reply.as_str())
 }
 
@@ -74,6 +86,7 @@ fn serve<V: Watch>(
     watcher: &mut V,
     number: u64,
     command: Command,
+    reply: &mut String,
     out: &mut String,
 ) -> Result<Flow, AllocError>
     ensures served { (told : Result LineAnswer Refusal) × does later.now command world.old told world.new
@@ -86,12 +99,13 @@ fn serve<V: Watch>(
     }
     watcher.asks(&command);
     let told = perform(alloc, world, later, command);
-    put_reply(alloc, world, &told, out)?;
+    put_reply(alloc, world, &told, reply, out)?;
     Ok(watcher.seen(world, number, told))
 }
 
 /// Does what the line of a number asks, puts its reply behind the others, and answers what the watcher says to it; none
-/// where the line has no form. Where it wants memory nothing is written, and what the line asks is done or nothing is.
+/// where the line has no form. Where it wants memory nothing is put there, and what the line asks is done or nothing is.
+/// The reply is made in a text of its own, which is kept for its room.
 #[tactic(auto, unfolding(crate::specs::Runs::watched))]
 pub fn answer<V: Watch>(
     alloc: Global,
@@ -100,6 +114,7 @@ pub fn answer<V: Watch>(
     watcher: &mut V,
     number: u64,
     line: &[u8],
+    reply: &mut String,
     out: &mut String,
 ) -> Result<Option<Flow>, AllocError>
     ensures { MatchResult result
@@ -110,7 +125,7 @@ pub fn answer<V: Watch>(
         None => Ok(None),
         Some(Line::Quiet) => Ok(Some(Flow::GoOn)),
         Some(Line::Asks(command)) => {
-            let flow = serve(alloc, world, later, watcher, number, command, out)?;
+            let flow = serve(alloc, world, later, watcher, number, command, reply, out)?;
             Ok(Some(flow))
         }
     }

@@ -72,6 +72,7 @@ pub fn run_watched<R: io::Read, W: io::Write, V: Watch>(
     let mut session = Session {
         line: Vec::new(alloc),
         number: 1,
+        reply: String::new(alloc),
         out: String::new(alloc),
     };
     let mut block = [0; BLOCK];

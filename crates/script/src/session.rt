@@ -20,6 +20,8 @@ pub struct Session {
     pub line: Vec<u8>,
     /// That line's number, from 1.
     pub number: u64,
+    /// The text in which each reply is made, kept for its room.
+    pub reply: String,
     /// The replies that were not handed over yet.
     pub out: String,
 }
@@ -72,6 +74,7 @@ fn serve_line<V: Watch>(
         watcher,
         session.number,
         line,
+        &mut session.reply,
         &mut session.out,
     )?;
     follow(session, said)
@@ -97,6 +100,7 @@ fn end_line<V: Watch>(
         watcher,
         session.number,
         session.line.as_slice(),
+        &mut session.reply,
         &mut session.out,
     )?;
     follow(session, said)
