@@ -9,7 +9,7 @@ use Rattle.script.proofs.run.run_watched.Goals as goal
 pub loop-init : goal.loop-init
 loop-init g c = (
   going_none (watched g.V.Watch.says c.args.later.now) _ _ _ _ c.new.ensures.items refl,
-  c.new-2.ensures.bytes,
+  c.new-3.ensures.bytes,
   omega arith,
   ap (λ answers. answers.reads) c.requires,
   omega arith,
