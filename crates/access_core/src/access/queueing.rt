@@ -49,6 +49,8 @@ impl AccessCore {
         ensures lacks { IfErr result (λ why. why ≡ Refusal.OutOfMemory) }
     {
         let errors = Reserved::with_room(alloc, MOST_IN_FLIGHT)?;
+        self.blocks
+            .reserve(MOST_IN_FLIGHT * (self.queues.len() + 1))?;
         self.queues.push(Queue {
             client,
             agent,

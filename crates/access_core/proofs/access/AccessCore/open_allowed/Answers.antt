@@ -6,6 +6,7 @@ use Rattle.core_model.proofs.Entered.{open-effects}
 use Rattle.access_core.proofs.Seen.{seen}
 use Rattle.access_core.proofs.HeldAfter.{grants-still}
 use Rattle.access_core.proofs.QueueLemmas.{openings-count, numbered-push, few_after}
+use Rattle.access_core.proofs.BlockRoom.{more-room, room-opened}
 use Rattle.access_core.proofs.CachedMore.{IsCached-more, memory-still, none-launched}
 use Rattle.access_core.proofs.QueueAt.{IsQuiet, flight-quiet, queue_at-quiet}
 use Rattle.core_model.specs.declared.outcome.Outcome.TheVariants as outcome
@@ -45,5 +46,6 @@ invariant_of-self-2 c =
         in_flight_count = c.self.invariant.in_flight_count ∙ ap length (sym (flight-quiet (start_of a) a.audit.items _ _ _ calm));
         within = none-launched (Open c.args.client c.args.agent c.args.size) (outcome.Opened c.args.queue) refl (start_of a);
       };
+      block_room = rw (push, c.new.ensures) (room-opened a c.self.invariant _ _ (rw c.new.ensures refl) c.in_ok-reserve.ensures.same c.in_ok-reserve.ensures.ok);
     })
     _ (seen c.self.view_is) c.requires.may

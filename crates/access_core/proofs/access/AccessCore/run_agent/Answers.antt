@@ -7,6 +7,7 @@ use Rattle.access_core.proofs.ChangedQueue.{errors-changed}
 use Rattle.access_core.proofs.Seen.{seen}
 use Rattle.access_core.proofs.Calls.{met-entry, met-refusal}
 use Rattle.access_core.proofs.HeldAfter.{grants-still}
+use Rattle.access_core.proofs.BlockRoom.{room-advanced}
 use Rattle.access_core.proofs.CachedMore.{IsCached-more}
 use Rattle.access_core.proofs.QueueAt.{flight-advanced}
 use Rattle.access_core.proofs.RunLemmas.{agent-done, agent-due, agent-writes, one_group, pieces-inside, run-advances}
@@ -54,6 +55,7 @@ invariant_of-self c =
       values = sym ((agent-writes (start_of a) a.audit.items c.args.dispatch).signals a.signals);
       queues = rw c.advance.ensures.queues (queues-advanced a c.self.invariant c.args.queue at c.args.found.packet one_group _ _ _ is refl _
           (c.one_more.ensures ∙ ap one_group (sym found.progress_is)));
+      block_room = rw c.advance.ensures.queues (room-advanced a c.self.invariant c.args.queue at c.args.found.packet _);
     })
     _ (seen c.self.view_is) owing
 
