@@ -1,6 +1,6 @@
 //! What packets in flight were given at their launches: the rights that each holds, and its argument block.
 
-ghost use Rattle.std.specs.Prelude.{Some, ◌≡◌, ◌<◌, ◌≤◌, ◌++◌, ◌∷◌, [], OnErr, OnOk, filter, find, length, not};
+ghost use Rattle.std.specs.Prelude.{Some, ◌≡◌, ◌<◌, ◌≤◌, ◌++◌, ◌∷◌, [], OnErr, OnOk, filter, find, length, max, not};
 ghost use Rattle.std.specs.Option.{option_copied};
 ghost use Rattle.access_core.specs.inner.ArgumentBlocks.{is_block, rights_for};
 ghost use Rattle.access_core.specs.Cores.{places_of};
@@ -89,13 +89,15 @@ impl ArgumentBlocks {
             .find(|block| block.queue == queue && block.packet == packet)
     }
 
-    /// Gets room for so many blocks more.
-    pub fn reserve(&mut self, further: usize) -> Result<(), AllocError>
-        ensures ok { OnOk result (further ≤ self.new.room) }
+    /// Gets places for so many blocks in all, unless there are as many.
+    pub fn get_places(&mut self, places: usize) -> Result<(), AllocError>
+        ensures items { self.new.items ≡ self.old.items }
+        ensures enough { OnOk result (places ≤ places_of self.new) }
+        ensures exact { OnOk result (places_of self.new ≡ max (places_of self.old) places) }
         ensures err { OnErr result (self.new ≡ self.old) }
-        ensures same { self.new.items ≡ self.old.items }
     {
-        self.blocks.reserve(further)
+        self.blocks
+            .reserve_exact(places.saturating_sub(self.blocks.len()))
     }
 
     /// Puts the block of a packet that is launched behind the others, in room that was got before.

@@ -1,8 +1,10 @@
 -- The packet is in flight, and the entry tells it.
 use Rattle.core_model.specs.History.{beginning}
-use Rattle.std.proofs.Common.{◌≡◌, ◌∙◌, ◌∷◌, ◌++◌, List, ap, refl, sym, subst, true, Some, [], map, option_map}
-use Rattle.access_core.proofs.Terms.{ArgumentBlock, History, IsNext-from_owed, Launched, Packet, Take, TakesNext, arguments_of, as_rights, launched_by, lies_in_regions, owner}
-use Rattle.access_core.proofs.Terms.{error_places, region_lengths, rights_at_launch, start_of, with_launched}
+use Rattle.std.proofs.Common.{◌≡◌, ◌∙◌, ◌∷◌, ap, inr, refl, rules, sym, subst, true, Some, [], map, option_map}
+use Rattle.access_core.proofs.Terms.{ArgumentBlock, History, IsNext-from_owed, Launched, Packet, Take, TakesNext, arguments_of, as_rights, due, launched_by, lies_in_regions, owner}
+use Rattle.access_core.proofs.Terms.{error_places, region_lengths, rights_at_launch, start_of}
+use Rattle.access_core.specs.inner.QueueChanges.{with_launched}
+use Rattle.access_core.proofs.AskingLemmas.{launch-asks}
 use Rattle.access_core.proofs.Places.{places-kept}
 use Rattle.access_core.proofs.ChangedQueue.{errors-changed}
 use Rattle.access_core.proofs.Seen.{seen}
@@ -40,8 +42,8 @@ push-requires c =
     launch-room a c.self.invariant c.args.queue (can-take a c.self.invariant c.args.queue (subst (λ h. TakesNext h c.args.queue) (sym (seen c.self.view_is)) c.requires.3))
     c.args.launching.asked.packet c.args.packet
 
-pub invariant_of-self-2 : goal.invariant_of-self-2
-invariant_of-self-2 c =
+pub invariant_of-self : goal.invariant_of-self
+invariant_of-self c =
     let a = c.self.inside in
     let p = c.args.launching.asked.packet in
     let can = can-take a c.self.invariant c.args.queue (subst (λ h. TakesNext h c.args.queue) (sym (seen c.self.view_is)) c.requires.3) in
@@ -70,10 +72,30 @@ invariant_of-self-2 c =
     })
     _ (seen c.self.view_is) c.requires.0
 
+pub returns-in_err-block-clause-met : goal.returns-in_err-block-clause-met
+returns-in_err-block-clause-met c =
+    inr (record {
+      may = rw c.requires.0 refl;
+      asks = launch-asks c.args.self.now.history c.args.queue c.args.packet c.args.bytes.now (opening_of c.args.launching) c.args.launching.asked.packet
+          (due c.args.self.now.history (Take c.args.queue c.args.packet c.args.bytes.now)) c.requires.4 c.requires.1;
+      reply_is = search rules;
+      history_is = refl;
+    })
+
+pub returns-in_err-rights-clause-met : goal.returns-in_err-rights-clause-met
+returns-in_err-rights-clause-met c =
+    inr (record {
+      may = rw c.requires.0 refl;
+      asks = launch-asks c.args.self.now.history c.args.queue c.args.packet c.args.bytes.now (opening_of c.args.launching) c.args.launching.asked.packet
+          (due c.args.self.now.history (Take c.args.queue c.args.packet c.args.bytes.now)) c.requires.4 c.requires.1;
+      reply_is = search rules;
+      history_is = refl;
+    })
+
 pub returns-clause-places : goal.returns-clause-places
 returns-clause-places c =
     let a = c.self.inside in
     let can = can-take a c.self.invariant c.args.queue (subst (λ h. TakesNext h c.args.queue) (sym (seen c.self.view_is)) c.requires.3) in
-    places-kept a _ c.self.view_is _ a.grants _ _ _ c.place_next.ensures.capacity
+    places-kept a _ c.self.view_is c.place_next.new.queues a.grants c.push.new.self c.enter.new.audit _ c.place_next.ensures.capacity
     (ap (map error_places) c.place_next.ensures.queues ∙ errors-changed a.queues.items c.args.queue (with_launched c.args.packet _) can.opened.q can.opened.found refl)
     refl c.push.ensures.places c.enter.ensures
