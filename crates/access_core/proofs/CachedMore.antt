@@ -1,10 +1,10 @@
 -- What is cached stays what the history says when an entry is put behind it and the fields follow.
 use Rattle.std.proofs.Common.{◌≡◌, ℕ, ◌+◌, ◌≤◌, List, [], ◌∷◌, length, sym, ◌∙◌, ap, subst, refl, true, false, Some, None, arith, length-append, map, fold}
 use Rattle.std.proofs.Common.{All}
-use Rattle.access_core.proofs.Terms.{AreBlocksOf, ArgumentBlock, ClientId, Effect, Event, History, HoldsNone, InFlight, Inside, IsCached, IsEntered, IsSound, Ledger, Object, Outcome}
+use Rattle.access_core.proofs.Terms.{AreBlocksOf, ArgumentBlock, ClientId, Effect, Event, HasBlockPlaces, History, HoldsNone, InFlight, Inside, IsCached, IsEntered, IsSound, Ledger, Object, Outcome}
 use Rattle.access_core.proofs.Terms.{Owed}
 use Rattle.access_core.proofs.Terms.{PacketId, QUEUES, Queue, QueueId, Right, Start, block_of, is_given, byte_after, byte_at, cached_opening, cached_view, due, entered-owed}
-use Rattle.access_core.proofs.Terms.{enters, entry_of, flight, flight-more, history_of, in_force, in_force-more, in_force_after, lacks_room, launched_by, lengths_of}
+use Rattle.access_core.proofs.Terms.{enters, entry_of, flight, flight-more, history_of, places_of, in_force, in_force-more, in_force_after, lacks_room, launched_by, lengths_of}
 use Rattle.access_core.proofs.Terms.{lies_in_region, lies_in_regions, ltb-false, memory_at, memory_at-more, numbered, openings-more, owed, queue_at}
 use Rattle.access_core.proofs.Terms.{region_lengths, signals-more, signals_after, start_of, with_entry, with_some}
 use Rattle.core_model.specs.Queues.{opening_of}
@@ -50,6 +50,7 @@ pub record FieldsAfter (a b : Inside) (event : Event) (outcome : Outcome) (effec
   pub memory : MemoryAfter a.memory b.memory effects
   pub values : b.signals ≡ fold signals_after a.signals effects
   pub queues : QueuesAfter a b.queues.items b.in_flight_count event outcome effects
+  pub block_room : HasBlockPlaces b.queues.items b.in_flight_count (places_of b.blocks)
 
 -- what is due to an event after a history is due by the fields that show it
 due-inside : (a : Inside) (old : History) (event : Event) (owing : Owed) → history_of a ≡ old → due old event ≡ owing → due (history_of a) event ≡ owing
@@ -106,6 +107,7 @@ module _ (a b : Inside) (event : Event) (outcome : Outcome) (effects : List Effe
         within = rw (after.same.0.0, after.same.0.1, after.audit.items, flight-more)
             (all-after (λ f. lies_in_regions (region_lengths a.start.policy) f.packet ≡ true) (entry_of event outcome effects)
             (flight (start_of a) a.audit.items) after.queues.within was.within);
+        block_room = after.block_room;
         room = omega (arith, longer, room, after.queues.in_flight_count, after.same.1);
         places = omega (arith, longer, after.audit.room, after.same.1, was.places);
         few = omega (arith, after.same.1, was.few);

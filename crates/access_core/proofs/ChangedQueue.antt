@@ -1,7 +1,7 @@
 -- One queue of the list changed: what is kept of it, and of the others.
-use Rattle.std.proofs.Common.{◌≡◌, ℕ, zero, suc, ◌-◌, ◌<◌, List, [], ◌∷◌, length, map, All, refl, sym, ◌∙◌, ap, Option}
+use Rattle.std.proofs.Common.{◌≡◌, ℕ, zero, suc, ◌-◌, ◌+◌, ◌<◌, List, [], ◌∷◌, length, map, All, refl, sym, ◌∙◌, ap, Option}
 use Rattle.std.proofs.Common.{Some, None, arith, length-set, lt-length-set, get_or-set_same, ◌==◌, slice_get, slice_set, if◌then◌else◌}
-use Rattle.access_core.proofs.Terms.{All-set, Entry, IsSound, PacketId, Queue, QueueId, QueueView, Start, cached_opening, cached_view, error_places, freed_by}
+use Rattle.access_core.proofs.Terms.{All-set, Entry, IsSound, PacketId, Queue, QueueId, QueueView, Start, cached_opening, cached_view, error_places, free_of, free_places, freed_by}
 use Rattle.access_core.proofs.Terms.{get_or_from_slice_get, numbered, places_freed, queue_at, slice_get-get_or, slice_get_within, with_queue}
 use Rattle.std.proofs.Math.Seq.{map-set_same}
 
@@ -16,6 +16,12 @@ get-other (x ∷ xs) zero v zero other = absurd (other refl)
 get-other (x ∷ xs) zero v (suc k) other = refl
 get-other (x ∷ xs) (suc i) v zero other = refl
 get-other (x ∷ xs) (suc i) v (suc k) other = get-other xs i v k (λ e. other (ap suc e))
+
+-- how many packets more can be in flight, where one queue is exchanged
+free-set : (qs : List Queue) (i : ℕ) (q v : Queue) → slice_get qs i ≡ Some q → free_places (slice_set qs i v) + free_of q ≡ free_places qs + free_of v
+free-set [] i q v at = absurd (cc at)
+free-set (x ∷ xs) zero q v at = let same : x ≡ q = cc at in omega (arith, ap free_of same)
+free-set (x ∷ xs) (suc i) q v at = omega (arith, free-set xs i q v at)
 
 -- the place of a number
 pub numbered-place : (qs : List Queue) (n : ℕ) (q : Queue) → numbered qs n ≡ Some q → (0 < n) × (slice_get qs (n - 1) ≡ Some q)
@@ -47,6 +53,10 @@ module _ (qs : List Queue) (n : QueueId) (change : Queue → Queue) (q : Queue) 
   pub errors-changed : error_places (change q) ≡ error_places q → map error_places (with_queue qs n change) ≡ map error_places qs
   errors-changed same =
       rw with_queue-is (map-set_same error_places qs (n.0 - 1) (change q) q (same ∙ ap error_places (sym (get_or_from_slice_get qs (n.0 - 1) q q place.1))))
+
+  -- as many packets more can be in flight of the changed list as the changed queue has places for
+  pub free-changed : free_places (with_queue qs n change) + free_of q ≡ free_places qs + free_of (change q)
+  free-changed = rw with_queue-is (free-set qs (n.0 - 1) q (change q) place.1)
 
   pub length-changed : length (with_queue qs n change) ≡ length qs
   length-changed = rw with_queue-is (length-set qs (n.0 - 1) (change q))

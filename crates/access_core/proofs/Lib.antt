@@ -11,9 +11,11 @@ pub mod Marking
 pub mod QueueAt
 pub mod ChangedQueue
 pub mod Places
+pub mod BlockRoom
 pub mod PollLemmas
 pub mod StopLemmas
 pub mod Rooms
+pub mod AskingLemmas
 pub mod WorkLemmas
 pub mod WorkReadLemmas
 pub mod RunLemmas

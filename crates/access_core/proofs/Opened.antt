@@ -55,6 +55,7 @@ IsCached-opened a policy opened fresh ruled memory values blocks queues flying e
       few_queues = rw queues (omega arith);
       in_flight_count = empty (λ now es. a.in_flight_count ≡ length (flight now es)) flying;
       within = empty (λ now es. All (λ f. lies_in_regions (region_lengths a.start.policy) f.packet ≡ true) (flight now es)) (All-nil _);
+      block_room = rw (queues, flying) (record { free = refl; enough = omega arith });
       room = rw entries (omega (arith, flying));
       places = let none : length a.audit.items ≡ 0 = ap length entries in omega (arith, none, places);
       few = few;

@@ -77,6 +77,7 @@ module _ (a : Inside) (kept : IsCached a) where
         in_flight_count = here (λ now es. a.in_flight_count ≡ length (flight now es)) kept.in_flight_count;
         within = here (λ now es. All (λ (f : InFlight). lies_in_regions (region_lengths next.policy) f.packet ≡ true) (flight now es))
             (subst (λ ls. All (λ (f : InFlight). lies_in_regions ls f.packet ≡ true) (flight (start_of a) a.audit.items)) (sym lengths) kept.within);
+        block_room = kept.block_room;
         room = let before = kept.room in omega (arith, none, before);
         places = omega (arith, none, room);
         few = kept.few;

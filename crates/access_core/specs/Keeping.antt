@@ -1,20 +1,48 @@
 -- Which calls leave the places of a core's tables as they are (own).
-use Rattle.std.specs.Prelude.{◌≡◌, false}
+use Rattle.std.specs.Prelude.{◌≡◌, ℕ, ◌+◌, ◌*◌, ◌<◌, max, false, [], ◌∷◌, ◌++◌, length, Result, Ok, Err}
+use Rattle.aql_packet.specs.declared.ids.QueueId.{QueueId}
+use Rattle.core_model.specs.History.{beginning}
 use Rattle.core_model.specs.Legal.{due, may_lack_memory}
+use Rattle.core_model.specs.Limits.{most_in_flight}
+use Rattle.core_model.specs.Queues.{openings}
+use Rattle.core_model.specs.declared.refusal.Refusal.{Refusal}
 use Rattle.core_model.specs.declared.event.Event.{Event}
-use Rattle.core_model.specs.declared.event.Event.TheVariants.{Open, Take}
+use Rattle.core_model.specs.declared.event.Event.TheVariants.{Open}
 use Rattle.core_model.specs.declared.event.Request.{Request}
 use Rattle.core_model.specs.declared.event.Request.TheVariants as request
-use Rattle.access_core.specs.Cores.{Core}
+use Rattle.access_core.specs.Cores.{Core, TablePlaces}
 
--- an event leaves all places where it may not want memory: so does an opening or a take that is refused, and a take that waits or is denied
+-- A queue was opened where so many were open: its list of errors has a place for each of its packets that can be in flight, the table of
+-- argument blocks has as many for each queue, and the table of queues has more places only if it was full. No other table has (own).
+pub record GrowsForQueue (open_before : ℕ) (old new : TablePlaces) : Type 0 where
+  pub errors : new.error_places ≡ old.error_places ++ most_in_flight ∷ []
+  pub blocks : new.block_places ≡ max old.block_places (most_in_flight * (open_before + 1))
+  pub queues : open_before < old.queue_places → new.queue_places ≡ old.queue_places
+  pub others : (new.kernel_places ≡ old.kernel_places) × (new.segment_places ≡ old.segment_places) × (new.hold_places ≡ old.hold_places) × (new.audit_places ≡ old.audit_places)
+
+-- no queue was opened: no table but that of queues has more places, and that only if it was full (own)
+pub record LacksForQueue (open_before : ℕ) (old new : TablePlaces) : Type 0 where
+  pub same : new ≡ record old { queue_places = new.queue_places }
+  pub queues : open_before < old.queue_places → new.queue_places ≡ old.queue_places
+
+-- which tables an opening that came to this lengthens, where so many queues were open (own)
+abbrev pub GrowsAsOpened : ℕ → Result QueueId Refusal → TablePlaces → TablePlaces → Type 0
+GrowsAsOpened open_before (Ok queue) old new = GrowsForQueue open_before old new
+GrowsAsOpened open_before (Err why) old new = LacksForQueue open_before old new
+
+-- the same, where those were open that a history tells of
+abbrev pub GrowsByOpening : Core → Result QueueId Refusal → Core → Type 0
+GrowsByOpening old result new = GrowsAsOpened (length (openings (beginning old.history) old.history.entries)) result old.places new.places
+
+-- an event leaves all places where it may not want memory: so does an opening that is refused
 abbrev pub KeepsPlaces : Event → Core → Core → Type 0
 KeepsPlaces event old new = may_lack_memory event (due old.history event) ≡ false → new.places ≡ old.places
 
--- an opening and a take keep the places so; every other request leaves all of them, even where it may want memory
+-- an opening keeps the places so; every other request leaves all of them, even where it may want memory: a launch, which gets memory for
+-- what its packet holds, finds a place for that in the table
 abbrev pub ServedInPlace : Request → Core → Core → Type 0
 ServedInPlace (request.Open client agent size) old new = KeepsPlaces (Open client agent size) old new
-ServedInPlace (request.Take queue packet bytes) old new = KeepsPlaces (Take queue packet bytes) old new
+ServedInPlace (request.Take queue packet bytes) old new = new.places ≡ old.places
 ServedInPlace (request.Call asked) old new = new.places ≡ old.places
 ServedInPlace (request.Query asked) old new = new.places ≡ old.places
 ServedInPlace (request.Reload policy) old new = new.places ≡ old.places

@@ -1,6 +1,6 @@
 //! What packets in flight were given at their launches: the rights that each holds, and its argument block.
 
-ghost use Rattle.std.specs.Prelude.{Some, ◌≡◌, ◌<◌, ◌++◌, ◌∷◌, [], OnOk, filter, find, length, not};
+ghost use Rattle.std.specs.Prelude.{Some, ◌≡◌, ◌<◌, ◌≤◌, ◌++◌, ◌∷◌, [], OnErr, OnOk, filter, find, length, max, not};
 ghost use Rattle.std.specs.Option.{option_copied};
 ghost use Rattle.access_core.specs.inner.ArgumentBlocks.{is_block, rights_for};
 ghost use Rattle.access_core.specs.Cores.{places_of};
@@ -89,18 +89,22 @@ impl ArgumentBlocks {
             .find(|block| block.queue == queue && block.packet == packet)
     }
 
-    /// Gets room for one block more.
-    pub fn reserve(&mut self) -> Result<(), AllocError>
-        ensures ok { OnOk result (0 < self.new.room) }
-        ensures same { self.new.items ≡ self.old.items }
+    /// Gets places for so many blocks in all, unless there are as many.
+    pub fn get_places(&mut self, places: usize) -> Result<(), AllocError>
+        ensures items { self.new.items ≡ self.old.items }
+        ensures enough { OnOk result (places ≤ places_of self.new) }
+        ensures exact { OnOk result (places_of self.new ≡ max (places_of self.old) places) }
+        ensures err { OnErr result (self.new ≡ self.old) }
     {
-        self.blocks.reserve(1)
+        self.blocks
+            .reserve_exact(places.saturating_sub(self.blocks.len()))
     }
 
     /// Puts the block of a packet that is launched behind the others, in room that was got before.
     pub fn push(&mut self, block: ArgumentBlock)
         requires { 0 < self.old.room }
-        ensures { self.new.items ≡ self.old.items ++ block ∷ [] }
+        ensures items { self.new.items ≡ self.old.items ++ block ∷ [] }
+        ensures places { places_of self.new ≡ places_of self.old }
     {
         self.blocks.push_reserved(block);
     }

@@ -8,6 +8,7 @@ mod access;
 mod argument_blocks;
 mod holders;
 mod kernel;
+mod lists;
 mod queue;
 mod tables;
 

@@ -29,6 +29,7 @@ use Rattle.core_model.specs.States.{state_after}
 use Rattle.core_model.specs.Flight.{flight, flight_after}
 use Rattle.core_model.specs.Owed.{Owed, refuses, answers, enters, owed}
 use Rattle.core_model.specs.Queries.{AnswerOrRefusal, query_answer}
+pub use Rattle.core_model.specs.Asking.{asks_for_memory, query_may_lack_memory}
 
 -- the history of a core that was just opened: it begins from what a core begins from that is opened over this policy, and has no entry yet (own)
 pub record IsOpening (history : History) (policy : Declared) (kernels : List Program) (capacity : ℕ) : Type 0 where
@@ -138,9 +139,10 @@ may_lack_memory (Call (HostWrite _ _ _)) (enters _ _) = true
 may_lack_memory (Reload _) (enters _ _) = true
 may_lack_memory _ _ = false
 
--- memory was wanted and not to be had, and all is as before (own)
+-- memory was asked for and not to be had, and all is as before (own)
 pub record LacksMemory (event : Event) (old new : History) (reply : Result Outcome Refusal) : Type 0 where
   pub may : may_lack_memory event (due old event) ≡ true
+  pub asks : asks_for_memory old event (due old event) ≡ true
   pub reply_is : reply ≡ Err refusal.OutOfMemory
   pub history_is : new ≡ old
 
@@ -159,13 +161,6 @@ pub record IsOfOthers (policy : Declared) (old new : History) (reply : Result Ou
 abbrev pub ReloadMeetsOrLacks : Declared → History → History → Result Outcome Refusal → Type 0
 ReloadMeetsOrLacks policy old new reply =
     IsOfOthers policy old new reply ⊎ (DeclaresAs (beginning old).policy policy × MeetsOrLacks (Reload policy.rows) old new reply)
-
--- whether a query that is replied this may want memory: one that is answered by a list, never one that is refused (own)
-abbrev pub query_may_lack_memory : AnswerOrRefusal → Bool
-query_may_lack_memory (Err _) = false
-query_may_lack_memory (Ok (answer.Value _)) = false
-query_may_lack_memory (Ok (answer.Test _)) = false
-query_may_lack_memory (Ok _) = true
 
 -- an event's reply as a reply to a request (own)
 abbrev pub as_reply : Result Outcome Refusal → AnswerOrRefusal

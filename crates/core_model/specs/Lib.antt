@@ -15,6 +15,7 @@ pub mod View
 pub mod States
 pub mod Owed
 pub mod Queries
+pub mod Asking
 pub mod Legal
 pub mod Rotation
 pub mod Takes

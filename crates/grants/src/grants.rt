@@ -350,13 +350,14 @@ impl Grants {
     }
 
     /// The objects on which a client has a right, with its rights: agents, regions, signals, kernels,
-    /// each by number.
+    /// each by number. A client without rights is listed in no memory.
     pub fn list(
         &self,
         alloc: Global,
         client: ClientId,
     ) -> Result<Sequence<(Object, Rights)>, AllocError>
-        ensures { IfOk result (λ rows. rows ≡ listing self.now client) }
+        ensures rows { IfOk result (λ rows. rows ≡ listing self.now client) }
+        ensures lacks { OnErr result (0 < length (listing self.now client)) }
     {
         let mut rows = Sequence::new(alloc);
         self.list_kinds(&mut rows, client)?;
@@ -369,7 +370,8 @@ impl Grants {
         rows: &mut Sequence<(Object, Rights)>,
         client: ClientId,
     ) -> Result<(), AllocError>
-        ensures { OnOk result (rows.new ≡ rows.old ++ listing self.now client) }
+        ensures rows { OnOk result (rows.new ≡ rows.old ++ listing self.now client) }
+        ensures lacks { OnErr result (0 < length (listing self.now client)) }
     {
         self.list_kind(rows, client, Kind::Agent)?;
         self.list_kind(rows, client, Kind::Region)?;
@@ -385,7 +387,8 @@ impl Grants {
         client: ClientId,
         kind: Kind,
     ) -> Result<(), AllocError>
-        ensures { OnOk result (rows.new ≡ rows.old ++ listing_by (in_force self.now client) (objects_of_kind (count (rules_in self.now)) kind)) }
+        ensures rows { OnOk result (rows.new ≡ rows.old ++ listing_by (in_force self.now client) (objects_of_kind (count (rules_in self.now)) kind)) }
+        ensures lacks { OnErr result (0 < length (listing_by (in_force self.now client) (objects_of_kind (count (rules_in self.now)) kind))) }
     {
         for before in 0..self.table.rules().count(kind) {
             self.list_object(rows, client, Object::of(kind, before as u64 + 1))?;
@@ -401,7 +404,8 @@ impl Grants {
         client: ClientId,
         object: Object,
     ) -> Result<(), AllocError>
-        ensures { OnOk result (rows.new ≡ rows.old ++ listing_by (in_force self.now client) (object ∷ [])) }
+        ensures rows { OnOk result (rows.new ≡ rows.old ++ listing_by (in_force self.now client) (object ∷ [])) }
+        ensures lacks { OnErr result (0 < length (listing_by (in_force self.now client) (object ∷ []))) }
     {
         let rights = self.in_force(client, object);
         if !rights.is_empty() {

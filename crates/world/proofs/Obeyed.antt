@@ -1,13 +1,15 @@
 -- What the code does to the core and to the rings is what the world owes.
-use Rattle.std.proofs.Common.{◌≡◌, ℕ, ◌-◌, List, refl, sym, ap, ◌∙◌, subst, Option, Some, None, Result, Ok, Err, inl, inr}
+use Rattle.std.proofs.Common.{◌≡◌, ℕ, ◌-◌, List, true, refl, sym, ap, ◌∙◌, subst, Option, Some, None, Result, Ok, Err, inl, inr}
 use Rattle.std.specs.Prelude.{option_map, slice_set}
 use Rattle.aql_packet.specs.declared.ids.AgentHandle.{AgentHandle}
 use Rattle.aql_packet.specs.declared.ids.ClientId.{ClientId}
 use Rattle.aql_packet.specs.declared.ids.QueueId.{QueueId}
 use Rattle.policy.specs.Policy.{Declared, numbered}
+use Rattle.core_model.specs.declared.event.Event.{Event}
 use Rattle.core_model.specs.declared.event.Event.TheVariants.{Open}
 use Rattle.core_model.specs.declared.event.Query.{Query}
 use Rattle.core_model.specs.declared.event.Request.TheVariants as asked
+use Rattle.core_model.specs.declared.outcome.Outcome.{Outcome}
 use Rattle.core_model.specs.declared.outcome.Outcome.TheVariants as outcome
 use Rattle.core_model.specs.declared.outcome.Taken.{Taken}
 use Rattle.core_model.specs.declared.outcome.Taken.TheVariants as taken
@@ -15,7 +17,7 @@ use Rattle.core_model.specs.declared.refusal.Refusal as cores
 use Rattle.core_model.specs.History.{History}
 use Rattle.core_model.specs.Legal as cores_law
 use Rattle.policy.specs.Results.{map_ok}
-use Rattle.core_model.specs.Legal.{MeetsOrLacks, as_reply, due, reply_of}
+use Rattle.core_model.specs.Legal.{LacksMemory, MeetsOrLacks, as_reply, due, reply_of}
 use Rattle.ring_core.specs.declared.access.Step.{Step}
 use Rattle.ring_core.specs.Parts.{collected_packet}
 use Rattle.ring_core.specs.Machine.{made, read_index}
@@ -27,7 +29,7 @@ use Rattle.world.specs.declared.request.Request.TheVariants as request
 use Rattle.world.specs.declared.reply.Refusal.{Refusal}
 use Rattle.world.specs.States.{Joined, joined, ring_of}
 use Rattle.core_model.specs.declared.event.Event.TheVariants as event
-use Rattle.world.specs.Dues.{IsServed, Meets, Reply, asked_size, due_collected, due_step, due_take, due_where, hindrance, is_decided, of_core, rings_after, taken_reply, taking}
+use Rattle.world.specs.Dues.{IsServed, Meets, Reply, asked_size, due_collected, due_step, due_take, due_where, hindrance, is_decided, lacks_memory, of_core, rings_after, taken_reply, taking}
 use Rattle.world.specs.Making.{AreDecided, MakesAt, MakesWhere, rings_of, with_queue_ring}
 use Rattle.world.specs.Obeying.{Asks, HandsOut, HandsOver, Obeys, Opens, TakesAt, new_ring, ring_taken, rings_opened, told_opened, told_taken}
 use Rattle.policy.proofs.NameLemmas.{numbered-map}
@@ -39,6 +41,10 @@ World core rings = joined core (rings_of rings)
 -- the ring of a queue, by what is kept of it
 pub ring_is : (core : History) (rings : List QueueRing) (queue : QueueId) (o : Option QueueRing) → numbered rings queue.0 ≡ o → ring_of (World core rings) queue ≡ option_map (λ r. r.ring) o
 ring_is core rings queue o found = numbered-map (λ (r : QueueRing). r.ring) rings queue.0 ∙ ap (option_map (λ (r : QueueRing). r.ring)) found
+
+-- an event that was told that memory was wanted may be told so
+both : {old new : History} {reply : Result Outcome cores.Refusal} (event : Event) → LacksMemory event old new reply → lacks_memory old event (due old event) ≡ true
+both event lacks = rw (lacks.may, lacks.asks) refl
 
 -- ---- steps
 
@@ -96,7 +102,7 @@ module _ (core core' : History) (old new : List QueueRing) (decided : AreDecided
           by_due : MeetsOrLacks (taking queue (read_index r.ring) words) core core' (map_ok outcome.Taken became)
               → Meets (World core old) (due_collected (World core old) queue (read_index r.ring) (Some words)) reply (World core' new)
           by_due (inl m) = inl (told ∙ told_as (read_index r.ring) became ∙ ap (taken_reply (read_index r.ring)) m.reply_is, λ i. joined (m.history_is i) (kept i))
-          by_due (inr l) = inr (l.may, told ∙ told_as (read_index r.ring) became ∙ ap (taken_reply (read_index r.ring)) l.reply_is, λ i. joined (l.history_is i) (kept i))
+          by_due (inr l) = inr (both (taking queue (read_index r.ring) words) l, told ∙ told_as (read_index r.ring) became ∙ ap (taken_reply (read_index r.ring)) l.reply_is, λ i. joined (l.history_is i) (kept i))
 
       by_ring : (o : Option QueueRing) → numbered old queue.0 ≡ o → TakesAt o queue core old reply core' new → IsServed (World core old) (request.Take queue) reply (World core' new)
       by_ring None found (told, same, is) =
@@ -128,7 +134,7 @@ module _ (core core' : History) (old new : List QueueRing) (decided : AreDecided
           inl (told ∙ opened_as made ∙ ap (λ x. of_core (as_reply x)) m.reply_is, λ i. joined (m.history_is i) (rings i))
       by_due (inr l) =
           let rings : rings_of new ≡ rings_of old = ap rings_of put ∙ rings_as size producers made ∙ ap (rings_after (rings_of old) size producers) l.reply_is in
-          inr (l.may, told ∙ opened_as made ∙ ap (λ x. of_core (as_reply x)) l.reply_is, λ i. joined (l.history_is i) (rings i))
+          inr (both (Open client agent (asked_size size producers)) l, told ∙ opened_as made ∙ ap (λ x. of_core (as_reply x)) l.reply_is, λ i. joined (l.history_is i) (rings i))
 
   -- ---- calls and queries
 
@@ -137,7 +143,7 @@ module _ (core core' : History) (old new : List QueueRing) (decided : AreDecided
     where
       by_served : cores_law.IsServed core (asked.Call call) replied core' → IsServed (World core old) (request.Call call) reply (World core' new)
       by_served (made, is, inl m) = inl (told ∙ ap of_core (is ∙ ap as_reply m.reply_is), λ i. joined (m.history_is i) (rings_of (same i)))
-      by_served (made, is, inr l) = inr (l.may, told ∙ ap of_core (is ∙ ap as_reply l.reply_is), λ i. joined (l.history_is i) (rings_of (same i)))
+      by_served (made, is, inr l) = inr (both (event.Call call) l, told ∙ ap of_core (is ∙ ap as_reply l.reply_is), λ i. joined (l.history_is i) (rings_of (same i)))
 
   query_served : (query : Query) → Asks (asked.Query query) core reply core' × (new ≡ old) → IsServed (World core old) (request.Query query) reply (World core' new)
   query_served query ((replied, served, told), same) = by_served served
@@ -154,7 +160,7 @@ module _ (core core' : History) (old new : List QueueRing) (decided : AreDecided
       by_served : cores_law.IsServed core (asked.Reload policy) replied core' → IsServed (World core old) (request.Reload policy) reply (World core' new)
       by_served (made, is, inl o) = inr (o.others, told ∙ ap of_core (is ∙ ap as_reply o.reply_is), λ i. joined (o.history_is i) (rings_of (same i)))
       by_served (made, is, inr (declares, inl m)) = inl (declares, inl (told ∙ ap of_core (is ∙ ap as_reply m.reply_is), λ i. joined (m.history_is i) (rings_of (same i))))
-      by_served (made, is, inr (declares, inr l)) = inl (declares, inr (l.may, told ∙ ap of_core (is ∙ ap as_reply l.reply_is), λ i. joined (l.history_is i) (rings_of (same i))))
+      by_served (made, is, inr (declares, inr l)) = inl (declares, inr (both (event.Reload policy.rows) l, told ∙ ap of_core (is ∙ ap as_reply l.reply_is), λ i. joined (l.history_is i) (rings_of (same i))))
 
   -- ---- a rotation
 

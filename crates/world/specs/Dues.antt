@@ -18,7 +18,7 @@ use Rattle.core_model.specs.History.{Part as Handed}
 use Rattle.core_model.specs.Rotation.{Rotates}
 use Rattle.core_model.specs.Queues.{next_id}
 use Rattle.core_model.specs.Owed.{Owed}
-use Rattle.core_model.specs.Legal.{as_reply, due, history_after, may_lack_memory, query_may_lack_memory, reply_of}
+use Rattle.core_model.specs.Legal.{as_reply, asks_for_memory, due, history_after, may_lack_memory, query_may_lack_memory, reply_of}
 use Rattle.core_model.specs.Queries.{AnswerOrRefusal, query_answer}
 use Rattle.ring_core.specs.declared.access.Access.{Access}
 use Rattle.ring_core.specs.declared.access.Access.TheVariants.{Reserve, LoadHeader, ClearHeader}
@@ -106,12 +106,16 @@ abbrev pub of_core : AnswerOrRefusal → Reply
 of_core (Ok answered) = Ok (answer.Core answered)
 of_core (Err why) = Err (refusal.Core why)
 
+-- whether an event that is due this may be told that memory was wanted: it may, and asks for some (own)
+abbrev pub lacks_memory : History → Event → Owed → Bool
+lacks_memory core event owing = may_lack_memory event owing && asks_for_memory core event owing
+
 -- an event that concerns no ring
 abbrev pub due_event : Joined → Event → Owed → Due
 due_event world event owing = record {
   reply = of_core (as_reply (reply_of owing));
   after = with_core world (history_after world.core event owing);
-  may_lack_memory = may_lack_memory event owing;
+  may_lack_memory = lacks_memory world.core event owing;
 }
 
 -- a query
@@ -135,7 +139,7 @@ abbrev pub due_taken : Joined → ℕ → Event → Owed → Due
 due_taken world id event owing = record {
   reply = taken_reply id (reply_of owing);
   after = with_core world (history_after world.core event owing);
-  may_lack_memory = may_lack_memory event owing;
+  may_lack_memory = lacks_memory world.core event owing;
 }
 
 abbrev pub taking : QueueId → ℕ → List ℕ → Event
@@ -165,7 +169,7 @@ abbrev pub due_opening : Joined → ℕ → ℕ → Event → Owed → Due
 due_opening world size producers event owing = record {
   reply = of_core (as_reply (reply_of owing));
   after = joined (history_after world.core event owing) (rings_after world.rings size producers (reply_of owing));
-  may_lack_memory = may_lack_memory event owing;
+  may_lack_memory = lacks_memory world.core event owing;
 }
 
 -- ---- policies that are handed in

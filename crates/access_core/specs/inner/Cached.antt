@@ -31,7 +31,7 @@ use Rattle.access_core.specs.declared.kernel.Kernel.{Kernel}
 use Rattle.access_core.specs.declared.queue.Queue.{Queue}
 use Rattle.core_model.specs.declared.kernel.KernelSegments.{KernelSegments}
 use Rattle.access_core.specs.Opening.{has_entry, program_of}
-pub use Rattle.access_core.specs.inner.CachedQueue.{IsSound, cached_view, cached_opening, queue_at}
+pub use Rattle.access_core.specs.inner.CachedQueue.{HasBlockPlaces, IsSound, cached_view, cached_opening, queue_at}
 use Rattle.access_core.specs.inner.LiesInRegions.{lies_in_regions}
 
 -- what the history begins from, as data, and the answers that it gives
@@ -107,6 +107,8 @@ pub record IsCached (a : Inside) : Type 0 where
   -- how many packets are in flight, each with all its ranges within regions
   pub in_flight_count : a.in_flight_count ≡ length (flight (start_of a) a.audit.items)
   pub within : All (λ f. lies_in_regions (region_lengths a.start.policy) f.packet ≡ true) (flight (start_of a) a.audit.items)
+  -- places for the argument blocks of all packets that can be in flight
+  pub block_room : HasBlockPlaces a.queues.items a.in_flight_count (places_of a.blocks)
   -- room for an entry of each packet in flight, and memory for as many entries as there may be
   pub room : length a.audit.items + a.in_flight_count ≤ a.capacity
   pub places : a.capacity ≡ length a.audit.items + a.audit.room

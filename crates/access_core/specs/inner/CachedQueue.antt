@@ -1,5 +1,5 @@
 -- What the core caches of a queue, and what the history says of it.
-use Rattle.std.specs.Prelude.{◌≡◌, ◌<◌, ◌≤◌, ◌+◌, ℕ, Bool, false, List, [], map, length, Option, Some, None, All}
+use Rattle.std.specs.Prelude.{◌≡◌, ◌<◌, ◌≤◌, ◌+◌, ◌-◌, ◌*◌, ◌∷◌, ℕ, Bool, false, List, [], map, length, Option, Some, None, All}
 use Rattle.std.specs.Option.{option_map}
 use Rattle.aql_packet.specs.declared.ids.QueueId.{QueueId}
 use Rattle.queue_error.specs.declared.error.QueueError.{QueueError}
@@ -48,6 +48,21 @@ pub record IsSound (q : Queue) : Type 0 where
   pub room : length q.errors.items + q.errors.room ≡ MOST_IN_FLIGHT
   pub free : length q.errors.items + length q.places ≤ MOST_IN_FLIGHT
   pub below : All (λ place. place.id.0 < q.next) q.places
+
+-- how many packets more of a queue can be in flight
+abbrev pub free_of : Queue → ℕ
+free_of q = MOST_IN_FLIGHT - length q.places
+
+-- how many more of all these queues can be
+abbrev pub free_places : List Queue → ℕ
+free_places [] = 0
+free_places (q ∷ qs) = free_of q + free_places qs
+
+-- So many places are enough for the argument blocks of these queues' packets: eight for each queue, of which those in flight take some and
+-- the others are free, so that no launch lengthens their table (own).
+pub record HasBlockPlaces (queues : List Queue) (in_flight_count block_places : ℕ) : Type 0 where
+  pub free : free_places queues + in_flight_count ≡ MOST_IN_FLIGHT * length queues
+  pub enough : MOST_IN_FLIGHT * length queues ≤ block_places
 
 -- this is what is cached of a queue of the history: who opened it, and what became of it since
 pub record IsQueue (history : History) (queue : QueueId) (one : Option Queue) : Type 0 where

@@ -2,6 +2,7 @@
 use Rattle.std.specs.Prelude.{◌≡◌, ℕ, ◌==◌, ◌||◌, Bool, true, List, fold, Some}
 use Rattle.aql_packet.specs.declared.ids.QueueId.{QueueId}
 use Rattle.aql_packet.specs.declared.ids.PacketId.{PacketId}
+use Rattle.aql_packet.specs.declared.packet.KernelDispatch.{KernelDispatch}
 use Rattle.aql_packet.specs.declared.packet.Packet.{Packet}
 use Rattle.regions.specs.Memory.{byte_at, is_within}
 use Rattle.core_model.specs.declared.entry.Effect.{Effect}
@@ -40,6 +41,10 @@ IsFoundAt history queue found = IsFoundIn found (queue_at (beginning history) hi
 abbrev pub IsSized : Packet → Type 0
 IsSized (packet.Kernel d) = has_sizes d ≡ true
 IsSized _ = Unit {0}
+
+-- it is one
+abbrev pub IsKernel : Packet → Type 0
+IsKernel p = (d : KernelDispatch) × (p ≡ packet.Kernel d)
 
 -- a call about this packet is refused, whatever it asks
 abbrev pub RefusedAt : History → QueueId → PacketId → Refusal → Type 0

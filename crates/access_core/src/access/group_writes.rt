@@ -8,7 +8,7 @@ ghost use Rattle.core_model.specs.Legal.{MeetsOrLacks};
 ghost use Rattle.policy.specs.Policy.{region_lengths};
 ghost use Rattle.core_model.specs.Owed.{enters, owed};
 ghost use Rattle.core_model.specs.Work.{write_of_run};
-ghost use Rattle.access_core.specs.inner.InPlace.{IsChanged, IsFoundAt, IsInPlace};
+ghost use Rattle.access_core.specs.inner.InPlace.{IsChanged, IsFoundAt, IsInPlace, IsKernel};
 ghost use Rattle.access_core.specs.inner.Laying.{LiesWithin};
 
 use crate::access::running::{advance, one_more};
@@ -39,6 +39,7 @@ impl AccessCore {
             ≡ enters (Outcome.Worked (Worked.Ran place.progress.groups_run left)) (map write_of_run runs) }
         requires written { All (λ run. is_within (region_lengths (beginning self.old.history).policy) run.address (length run.bytes) ≡ true) runs }
         requires room { place.progress.groups_run < 2 ^ 32 - 1 }
+        requires kernel { IsKernel place.packet }
         ensures met { MeetsOrLacks (Event.Call (Call.RunNext queue found.packet)) self.old.history self.new.history (map_ok Outcome.Worked result) }
         ensures places { self.new.places ≡ self.old.places }
     {

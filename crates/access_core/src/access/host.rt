@@ -1,7 +1,7 @@
 //! What clients do from outside their queues: they write memory and change signals.
 
 ghost use Rattle.core_model.specs.History.{beginning};
-ghost use Rattle.std.specs.Prelude.{◌≡◌, ◌-◌, ◌∷◌, [], OnOk, IfOk, IfErr, Some, true, length, slice_set};
+ghost use Rattle.std.specs.Prelude.{◌≡◌, ◌<◌, ◌-◌, ◌∷◌, [], OnOk, IfOk, IfErr, Some, true, length, slice_set};
 ghost use Rattle.regions.specs.Memory.{is_within};
 ghost use Rattle.signals.specs.Values.{applied, value_of};
 ghost use Rattle.core_model.specs.Owed.{enters, old_if_asked, refuses};
@@ -81,6 +81,7 @@ impl AccessCore {
         bytes: &Sequence<u8>,
     ) -> Result<(), Refusal>
         ensures within { OnOk result (is_within (region_lengths (beginning self.now.history).policy) address.0 (length bytes.now) ≡ true) }
+        ensures some { OnOk result (0 < length bytes.now) }
         ensures may { OnOk result (due self.now.history (Event.Call (Call.HostWrite client address bytes.now))
             ≡ enters Outcome.Accepted (Effect.Write address bytes.now ∷ [])) }
         ensures why { IfErr result (λ why. due self.now.history (Event.Call (Call.HostWrite client address bytes.now)) ≡ refuses why) }

@@ -11,6 +11,7 @@ ghost use Rattle.core_model.specs.Policies.{rows_at};
 ghost use Rattle.core_model.specs.Room.{HasRoom};
 
 use crate::access::AccessCore;
+use crate::lists::copied;
 use crate::tables::TableSizes;
 use aql_packet::{Address, ClientId, QueueId, SignalHandle};
 use core_model::{Entry, MOST_HOST_BYTES, Origin, Query, Range, Refusal};
@@ -147,7 +148,8 @@ impl AccessCore {
     }
 
     /// Each object on which a client has a right in force, with those rights: agents, regions,
-    /// signals and kernels, each kind by number. Refused where no client has the number.
+    /// signals and kernels, each kind by number. Refused where no client has the number. For a client
+    /// without rights it takes no memory.
     #[tactic(auto, unfolding(core_model::specs::Queries::query_answer))]
     pub fn list(
         &self,
@@ -162,7 +164,8 @@ impl AccessCore {
         Ok(self.grants.list(alloc, client)?)
     }
 
-    /// The errors of a queue, in order. Refused where no queue has the number.
+    /// The errors of a queue, in order. Refused where no queue has the number. For a queue without errors
+    /// it takes no memory.
     #[tactic(auto, unfolding(core_model::specs::Queries::query_answer))]
     pub fn errors(&self, alloc: Global, queue: QueueId) -> Result<Sequence<QueueError>, Refusal>
         ensures { RepliesOrLacks (Query.Errors queue) self.now.history (map_ok answer.Errors result) }
@@ -170,6 +173,6 @@ impl AccessCore {
         let Some(kept) = self.queue(queue) else {
             return Err(Refusal::UnknownQueue);
         };
-        Ok(Sequence::from_vec(Vec::from_slice(alloc, kept.errors.as_slice())?))
+        Ok(copied(alloc, kept.errors.as_slice())?)
     }
 }

@@ -1,13 +1,13 @@
 //! Queues are opened.
 
 ghost use Rattle.core_model.specs.History.{beginning};
-ghost use Rattle.std.specs.Prelude.{◌≡◌, ◌<◌, [], OnOk, IfErr, IfOk, length};
+ghost use Rattle.std.specs.Prelude.{◌≡◌, ◌<◌, [], OnOk, IfErr, IfOk, length, vec_capacity};
 ghost use Rattle.core_model.specs.Limits.{most_queues};
 ghost use Rattle.core_model.specs.Queues.{openings};
 ghost use Rattle.core_model.specs.Owed.{enters, refuses};
 ghost use Rattle.policy.specs.Results.{map_ok};
 ghost use Rattle.core_model.specs.Legal.{MeetsOrLacks, due};
-ghost use Rattle.access_core.specs.Keeping.{KeepsPlaces};
+ghost use Rattle.access_core.specs.Keeping.{GrowsByOpening, KeepsPlaces};
 
 use crate::access::{AccessCore, enter};
 use crate::queue::Queue;
@@ -16,7 +16,19 @@ use core_model::{Effects, Event, MOST_IN_FLIGHT, Outcome, QUEUES, Refusal};
 use packet_processor::Places;
 use policy::{Object, Right};
 use sequences::Reserved;
-use std::alloc::Global;
+use std::alloc::{AllocError, Global};
+
+// Gets room for a queue more, unless there is some.
+fn get_room(queues: &mut Vec<Queue>) -> Result<(), AllocError>
+    ensures items { queues.new.items ≡ queues.old.items }
+    ensures room { OnOk result (length queues.new.items < vec_capacity queues.new) }
+    ensures full { length queues.old.items < vec_capacity queues.old → vec_capacity queues.new ≡ vec_capacity queues.old }
+{
+    if queues.len() < queues.capacity() {
+        return Ok(());
+    }
+    queues.reserve(1)
+}
 
 impl AccessCore {
     /// Opens a queue of `size` slots for a client, whose packets an agent runs.
@@ -29,6 +41,7 @@ impl AccessCore {
     ) -> Result<QueueId, Refusal>
         ensures met { MeetsOrLacks (Event.Open client agent size) self.old.history self.new.history (map_ok Outcome.Opened result) }
         ensures places { KeepsPlaces (Event.Open client agent size) self.old self.new }
+        ensures grows { GrowsByOpening self.old result self.new }
     {
         let queue = self.may_open(client, agent, size)?;
         self.open_allowed(alloc, client, agent, size, queue)
@@ -47,16 +60,20 @@ impl AccessCore {
         requires may { due self.old.history (Event.Open client agent size) ≡ enters (Outcome.Opened queue) [] }
         ensures met { MeetsOrLacks (Event.Open client agent size) self.old.history self.new.history (map_ok Outcome.Opened result) }
         ensures lacks { IfErr result (λ why. why ≡ Refusal.OutOfMemory) }
+        ensures grows { GrowsByOpening self.old result self.new }
     {
         let errors = Reserved::with_room(alloc, MOST_IN_FLIGHT)?;
-        self.queues.push(Queue {
+        get_room(&mut self.queues)?;
+        self.blocks
+            .get_places(MOST_IN_FLIGHT * (self.queues.len() + 1))?;
+        self.queues.push_reserved(Queue {
             client,
             agent,
             next: 0,
             stopped: false,
             errors,
             places: Places::new(),
-        })?;
+        });
         let event = Event::Open {
             client,
             agent,

@@ -9,6 +9,7 @@ ghost use Rattle.access_core.specs.Reloads.{as_reloaded};
 
 use crate::access::{AccessCore, enter};
 use crate::holders::first_denied;
+use crate::lists::copied_rows;
 use core_model::{Effects, Event, Outcome, Refusal};
 use policy::{Policy, PolicyRows};
 use std::alloc::Global;
@@ -30,7 +31,7 @@ impl AccessCore {
         if let Err(why) = self.may_reload(policy.rows()) {
             return Err((why, policy));
         }
-        let copied = policy.rows().copy(alloc);
+        let copied = copied_rows(alloc, policy.rows());
         match copied {
             Ok(told) => {
                 self.put_rows(policy.into_rows(), told);

@@ -1,7 +1,7 @@
 //! The groups of dispatches in flight are run: those of agent dispatches here.
 
 ghost use Rattle.core_model.specs.History.{beginning};
-ghost use Rattle.std.specs.Prelude.{Some, ◌≡◌, ◌++◌, ◌+◌, ◌-◌, ◌<◌, ◌^◌, Err, IfOk, List, length, option_to_list, replicate, true, vec_capacity};
+ghost use Rattle.std.specs.Prelude.{Some, ◌≡◌, ◌++◌, ◌+◌, ◌-◌, ◌<◌, ◌^◌, Err, IfOk, List, OnErr, length, option_to_list, replicate, true, vec_capacity};
 ghost use Rattle.std.specs.Int.{w64, to_le_bytes};
 ghost use Rattle.aql_packet.specs.declared.packet.Packet.TheVariants as kind;
 ghost use Rattle.regions.specs.Memory.{is_within, lengths_of};
@@ -19,6 +19,7 @@ ghost use Rattle.access_core.specs.inner.InPlace.{IsChanged, IsFoundAt, IsInPlac
 
 use crate::access::completing::FoundPlace;
 use crate::access::{AccessCore, enter};
+use crate::lists::copied;
 use crate::queue::Queue;
 use aql_packet::{Address, AgentDispatch, Packet, PacketId, QueueId};
 use core_model::{
@@ -103,6 +104,7 @@ impl AccessCore {
         ensures written { IfOk result (λ piece. write_of piece.address.0 piece.bytes
             ≡ function_writes (beginning self.now.history) self.now.history.entries (function_of dispatch.now)) }
         ensures placed { IfOk result (λ piece. IsPlaced self.now.history piece.address.0 (length piece.bytes)) }
+        ensures lacks { OnErr result (0 < length (function_writes (beginning self.now.history) self.now.history.entries (function_of dispatch.now))) }
     {
         match function_of(dispatch) {
             Some(AgentFunction::Fill { target, byte }) => Ok(Piece {
@@ -130,6 +132,7 @@ impl AccessCore {
         ensures written { IfOk result (λ piece.
             write_of piece.address.0 piece.bytes ≡ result_writes (beginning self.now.history) self.now.history.entries dispatch.now) }
         ensures placed { IfOk result (λ piece. IsPlaced self.now.history piece.address.0 (length piece.bytes)) }
+        ensures lacks { OnErr result (0 < length (result_writes (beginning self.now.history) self.now.history.entries dispatch.now)) }
     {
         let address = dispatch.return_address;
         if address.0 == 0 {
@@ -158,14 +161,14 @@ impl AccessCore {
     // The bytes of a range, as a list of its own.
     pub(crate) fn copy_range(&self, alloc: Global, range: Range) -> Result<Sequence<u8>, AllocError>
         requires { IsPlaced self.now.history range.address.0 range.size }
-        ensures { IfOk result (λ bytes.
+        ensures bytes { IfOk result (λ bytes.
             bytes ≡ memory_from (beginning self.now.history) self.now.history.entries range.address.0 range.size) }
+        ensures lacks { OnErr result (0 < range.size) }
     {
         if range.size == 0 {
             return Ok(Sequence::new(alloc));
         }
-        let bytes = self.memory.bytes(range.address, range.size);
-        Ok(Sequence::from_vec(Vec::from_slice(alloc, bytes)?))
+        copied(alloc, self.memory.bytes(range.address, range.size))
     }
 
     // The 64-bit number at an address.
@@ -207,8 +210,12 @@ pub(crate) fn advance(
 
 // The same byte again and again.
 fn fill(alloc: Global, size: u64, byte: u8) -> Result<Sequence<u8>, AllocError>
-    ensures { IfOk result (λ bytes. bytes ≡ replicate size byte) }
+    ensures bytes { IfOk result (λ bytes. bytes ≡ replicate size byte) }
+    ensures lacks { OnErr result (0 < size) }
 {
+    if size == 0 {
+        return Ok(Sequence::new(alloc));
+    }
     Ok(Sequence::from_vec(vec![in alloc; byte; size as usize]?))
 }
 

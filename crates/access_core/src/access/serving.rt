@@ -2,7 +2,7 @@
 
 ghost use Rattle.core_model.specs.History.{beginning};
 ghost use Rattle.core_model.specs.declared.event.Event.TheVariants as event;
-ghost use Rattle.std.specs.Prelude.{◌≡◌, IfOk};
+ghost use Rattle.std.specs.Prelude.{◌≡◌, ◌<◌, IfOk, OnErr, length};
 ghost use Rattle.core_model.specs.Legal.{IsLegal, IsServed, MeetsOrLacks, RepliesOrLacks, as_reply};
 ghost use Rattle.access_core.specs.Keeping.{ServedInPlace};
 ghost use Rattle.access_core.specs.Reloads.{as_reloaded};
@@ -15,7 +15,7 @@ use std::alloc::{AllocError, Global};
 
 impl AccessCore {
     /// Serves a request: makes the call that it names. None makes a table longer but the opening of a
-    /// queue and the launch of a packet.
+    /// queue.
     pub fn serve(&mut self, alloc: Global, request: Request) -> Reply
         ensures served { IsServed self.old.history request result self.new.history }
         ensures legal { IsLegal (beginning self.new.history) self.new.history.entries }
@@ -161,7 +161,8 @@ fn as_reloaded(made: Result<(), (Refusal, Policy)>) -> Result<Outcome, Refusal>
 
 // The same entries once more.
 fn copy_entries(alloc: Global, entries: &[Entry]) -> Result<Sequence<Entry>, AllocError>
-    ensures { IfOk result (λ copy. copy ≡ entries.now) }
+    ensures entries { IfOk result (λ copy. copy ≡ entries.now) }
+    ensures lacks { OnErr result (0 < length entries.now) }
 {
     let mut copies = Sequence::new(alloc);
     for entry in entries {

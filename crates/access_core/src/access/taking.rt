@@ -7,7 +7,6 @@ ghost use Rattle.core_model.specs.Holds.{arguments_of, rights_at_launch};
 ghost use Rattle.core_model.specs.Owed.{facts_of, refuses};
 ghost use Rattle.packet_processor.specs.Holding.{as_rights};
 ghost use Rattle.packet_processor.specs.Judged.{facts_seen, Judges};
-ghost use Rattle.access_core.specs.Keeping.{KeepsPlaces};
 ghost use Rattle.access_core.specs.inner.Deciding.{Decides, IsBlockPlaced, opening_of};
 ghost use Rattle.access_core.specs.inner.QueueChanges.{CanFail, CanLaunch, IsAbove, with_denied, with_launched, with_queue};
 ghost use Rattle.policy.specs.Results.{map_ok};
@@ -57,7 +56,8 @@ struct Launching {
 fn place_next(queues: &mut Vec<Queue>, queue: QueueId, id: PacketId, packet: Packet)
     requires free { CanLaunch queues.old.items queue }
     requires above { IsAbove queues.old.items queue id }
-    ensures { queues.new.items ≡ with_queue queues.old.items queue (with_launched id packet) }
+    ensures queues { queues.new.items ≡ with_queue queues.old.items queue (with_launched id packet) }
+    ensures capacity { vec_capacity queues.new ≡ vec_capacity queues.old }
 {
     let kept = &mut queues[queue.0 as usize - 1];
     kept.next += 1;
@@ -168,7 +168,7 @@ impl AccessCore {
         bytes: &[u8; 64],
     ) -> Result<Taken, Refusal>
         ensures met { MeetsOrLacks (Event.Take queue packet bytes.now) self.old.history self.new.history (map_ok Outcome.Taken result) }
-        ensures places { KeepsPlaces (Event.Take queue packet bytes.now) self.old self.new }
+        ensures places { self.new.places ≡ self.old.places }
     {
         match self.may_take(queue, packet, bytes)? {
             Decision::Wait(cause) => Ok(Taken::Waiting(cause)),
@@ -260,10 +260,10 @@ impl AccessCore {
     ) -> Result<Taken, Refusal>
         requires { Decides self.old.history queue packet bytes.now (Decision.Launch launching) }
         ensures met { MeetsOrLacks (Event.Take queue packet bytes.now) self.old.history self.new.history (map_ok Outcome.Taken result) }
+        ensures places { self.new.places ≡ self.old.places }
     {
         let block = self.argument_block(alloc, launching.asked.packet())?;
         let rights = self.rights_at_launch(alloc, &launching, block.as_slice())?;
-        self.blocks.reserve()?;
         let client = launching.client;
         self.blocks.push(ArgumentBlock {
             queue,

@@ -19,4 +19,4 @@ make_ring-requires-clause-producers c =
 pub returns-in-Err : goal.returns-in-Err
 returns-in-Err c =
     let may = ap (λ (owing : Owed). may_lack_memory (Open c.args.opening.client c.args.opening.agent (asked_size c.args.opening.size c.args.opening.producers)) owing) c.requires in
-    (Err refusal.OutOfMemory, inr (record { may = may; reply_is = refl; history_is = refl }), refl, c.in-Err.ensures.rings)
+    (Err refusal.OutOfMemory, inr (record { may = may; asks = refl; reply_is = refl; history_is = refl }), refl, c.in-Err.ensures.rings)

@@ -5,6 +5,7 @@ use Rattle.access_core.proofs.ChangedQueue.{errors-changed}
 use Rattle.access_core.proofs.Places.{places-kept}
 use Rattle.access_core.proofs.Seen.{seen}
 use Rattle.access_core.proofs.HeldAfter.{grants-still}
+use Rattle.access_core.proofs.BlockRoom.{room-kept}
 use Rattle.access_core.proofs.CachedMore.{IsCached-more, memory-still}
 use Rattle.access_core.proofs.TakeLemmas.{can-deny, can-take, flight-denied, queues-denied}
 use Rattle.core_model.specs.declared.outcome.Outcome.TheVariants as outcome
@@ -25,6 +26,7 @@ invariant_of-self c =
       memory = memory-still a.memory _ (λ x byte. refl);
       values = refl;
       queues = rw c.fail_next.ensures.queues (queues-denied a c.self.invariant c.args.queue c.args.packet c.args.bytes.now can c.args.rule);
+      block_room = rw c.fail_next.ensures.queues (room-kept a c.self.invariant c.args.queue can.opened (with_denied (error_without_place c.args.queue c.args.packet.0 c.args.rule)) refl);
     })
     _ (seen c.self.view_is) c.requires.0
 

@@ -1,16 +1,18 @@
 -- What is kept moves along with the group that ran, which is entered where there is room.
 use Rattle.core_model.specs.History.{beginning}
 use Rattle.std.proofs.Common.{◌≡◌, ◌∙◌, refl, sym, ap, subst, List, length, map, All, true, false, rules, inl, inr}
-use Rattle.access_core.proofs.Terms.{Call, Effect, History, IsChanged, Ran, RunNext, WrittenRange, error_places, is_within, region_lengths, start_of, with_advance, write_of_run}
+use Rattle.access_core.proofs.Terms.{Call, Effect, History, IsChanged, Ran, RunNext, WrittenRange, due, error_places, is_within, region_lengths, start_of, with_advance, write_of_run}
 use Rattle.access_core.proofs.Places.{places-kept}
 use Rattle.access_core.proofs.ChangedQueue.{errors-changed}
 use Rattle.access_core.proofs.Seen.{seen}
 use Rattle.access_core.proofs.Calls.{met-entry, met-refusal}
 use Rattle.access_core.proofs.HeldAfter.{grants-still}
+use Rattle.access_core.proofs.BlockRoom.{room-advanced}
 use Rattle.access_core.proofs.CachedMore.{IsCached-more}
 use Rattle.access_core.proofs.KernelLemmas.{kernel-advances, runs-write}
 use Rattle.access_core.proofs.LayingLemmas.{group-due, group-may_lack_memory, runs-within}
 use Rattle.access_core.proofs.QueueAt.{flight-advanced}
+use Rattle.access_core.proofs.AskingLemmas.{kernel-asks}
 use Rattle.access_core.proofs.RunLemmas.{one_group}
 use Rattle.access_core.proofs.TakeLemmas.{found-of, is-open, open-of}
 use Rattle.access_core.proofs.WorkLemmas.{place-inside, queues-advanced}
@@ -22,6 +24,8 @@ pub returns-in_err-changes-clause-met : goal.returns-in_err-changes-clause-met
 returns-in_err-changes-clause-met c =
     inr (record {
       may = group-may_lack_memory c.args.self.now.history c.args.queue c.args.found.packet c.args.place.progress.groups_run c.args.left c.args.runs c.requires.owed;
+      asks = kernel-asks c.args.self.now.history c.args.queue c.args.found.packet c.args.place c.requires.found c.requires.kernel.0 c.requires.kernel.1
+          (due c.args.self.now.history (Call (RunNext c.args.queue c.args.found.packet)));
       reply_is = search rules;
       history_is = refl;
     })
@@ -69,6 +73,7 @@ invariant_of-self c =
       values = sym ((runs-write c.args.runs).signals a.signals);
       queues = rw c.advance.ensures.queues (queues-advanced a c.self.invariant c.args.queue at c.args.found.packet one_group _ _ _ is refl _
           (c.one_more.ensures ∙ ap one_group (sym found.progress_is)));
+      block_room = rw c.advance.ensures.queues (room-advanced a c.self.invariant c.args.queue at c.args.found.packet _);
     })
     _ (seen c.self.view_is) owing
 

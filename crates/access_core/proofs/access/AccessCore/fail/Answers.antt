@@ -6,6 +6,7 @@ use Rattle.access_core.proofs.Places.{failed-places, places-kept}
 use Rattle.access_core.proofs.ChangedQueue.{errors-changed}
 use Rattle.access_core.proofs.Seen.{seen}
 use Rattle.access_core.proofs.HeldAfter.{grants-released}
+use Rattle.access_core.proofs.BlockRoom.{room-left}
 use Rattle.access_core.proofs.CachedMore.{IsCached-more, memory-still}
 use Rattle.access_core.proofs.QueueAt.{flight-released}
 use Rattle.access_core.proofs.TakeLemmas.{found-of, is-open, open-of}
@@ -48,6 +49,8 @@ invariant_of-self c =
           (queues-released a c.self.invariant c.args.queue c.args.found.packet _ _ _ is refl at (with_leaving (Some c.args.found.packet) (leaving.Failed (error_without_place c.args.queue c.args.found.packet.0 B1)))
           (failed c.args.queue c.args.found.packet)
           refl (sound-failed a c.self.invariant c.args.queue c.args.found.packet at (error_without_place c.args.queue c.args.found.packet.0 B1) found.flying found.found) refl (λ m v. grind arith));
+      block_room = rw (c.leave_flight.ensures.queues, c.leave_flight.ensures.in_flight_count)
+          (room-left a c.self.invariant c.args.queue at (Some c.args.found.packet) (leaving.Failed (error_without_place c.args.queue c.args.found.packet.0 B1)) _ c.leave_flight.ensures.places (freed-below a c.self.invariant c.args.queue c.args.found.packet at));
     })
     _ (seen c.self.view_is) c.requires.may
 

@@ -7,6 +7,7 @@ use Rattle.access_core.proofs.ChangedQueue.{errors-changed}
 use Rattle.access_core.proofs.Seen.{seen}
 use Rattle.access_core.proofs.Calls.{met-entry}
 use Rattle.access_core.proofs.HeldAfter.{grants-released}
+use Rattle.access_core.proofs.BlockRoom.{room-left}
 use Rattle.access_core.proofs.CachedMore.{IsCached-more, memory-still}
 use Rattle.access_core.proofs.KernelLemmas.{fault-due}
 use Rattle.access_core.proofs.QueueAt.{flight-released}
@@ -49,6 +50,8 @@ invariant_of-self c =
       queues = rw (c.leave_flight.ensures.queues, c.leave_flight.ensures.in_flight_count)
           (queues-released a c.self.invariant c.args.queue c.args.found.packet _ _ _ is refl at (with_leaving (Some c.args.found.packet) (leaving.Failed error)) (failed error c.args.found.packet)
           refl (sound-failed a c.self.invariant c.args.queue c.args.found.packet at error found.flying found.found) refl (λ m v. grind arith));
+      block_room = rw (c.leave_flight.ensures.queues, c.leave_flight.ensures.in_flight_count)
+          (room-left a c.self.invariant c.args.queue at (Some c.args.found.packet) (leaving.Failed error) _ c.leave_flight.ensures.places (freed-below a c.self.invariant c.args.queue c.args.found.packet at));
     })
     _ (seen c.self.view_is) (fault-due a c.self.invariant _ (seen c.self.view_is) c.args.queue c.args.found.packet c.args.place c.requires.found error c.requires.owed)
 

@@ -6,6 +6,7 @@ use Rattle.access_core.proofs.Places.{places-kept}
 use Rattle.access_core.proofs.ChangedQueue.{errors-changed}
 use Rattle.access_core.proofs.Seen.{seen}
 use Rattle.access_core.proofs.HeldAfter.{grants-released}
+use Rattle.access_core.proofs.BlockRoom.{room-left}
 use Rattle.access_core.proofs.CachedMore.{IsCached-more, memory-still}
 use Rattle.access_core.proofs.QueueAt.{flight-released}
 use Rattle.access_core.proofs.TakeLemmas.{found-of, open-of}
@@ -45,6 +46,8 @@ invariant_of-self c =
       queues = rw (c.leave_flight.ensures.queues, c.leave_flight.ensures.in_flight_count)
           (queues-released a c.self.invariant c.args.queue c.args.packet _ _ _ is refl at (with_leaving (Some c.args.packet) leaving.Completed) (λ v. record v { places = without_packet c.args.packet v.places })
           refl (sound-released at.q c.args.packet at.sound) refl (λ m v. grind arith));
+      block_room = rw (c.leave_flight.ensures.queues, c.leave_flight.ensures.in_flight_count)
+          (room-left a c.self.invariant c.args.queue at (Some c.args.packet) leaving.Completed _ c.leave_flight.ensures.places (freed-below a c.self.invariant c.args.queue c.args.packet at));
     })
     _ (seen c.self.view_is) (finish-due a c.self.invariant _ (seen c.self.view_is) _ c.args.queue c.args.packet p c.in_ok-found.ensures.may)
 

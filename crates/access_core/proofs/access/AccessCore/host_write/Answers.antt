@@ -27,5 +27,6 @@ invariant_of-self c =
       };
       values = refl;
       queues = queues-still a c.self.invariant _ _ _ calm refl;
+      block_room = c.self.invariant.block_room;
     })
     _ (seen c.self.view_is) c.in_ok-may_write.ensures.may

@@ -1,11 +1,16 @@
 -- The packet is in flight, and the entry tells it.
 use Rattle.core_model.specs.History.{beginning}
-use Rattle.std.proofs.Common.{◌≡◌, ◌∙◌, ◌∷◌, ◌++◌, List, ap, refl, sym, subst, true, Some, [], map, option_map}
-use Rattle.access_core.proofs.Terms.{ArgumentBlock, History, IsNext-from_owed, Launched, Packet, Take, TakesNext, arguments_of, as_rights, launched_by, lies_in_regions, owner}
-use Rattle.access_core.proofs.Terms.{region_lengths, rights_at_launch, start_of}
+use Rattle.std.proofs.Common.{◌≡◌, ◌∙◌, ◌∷◌, ap, inr, refl, rules, sym, subst, true, Some, [], map, option_map}
+use Rattle.access_core.proofs.Terms.{ArgumentBlock, History, IsNext-from_owed, Launched, Packet, Take, TakesNext, arguments_of, as_rights, due, launched_by, lies_in_regions, owner}
+use Rattle.access_core.proofs.Terms.{error_places, region_lengths, rights_at_launch, start_of}
+use Rattle.access_core.specs.inner.QueueChanges.{with_launched}
+use Rattle.access_core.proofs.AskingLemmas.{launch-asks}
+use Rattle.access_core.proofs.Places.{places-kept}
+use Rattle.access_core.proofs.ChangedQueue.{errors-changed}
 use Rattle.access_core.proofs.Seen.{seen}
 use Rattle.access_core.specs.inner.Deciding.{IsBlockPlaced, opening_of}
 use Rattle.access_core.proofs.HeldAfter.{block_laid, grants-launched}
+use Rattle.access_core.proofs.BlockRoom.{launch-room, room-launched}
 use Rattle.access_core.proofs.CachedMore.{IsCached-more, memory-still, owed-inside}
 use Rattle.access_core.proofs.QueueAt.{flight-launched}
 use Rattle.access_core.proofs.TakeLemmas.{below-next, block-placed, can-take, queues-launched}
@@ -31,8 +36,14 @@ argument_block-requires c =
     subst (λ p. IsBlockPlaced c.args.self.now.history p) (sym c.packet.ensures)
     (block-placed c.args.self.now.history c.args.queue c.args.packet c.args.bytes.now c.args.launching.asked.packet c.requires.0 c.requires.1)
 
-pub invariant_of-self-2 : goal.invariant_of-self-2
-invariant_of-self-2 c =
+pub push-requires : goal.push-requires
+push-requires c =
+    let a = c.self.inside in
+    launch-room a c.self.invariant c.args.queue (can-take a c.self.invariant c.args.queue (subst (λ h. TakesNext h c.args.queue) (sym (seen c.self.view_is)) c.requires.3))
+    c.args.launching.asked.packet c.args.packet
+
+pub invariant_of-self : goal.invariant_of-self
+invariant_of-self c =
     let a = c.self.inside in
     let p = c.args.launching.asked.packet in
     let can = can-take a c.self.invariant c.args.queue (subst (λ h. TakesNext h c.args.queue) (sym (seen c.self.view_is)) c.requires.3) in
@@ -53,11 +64,38 @@ invariant_of-self-2 c =
           owned
           (c.in_ok-block.ensures ∙ ap (λ q. arguments_of (beginning c.args.self.now.history) c.args.self.now.history.entries q) c.packet.ensures
           ∙ ap (λ (h : History). arguments_of (beginning h) h.entries p) (sym (seen c.self.view_is)))
-          (c.push.ensures
-          ∙ ap (λ (blocks : List ArgumentBlock). blocks ++ block_laid c.args.queue c.args.packet c.args.launching.client c.in_ok-rights.rights c.in_ok-block.block ∷ [])
-          c.in_ok-reserve.ensures.same);
+          c.push.ensures.items;
       memory = memory-still a.memory _ (λ x byte. refl);
       values = refl;
-      queues = rw (c.place_next.ensures, c.packet-2.ensures) (queues-launched a c.self.invariant c.args.queue c.args.packet c.args.bytes.now can p c.requires.1 next.id_is within);
+      queues = rw (c.place_next.ensures.queues, c.packet-2.ensures) (queues-launched a c.self.invariant c.args.queue c.args.packet c.args.bytes.now can p c.requires.1 next.id_is within);
+      block_room = rw (c.place_next.ensures.queues, c.packet-2.ensures) (room-launched a c.self.invariant c.args.queue can p c.args.packet _ c.push.ensures.places);
     })
     _ (seen c.self.view_is) c.requires.0
+
+pub returns-in_err-block-clause-met : goal.returns-in_err-block-clause-met
+returns-in_err-block-clause-met c =
+    inr (record {
+      may = rw c.requires.0 refl;
+      asks = launch-asks c.args.self.now.history c.args.queue c.args.packet c.args.bytes.now (opening_of c.args.launching) c.args.launching.asked.packet
+          (due c.args.self.now.history (Take c.args.queue c.args.packet c.args.bytes.now)) c.requires.4 c.requires.1;
+      reply_is = search rules;
+      history_is = refl;
+    })
+
+pub returns-in_err-rights-clause-met : goal.returns-in_err-rights-clause-met
+returns-in_err-rights-clause-met c =
+    inr (record {
+      may = rw c.requires.0 refl;
+      asks = launch-asks c.args.self.now.history c.args.queue c.args.packet c.args.bytes.now (opening_of c.args.launching) c.args.launching.asked.packet
+          (due c.args.self.now.history (Take c.args.queue c.args.packet c.args.bytes.now)) c.requires.4 c.requires.1;
+      reply_is = search rules;
+      history_is = refl;
+    })
+
+pub returns-clause-places : goal.returns-clause-places
+returns-clause-places c =
+    let a = c.self.inside in
+    let can = can-take a c.self.invariant c.args.queue (subst (λ h. TakesNext h c.args.queue) (sym (seen c.self.view_is)) c.requires.3) in
+    places-kept a _ c.self.view_is c.place_next.new.queues a.grants c.push.new.self c.enter.new.audit _ c.place_next.ensures.capacity
+    (ap (map error_places) c.place_next.ensures.queues ∙ errors-changed a.queues.items c.args.queue (with_launched c.args.packet _) can.opened.q can.opened.found refl)
+    refl c.push.ensures.places c.enter.ensures

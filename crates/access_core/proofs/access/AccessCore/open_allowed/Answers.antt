@@ -1,11 +1,12 @@
 -- What is kept moves along with the opening, which is entered where there is room.
 use Rattle.core_model.specs.History.{beginning}
-use Rattle.std.proofs.Common.{◌<◌, ◌∙◌, refl, sym, subst, ap, [], length, ℕ, arith}
-use Rattle.access_core.proofs.Terms.{AgentHandle, All-nil, All-push, ClientId, IsSound, Open, Place, QUEUES, QueueId, cached_opening, cached_view, entered-owed, map-append, openings, start_of}
+use Rattle.std.proofs.Common.{◌≡◌, ◌+◌, ◌*◌, ◌<◌, ◌≤◌, ◌∙◌, ◌∷◌, ◌++◌, List, false, refl, rules, sym, subst, ap, [], length, ℕ, arith}
+use Rattle.access_core.proofs.Terms.{AgentHandle, All-nil, All-push, ClientId, IsSound, MOST_IN_FLIGHT, Open, Place, QUEUES, Queue, QueueId, cached_opening, cached_view, entered-owed, map-append, openings, places_of, start_of}
 use Rattle.core_model.proofs.Entered.{open-effects}
 use Rattle.access_core.proofs.Seen.{seen}
 use Rattle.access_core.proofs.HeldAfter.{grants-still}
 use Rattle.access_core.proofs.QueueLemmas.{openings-count, numbered-push, few_after}
+use Rattle.access_core.proofs.BlockRoom.{room-opened}
 use Rattle.access_core.proofs.CachedMore.{IsCached-more, memory-still, none-launched}
 use Rattle.access_core.proofs.QueueAt.{IsQuiet, flight-quiet, queue_at-quiet}
 use Rattle.core_model.specs.declared.outcome.Outcome.TheVariants as outcome
@@ -18,8 +19,11 @@ pub invariant_of-self-2 : goal.invariant_of-self-2
 invariant_of-self-2 c =
     let a = c.self.inside in
     let calm = quiet c.args.client c.args.agent c.args.size c.args.queue in
-    let push = c.in_ok-push.ensures.items in
+    let q : Queue = record { client = c.args.client; agent = c.args.agent; next = 0; stopped = false; errors = c.in_ok-errors.errors; places = c.new.result } in
+    let push : c.push_reserved.new.self.items ≡ a.queues.items ++ q ∷ [] = c.push_reserved.ensures.items ∙ ap (λ (qs : List Queue). qs ++ q ∷ []) c.in_ok-get_room.ensures.items in
     let none = c.in_ok-errors.ensures.empty in
+    let count = ap length c.in_ok-get_room.ensures.items in
+    let enough : MOST_IN_FLIGHT * (length a.queues.items + 1) ≤ places_of c.get_places.new.self = search (arith, rules, count) in
     let h = c.args.self.now.history in
     let owing = entered-owed h (Open c.args.client c.args.agent c.args.size) (outcome.Opened c.args.queue) [] c.requires.may in
     let fewer = open-effects (beginning h) h.entries (outcome.Opened c.args.queue) [] c.args.client c.args.agent c.args.size owing.0 in
@@ -27,7 +31,7 @@ invariant_of-self-2 c =
     (record {
       same = ((refl, refl, refl), refl);
       audit = rw c.none.ensures at c.enter.ensures;
-      grants = grants-still a c.self.invariant _ _ _ refl calm.stays (λ client on right b. refl) (λ rows. refl) (flight-quiet (start_of a) a.audit.items _ _ _ calm);
+      grants = rw c.in_ok-get_places.ensures.items (grants-still a c.self.invariant _ _ _ refl calm.stays (λ client on right b. refl) (λ rows. refl) (flight-quiet (start_of a) a.audit.items _ _ _ calm));
       memory = memory-still a.memory [] (λ x byte. refl);
       values = refl;
       queues = record {
@@ -45,5 +49,6 @@ invariant_of-self-2 c =
         in_flight_count = c.self.invariant.in_flight_count ∙ ap length (sym (flight-quiet (start_of a) a.audit.items _ _ _ calm));
         within = none-launched (Open c.args.client c.args.agent c.args.size) (outcome.Opened c.args.queue) refl (start_of a);
       };
+      block_room = rw push (room-opened a c.self.invariant q c.get_places.new.self (rw c.new.ensures refl) enough);
     })
     _ (seen c.self.view_is) c.requires.may

@@ -48,6 +48,7 @@ invariant_of-self c =
       memory = memory-still a.memory [] (λ x byte. refl);
       values = refl;
       queues = queues-still a c.self.invariant _ _ _ calm refl;
+      block_room = c.self.invariant.block_room;
     })
     _ (seen c.self.view_is) (revoke-due a c.self.invariant c.args.client c.args.object c.args.rights _ (seen c.self.view_is)
     (subst (RevokeAnswers c.self.inside.grants c.args.client c.args.object c.args.rights) c.in_default.is c.may_revoke.ensures)

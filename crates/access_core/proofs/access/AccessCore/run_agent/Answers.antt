@@ -2,11 +2,13 @@
 use Rattle.core_model.specs.History.{beginning}
 use Rattle.std.proofs.Common.{◌≡◌, ◌∙◌, refl, sym, ap, map, subst, List, true, false, rules, nat_le, inl, inr}
 use Rattle.access_core.proofs.Terms.{Call, Effect, History, IsChanged, Ran, RunNext, agent_writes, due, enters, error_places, lies_in_regions, region_lengths, start_of, with_advance}
+use Rattle.access_core.proofs.AskingLemmas.{agent-asks, writes-result, writes-target}
 use Rattle.access_core.proofs.Places.{places-kept}
 use Rattle.access_core.proofs.ChangedQueue.{errors-changed}
 use Rattle.access_core.proofs.Seen.{seen}
 use Rattle.access_core.proofs.Calls.{met-entry, met-refusal}
 use Rattle.access_core.proofs.HeldAfter.{grants-still}
+use Rattle.access_core.proofs.BlockRoom.{room-advanced}
 use Rattle.access_core.proofs.CachedMore.{IsCached-more}
 use Rattle.access_core.proofs.QueueAt.{flight-advanced}
 use Rattle.access_core.proofs.RunLemmas.{agent-done, agent-due, agent-writes, one_group, pieces-inside, run-advances}
@@ -54,6 +56,7 @@ invariant_of-self c =
       values = sym ((agent-writes (start_of a) a.audit.items c.args.dispatch).signals a.signals);
       queues = rw c.advance.ensures.queues (queues-advanced a c.self.invariant c.args.queue at c.args.found.packet one_group _ _ _ is refl _
           (c.one_more.ensures ∙ ap one_group (sym found.progress_is)));
+      block_room = rw c.advance.ensures.queues (room-advanced a c.self.invariant c.args.queue at c.args.found.packet _);
     })
     _ (seen c.self.view_is) owing
 
@@ -75,14 +78,26 @@ returns-in_err-target-clause-met c =
     let ran : nat_le 1 c.args.place.progress.groups_run ≡ false = search rules in
     let is = agent-due c.args.self.now.history c.args.queue c.args.found.packet c.args.place c.requires.found c.args.dispatch c.requires.packet_is ran false
     (sym c.is_full.ensures ∙ c.if-is_full.false) in
-    inr (record { may = rw is refl; reply_is = search rules; history_is = refl })
+    let some = writes-target c.args.self.now.history c.args.dispatch c.in_err-target.ensures.lacks in
+    inr (record {
+      may = rw is refl;
+      asks = rw is (agent-asks c.args.self.now.history c.args.queue c.args.found.packet c.args.place c.requires.found c.args.dispatch c.requires.packet_is (outcome.Worked (Ran 0 0)) some);
+      reply_is = search rules;
+      history_is = refl;
+    })
 
 pub returns-in_err-result-clause-met : goal.returns-in_err-result-clause-met
 returns-in_err-result-clause-met c =
     let ran : nat_le 1 c.args.place.progress.groups_run ≡ false = search rules in
     let is = agent-due c.args.self.now.history c.args.queue c.args.found.packet c.args.place c.requires.found c.args.dispatch c.requires.packet_is ran false
     (sym c.is_full.ensures ∙ c.if-is_full.false) in
-    inr (record { may = rw is refl; reply_is = search rules; history_is = refl })
+    let some = writes-result c.args.self.now.history c.args.dispatch c.in_err-result.ensures.lacks in
+    inr (record {
+      may = rw is refl;
+      asks = rw is (agent-asks c.args.self.now.history c.args.queue c.args.found.packet c.args.place c.requires.found c.args.dispatch c.requires.packet_is (outcome.Worked (Ran 0 0)) some);
+      reply_is = search rules;
+      history_is = refl;
+    })
 
 pub returns-clause-met : goal.returns-clause-met
 returns-clause-met c =

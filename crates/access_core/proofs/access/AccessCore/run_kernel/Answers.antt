@@ -3,6 +3,7 @@ use Rattle.std.proofs.Common.{◌≡◌, ◌∙◌, ◌+◌, ◌-◌, ℕ, ap, m
 use Rattle.aql_packet.specs.declared.packet.Packet.TheVariants as packet
 use Rattle.access_core.proofs.Terms.{Call, Done, FaultsAs, Ran, RunNext, answers, broke_rule, due, enters, fault_owed, group_count, group_error, group_owed, next_result, write_of_run}
 use Rattle.executor.specs.declared.fault.ItemFault.{ItemFault}
+use Rattle.access_core.proofs.AskingLemmas.{kernel-asks}
 use Rattle.access_core.proofs.Calls.{due-as}
 use Rattle.access_core.proofs.KernelLemmas.{group-lacks, kernel-owed}
 use Rattle.core_model.specs.declared.outcome.Outcome.TheVariants as outcome
@@ -29,6 +30,9 @@ enter_group-requires-clause-owed c =
     ∙ ap (group_owed c.args.queue c.args.found.packet d group) c.in-Ok.ensures.ok
     ∙ ap (λ (count : ℕ). enters (outcome.Worked (Ran group (count - (group + 1)))) (map write_of_run c.in-Ok.runs)) (sym c.group_count-count.ensures)
 
+pub enter_group-requires-clause-kernel : goal.enter_group-requires-clause-kernel
+enter_group-requires-clause-kernel c = (c.args.dispatch, c.requires.packet_is)
+
 pub fault-requires-clause-owed : goal.fault-requires-clause-owed
 fault-requires-clause-owed c =
     let h = c.args.self.now.history in
@@ -52,6 +56,7 @@ returns-in-Err-OutOfMemory-clause-met c =
     inr (record {
       may = group-lacks h c.args.queue c.args.found.packet d group (next_result h c.args.queue c.args.found.packet c.args.place d)
           (kernel-owed h c.args.queue c.args.found.packet c.args.place c.requires.found d c.requires.packet_is false ran);
+      asks = kernel-asks h c.args.queue c.args.found.packet c.args.place c.requires.found d c.requires.packet_is (due h (Call (RunNext c.args.queue c.args.found.packet)));
       reply_is = refl;
       history_is = refl;
     })

@@ -5,6 +5,7 @@ use Rattle.access_core.proofs.Places.{places-kept}
 use Rattle.access_core.proofs.ChangedQueue.{errors-changed}
 use Rattle.access_core.proofs.Seen.{seen}
 use Rattle.access_core.proofs.HeldAfter.{grants-still}
+use Rattle.access_core.proofs.BlockRoom.{room-advanced}
 use Rattle.access_core.proofs.CachedMore.{IsCached-more, memory-still}
 use Rattle.access_core.proofs.PollLemmas.{seen_further, polled_as-advances}
 use Rattle.access_core.proofs.QueueAt.{flight-advanced}
@@ -37,6 +38,7 @@ invariant_of-self c =
       values = refl;
       queues = rw c.advance.ensures.queues (queues-advanced a c.self.invariant c.args.queue at c.args.found.packet (seen_further c.args.new) _ _ _ is refl _
           ((λ i. record { groups_run = c.args.place.progress.groups_run; satisfied = c.satisfied_by_either.ensures i }) ∙ ap (seen_further c.args.new) (sym found.progress_is)));
+      block_room = rw c.advance.ensures.queues (room-advanced a c.self.invariant c.args.queue at c.args.found.packet _);
     })
     _ (seen c.self.view_is) c.requires.may
 

@@ -33,5 +33,6 @@ invariant_of-self c =
       memory = memory-still c.self.inside.memory _ (λ x byte. refl);
       values = values;
       queues = queues-still c.self.inside c.self.invariant _ _ _ calm refl;
+      block_room = c.self.invariant.block_room;
     })
     _ (seen c.self.view_is) c.in_ok-old.ensures.may

@@ -5,6 +5,7 @@ use Rattle.access_core.specs.declared.access.leaving.Leaving.TheVariants as leav
 use Rattle.access_core.proofs.Places.{places-kept}
 use Rattle.access_core.proofs.ChangedQueue.{errors-changed}
 use Rattle.access_core.proofs.Seen.{seen}
+use Rattle.access_core.proofs.BlockRoom.{room-left}
 use Rattle.access_core.proofs.CachedMore.{IsCached-more, memory-still, owed-inside}
 use Rattle.access_core.proofs.StopLemmas.{freed-stopped, grants-stopped, memory-released, queues-stopped, stop-open, values-released}
 use Rattle.access_core.proofs.TakeLemmas.{all-found-of}
@@ -36,6 +37,8 @@ invariant_of-self c =
       memory = memory-still a.memory _ (λ x byte. memory-released c.args.queue barrier x byte);
       values = sym (values-released c.args.queue barrier a.signals);
       queues = rw (c.leave_flight.ensures.queues, c.leave_flight.ensures.in_flight_count) (queues-stopped a c.self.invariant c.args.queue at barrier);
+      block_room = rw (c.leave_flight.ensures.queues, c.leave_flight.ensures.in_flight_count)
+          (room-left a c.self.invariant c.args.queue at barrier leaving.Stopped _ c.leave_flight.ensures.places (freed-stopped a c.self.invariant c.args.queue at barrier));
     })
     _ (seen c.self.view_is) c.in_ok-barrier.ensures.may
 
