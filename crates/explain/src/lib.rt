@@ -21,12 +21,14 @@ mod replies;
 mod rings;
 mod scene;
 mod texts;
+mod vocabulary;
 mod work;
 
 pub use asked::{Asked, asked_by};
 pub use lacks::{Lack, is_in_force, lack_of, lack_of_need};
-pub use laws::told_rights_are_in_force;
+pub use laws::{told_owners_own, told_rights_are_in_force};
 pub use lines::bad_line;
-pub use owners::{Opening, owner};
+pub use owners::owner;
 pub use policies::{kernel_fault, no_entry, policy_fault};
 pub use replies::retold;
+pub use vocabulary::word_told;
