@@ -80,6 +80,11 @@ fn handed_over_by(entry: &Entry, queue: QueueId, packet: PacketId) -> Option<Han
     }
 }
 
+// What the first of these entries hands over of a queue and an id, if it does.
+fn first_handed_over(entries: &[Entry], queue: QueueId, packet: PacketId) -> Option<HandedOver> {
+    handed_over_by(entries.first()?, queue, packet)
+}
+
 /// The packet of a queue and an id that these entries hand over, if they do, and those of them before it. The last entry
 /// is looked at first.
 pub fn handed_over(
@@ -87,12 +92,11 @@ pub fn handed_over(
     queue: QueueId,
     packet: PacketId,
 ) -> Option<(HandedOver, &[Entry])> {
-    let mut rest = entries;
-    while let [before @ .., entry] = rest {
-        if let Some(found) = handed_over_by(entry, queue, packet) {
+    for place in (0..entries.len()).rev() {
+        let (before, rest) = entries.split_at(place.min(entries.len()));
+        if let Some(found) = first_handed_over(rest, queue, packet) {
             return Some((found, before));
         }
-        rest = before;
     }
     None
 }

@@ -99,12 +99,10 @@ fn value_by(entry: &Entry, signal: SignalHandle) -> Option<i64> {
 
 /// The value of a signal, if the policy declares it: what the last entry gave it that did, or what the history began with.
 pub fn signal_value(scene: &Scene<'_>, signal: SignalHandle) -> Option<i64> {
-    let mut rest = scene.entries;
-    while let [before @ .., entry] = rest {
+    for entry in scene.entries.iter().rev() {
         if let Some(value) = value_by(entry, signal) {
             return Some(value);
         }
-        rest = before;
     }
     scene.start.signals.value(signal)
 }
