@@ -5,7 +5,7 @@ use crate::lacks::lacked;
 use crate::rings::{tell_dependencies, tell_holder};
 use crate::scene::{Scene, begin, handed_over, put_why_not, rights_of, say, tell_lack};
 use crate::texts::{lies_whole, put_client, put_clients, put_object, put_objects, put_range};
-use crate::work::{errors, flight, how_far};
+use crate::work::{errors, flying_of, how_far};
 use aql_packet::{ClientId, PacketId, QueueId};
 use core_model::{InFlight, MOST_HOST_BYTES, Range, Refusal};
 use packet_processor::is_barrier;
@@ -281,15 +281,13 @@ fn tell_not_in_flight(
         return Ok(());
     };
     begin(out, scene)?;
-    for flying in flight(alloc, scene)?.iter() {
-        if flying.queue == queue && flying.id == packet {
-            return out.push_str(match verb {
-                Verb::Run => "it is a barrier packet, which `poll` brings on, not `run`\n",
-                _ => "it is a dispatch, which `run` brings on, not `poll`\n",
-            });
-        }
+    if flying_of(alloc, scene, queue, packet)?.is_none() {
+        return tell_gone(alloc, out, scene, world, queue, packet);
     }
-    tell_gone(alloc, out, scene, world, queue, packet)
+    out.push_str(match verb {
+        Verb::Run => "it is a barrier packet, which `poll` brings on, not `run`\n",
+        _ => "it is a dispatch, which `run` brings on, not `poll`\n",
+    })
 }
 
 // Why a packet isn't finished.
@@ -326,12 +324,10 @@ fn tell_not_finished(
     let Asked::Flying { queue, packet, .. } = asked else {
         return Ok(());
     };
-    for flying in flight(alloc, scene)?.iter() {
-        if flying.queue == queue && flying.id == packet {
-            tell_unfinished(out, scene, flying)?;
-        }
+    match flying_of(alloc, scene, queue, packet)? {
+        Some(flying) => tell_unfinished(out, scene, &flying),
+        None => Ok(()),
     }
-    Ok(())
 }
 
 // Why the audit has no room.

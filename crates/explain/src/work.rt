@@ -69,6 +69,26 @@ pub fn flight(alloc: Global, scene: &Scene<'_>) -> Result<Vec<InFlight>, AllocEr
     Ok(flight)
 }
 
+// The packet of a queue and an id among these.
+fn among(flight: &[InFlight], queue: QueueId, packet: PacketId) -> Option<InFlight> {
+    for flying in flight {
+        if flying.queue == queue && flying.id == packet {
+            return Some(*flying);
+        }
+    }
+    None
+}
+
+/// The packet of a queue and an id, if it is in flight.
+pub fn flying_of(
+    alloc: Global,
+    scene: &Scene<'_>,
+    queue: QueueId,
+    packet: PacketId,
+) -> Result<Option<InFlight>, AllocError> {
+    Ok(among(flight(alloc, scene)?.as_slice(), queue, packet))
+}
+
 /// The packet of a queue and an id with which a history begins, if it is in flight there.
 pub fn first_flying<'a>(
     start: &'a Origin,
