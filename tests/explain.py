@@ -84,7 +84,10 @@ REFUSED = [
     ("4 Busy", [*LAUNCHED, "revoke alice region buf WRITE"], ["packet 0 of queue 1 is in flight", "`run 1 0`", "`finish 1 0`"]),
     ("4 by a barrier", [*HELD, "revoke alice signal go WAIT"], ["barrier packet 0 of queue 1 is in flight", "`stop 1` releases"]),
     ("5 NotAllowed", ["grant bob region buf READ,WRITE"], ["no allow row of the policy covers WRITE on region buf"]),
-    ("5 kind", ["grant alice region buf WAIT"], ["WAIT is no right on a region"]),
+    ("5 kind", ["grant alice region buf WAIT"], ["WAIT is no right on a region: there is READ and WRITE\n"]),
+    ("5 of an agent", ["grant alice agent gpu READ"], ["READ is no right on an agent: there is USE\n"]),
+    ("5 of a signal", ["grant alice signal done READ,WAIT"], ["READ is no right on a signal: there is WAIT and CHANGE\n"]),
+    ("5 of a kernel", ["grant alice kernel inc USE"], ["USE is no right on a kernel: there is LAUNCH\n"]),
     ("6 OutOfStep", [*PRELUDE, f"submit 1 1 {FILL}", "peek 1", "take 1", "take 1"], ["the next id is 1", "`retire 1`"]),
     ("7 QueueDown by a stop", [*PRELUDE, "stop 1", "stop 1"], ["the queue was stopped"]),
     ("7 QueueDown by an error", [*packet("FILL_PAST_END"), f"submit 1 1 {FILL}", "serve 1"], ["the error `queue 1 packet 0 rule L8`"]),
@@ -132,6 +135,11 @@ BAD = [
     ("operation", "signal alice done increase 1", ["`increase`, word 4", "store, add"]),
     ("swap", "signal alice done cas 1", ["it has 5 words, and its form 6", "cas EXPECTED V"]),
     ("condition", "test alice done == 1", ["`==`, word 4", "EQ, NE, LT or GTE"]),
+    ("no further policy", "reload 1", ["the command line names no further policy: `brokerd run POLICY NEXT` does\n", "the form is `reload N`"]),
+    ("no number of one", "reload x", ["`x`, word 2, isn't understood", "the form is `reload N`"]),
+    ("words after rotate", "rotate x", ["it has 2 words, and its form 1\n", "the form is `rotate`\n"]),
+    ("words after audit", "audit 1", ["it has 2 words, and its form 1\n", "the form is `audit`\n"]),
+    ("the form that fits best", "signal alice done cas 1 2 3", ["it has 7 words, and its form 6\n", "cas EXPECTED V"]),
     ("value", "signal alice done add 9223372036854775808", ["`9223372036854775808`, word 5"]),
     ("long", "#" * 16385, ["over 16384 bytes"]),
 ]
@@ -144,10 +152,10 @@ POLICIES = [
     ("3 BadValue", b'[[region]]\nname = "buf"\nlength = 0\n', [", line 3, column 10: `length` is 0, and there may stand a number of bytes"]),
     ("3 of a name", b'[[client]]\nname = "a b"\n', [", line 2, column 8: `name` is `a b`"]),
     ("3 of a key", b'[[client]]\nname = "a"\nage = 1\n', [", line 3, column 7: the key `age` is none", "it has name"]),
-    ("3 of the file", b'versions = 1\n', ["the key `versions` is none that a policy has"]),
+    ("3 of the file", b'versions = 1\n', [", line 1, column 12: the key `versions` is none that a policy has"]),
     ("3 of the version", b'version = 3\n', [", line 1, column 11: `version` is 3, and there may stand 1, or 2"]),
     ("3 of deny rows", b'deny = []\n', ["`version = 2`"]),
-    ("3 of an array", b'client = 1\n', ["`client` has to be an array of rows"]),
+    ("3 of an array", b'client = 1\n', [", line 1, column 10: `client` has to be an array of rows"]),
     ("3 of rights", b'[[allow]]\nclient = "*"\nkind = "agent"\nobject = "*"\nrights = ["READ"]\n', ["`rights` is an array of `READ`", "USE on agents"]),
     ("4 UnknownName", b'[[client]]\nname = "a"\n[[allow]]\nclient = "b"\nkind = "agent"\nobject = "*"\nrights = []\n', [", line 4, column 10: no row of `client` has the name `b`; they have a"]),
     ("4 of an object", b'[[client]]\nname = "a"\n[[allow]]\nclient = "a"\nkind = "agent"\nobject = "g"\nrights = []\n', ["no row of `agent` has the name `g`"]),
@@ -155,7 +163,17 @@ POLICIES = [
     ("6 TooMany", b'[[agent]]\nname = "a%d"\ntakes = []\n', ["`agent` has 17 rows, and may have 16 at the most"]),
     ("6 of bytes", b"#" * ((1 << 20) + 1), ["over 1048576 bytes"]),
     ("6 of regions", b'[[region]]\nname = "r%d"\nlength = 16777216\n', ["longer than 67108864 bytes together"]),
-    ("read", b"[[kernel]]\nname = \"k\"\nentry = \"&k\"\ntext = '''\nmodule &m:1:0:$base:$large:$default;\nkernel &k() { nop; };\n'''\n", [", line 4, column 8: kernel k, in its text:", "read 3 line 2 column 15", "kernel &k() { nop; };", "^^^"]),
+    ("read", b"[[kernel]]\nname = \"k\"\nentry = \"&k\"\ntext = '''\nmodule &m:1:0:$base:$large:$default;\nkernel &k() { nop; };\n'''\n", [", line 6, column 15: kernel k, in its text:", "read 3 line 2 column 15", "kernel &k() { nop; };", "^^^"]),
+    ("read in one line", b"[[kernel]]\nname = \"k\"\nentry = \"&k\"\ntext = 'module &m:1:0:$base:$large:$default; kernel &k() { nop; };'\n", [", line 4, column 60: kernel k, in its text:", "read 3 line 1 column 52"]),
+    ("read after an escape", b"[[kernel]]\nname = \"k\"\nentry = \"&k\"\ntext = \"module &m:1:0:$base:$large:$default;\\n kernel &k() { ret };\"\n", [", line 4, column 8: kernel k, in its text:", "read 2 line 2 column 20", ", line 4, column 8: in line 2 of the text, a `;` is missing here\n"]),
+    ("3 in brackets", b'client = [{name = "a"}, {name = "b c"}]\n', [", line 1, column 33: `name` is `b c`"]),
+    ("3 in brackets of lines", b'version = 1\nclient = [ # those\n  {name = "a"},\n  {"name" = "b c"},\n]\n', [", line 4, column 13: `name` is `b c`"]),
+    ("3 of an array in brackets", b'agent = [{name = "a", takes = ["kernel"]}, {name = "b", takes = ["kernels"]}]\n', [", line 1, column 65: `takes` is an array of `kernels`"]),
+    ("2 in brackets", b'client = [{name = "a"}]\nagent = [{name = "g", takes = []}, {takes = []}]\n', [", line 2, column 36: the row has no `name`"]),
+    ("4 in brackets", b'client = [{name = "a"}]\nallow = [{client = "b", kind = "agent", object = "*", rights = []}]\n', [", line 2, column 20: no row of `client` has the name `b`"]),
+    ("5 in brackets", b'client = [{name = "a"}, {name = "a"}]\n', [", line 1, column 33: row 1 of `client` has the name `a` already"]),
+    ("3 after a text with brackets", b"[[kernel]]\nname = \"k\"\nentry = \"&k\"\ntext = '''\n[[client]]\nname = 1\n'''\n[[client]]\nname = \"b c\"\n", [", line 9, column 8: `name` is `b c`"]),
+    ("3 of a quoted key", b'[[ "client" ]]\n"name" = "a b"\n', [", line 2, column 10: `name` is `a b`"]),
     ("check", b"[[kernel]]\nname = \"k\"\nentry = \"&k\"\ntext = '''\nmodule &m:1:0:$base:$large:$default;\nkernel &k() {\n  br @x;\n};\n'''\n", ["kernel k, in its text:", "check 1 line 3", "br @x;"]),
 ]
 
@@ -171,6 +189,22 @@ KERNELS = [
     ("check 4 WrongType", "  ld_kernarg_u64 $d0, [%a];", ["check 4 line 3", "ld_kernarg_u64 $d0, [%a];"]),
     ("check 5 UnknownArgument", "  ld_kernarg_u32 $s0, [%q];", ["check 5 line 3", "ld_kernarg_u32 $s0, [%q];"]),
     ("check 6 TooLarge", "  mov_b32 $s64, 1;", ["check 6 line 3", "mov_b32 $s64, 1;"]),
+    ("a register's number", "  mov_b32 $s99, 1;", ["check 6 line 3", ", line 7, column 3: `$s99`: the number of a register is 63 at the most\n"]),
+    ("a register's number in brackets", "  ld_global_u32 $s0, [$d64+4];", [": `$d64`: the number of a register is 63 at the most\n"]),
+    ("a constant", "  mov_b32 $s0, 4294967296;", [": `4294967296`: a number of 32 bits is -2147483648 to 4294967295\n"]),
+    ("a negative constant", "  mov_b64 $d0, -9223372036854775809;", [": `-9223372036854775809`: a number of 64 bits is -9223372036854775808 to 18446744073709551615\n"]),
+    ("a dimension", "  workitemid_u32 $s0, 3;", [": `3`: a dimension is 2 at the most\n"]),
+    ("instructions", "  ret;\n" * 4097, ["check 6 line 4099", ", line 4103, column 3: a kernel has 4096 instructions at the most\n"]),
+    ("group variables", "  group_u32 %g[16385];", [": the group variables of a kernel take 65536 bytes at the most\n"]),
+    ("arguments", "};\nkernel &l(" + ",\n".join(f"kernarg_u64 %a{at}" for at in range(513)) + ") {", ["check 6 line 516", ": the arguments of a kernel take 4096 bytes at the most\n"]),
+    ("kernels", "};\n" + "".join(f"kernel &k{at}() {{ }};\n" for at in range(63)) + "kernel &last() {", ["check 6 line 67", ": a module has 64 kernels at the most\n"]),
+    ("a missing ;", "  mov_b32 $s0, 1", ["read 2 line 4 column 1", ", line 7, column 17: a `;` is missing here\n"]),
+    ("a missing ; before a remark", "  mov_b32 $s0, 1 // one; two\n\n  ret;", ["read 2 line 5 column 3", ", line 7, column 17: a `;` is missing here\n"]),
+    ("a missing ; in a line", "  mov_b32 $s0, 1 mov_b32 $s1, 2;", [", line 7, column 17: a `;` is missing here\n"]),
+    ("a floating number", "  mov_b32 $s0, 1.5;", ["read 1 line 3", ", line 7, column 16: `1.5` is a floating number, and the profile has none\n"]),
+    ("bits of one", "  mov_b32 $s0, 0f3f800000;", [", line 7, column 16: `0f3f800000` is a floating number, and the profile has none\n"]),
+    ("one with an exponent", "  mov_b32 $s0, 1e5;", ["`1e5` is a floating number, and the profile has none\n"]),
+    ("work on floating numbers", "  add_f32 $s0, $s0, $s0;", ["read 3 line 3", ", line 7, column 3: `add_f32` works on floating numbers, and the profile has none\n"]),
     ("check 7 BadAddress", "  ld_global_u32 $s0, [$s1];", ["check 7 line 3", "ld_global_u32 $s0, [$s1];"]),
 ]
 
@@ -348,6 +382,19 @@ def faults(trials, explained, room):
 
     trials.every("the line that is proposed for a fault mends it", mends, ["A1", "A2"])
 
+    def once(it):
+        name, one, other = it
+        line, words = next((line, words) for of, line, _, words in FAULTS if of == name)
+        policy = f"{room}/{name}-once.toml"
+        with open(policy, "w") as file:
+            file.write(access_policy(line))
+        told, wrong = explained.both("run", policy, [each.replace(one, other) if each.startswith("write") else each for each in access_script()])
+        err = told.err.decode()
+        return wrong or (None if err.count(words[-1] + "\n") == 1 and err.count("the argument at byte") == 4 else f"{err}")
+
+    inputs = [("A1", "0000000004000000", "0000000005000000"), ("A2", "0000000001000000", "0000000003000000")]
+    trials.every("of two arguments that point into a region the line is proposed once", once, inputs)
+
 
 def audit(trials, explained):
     """A full audit, and the places that are kept in it."""
@@ -389,6 +436,95 @@ def order(trials, explained):
     trials.every("a strict run may tell too", strict, [(["list bob", "load bob done", "list bob"], b"list 0\nrefused 3 Denied WAIT\n")])
 
 
+# A word that stands for what a form calls so, and one that doesn't; any word may be a name.
+WORDS = {
+    "a name": ("alice", None),
+    "agent, region, signal or kernel": ("region", "regions"),
+    "rights with commas between them, of USE, READ, WRITE, WAIT, CHANGE and LAUNCH, or -": ("READ,WRITE", "READ;WRITE"),
+    "a decimal number of 64 bits": ("1", "0x1"),
+    "an address: 16 hexadecimal digits": ("0000000100000000", "100"),
+    "bytes: pairs of hexadecimal digits": ("00", "0"),
+    "a packet: 128 hexadecimal digits": (FILL, FILL[2:]),
+    "a packet's word: 16 hexadecimal digits": (ZEROS, "0"),
+    "store, add, subtract, and, or, xor, exchange or cas": ("add", "increase"),
+    "EQ, NE, LT or GTE": ("EQ", "=="),
+    "a decimal number of 64 bits, with - in front below 0": ("-1", "--1"),
+}
+FORM = re.compile(r"line `([^`]+)`(?:: (.*))?")
+
+
+class Form:
+    """A form of a line, as `explain lines` tells it: how it is shown, its words, and what each further one stands for; a word that stands for itself has none."""
+
+    def __init__(self, told):
+        self.shown, classes = FORM.fullmatch(told).groups()
+        self.words = self.shown.split(" ")
+        named = dict(each.split(" is ", 1) for each in classes.split("; ")) if classes else {}
+        self.classes = [named.get(word) if word.isupper() else None for word in self.words[1:]]
+
+    def right(self):
+        """A line of the form."""
+        return [self.words[0], *(WORDS[of][0] if of else word for word, of in zip(self.words[1:], self.classes))]
+
+    def wrong(self):
+        """Lines with a fault, and what is told of each."""
+        right, count, form = self.right(), len(self.words), f"the form is `{self.shown}`\n"
+        for at, of in enumerate(self.classes, 1):
+            bad = WORDS[of][1] if of else None
+            if bad:
+                yield [*right[:at], bad, *right[at + 1 :]], [f"`{bad[:32]}", f", word {at + 1}, isn't understood: there stands {of}\n", form]
+        yield [*right, "1"], [f"it has {count + 1} words, and its form {count}\n", form]
+        if count > 1:
+            yield right[:-1], [f"it has {count - 1} words, and its form {count}\n", form]
+        yield [right[0] + "x", *right[1:]], [f"`{right[0]}x` is no word that a line begins with\n", f"the nearest form is `{right[0]}"]
+
+
+def forms(trials, explained):
+    """Each row of the table of forms, as the program tells it: a line of it is of a form, and each word at fault is told, with the form."""
+    told = run([explained.program, "explain", "lines"]).out.decode().splitlines()
+    table = [Form(line) for line in told]
+
+    def trial(form):
+        ended = run([explained.program, "run", SAMPLE, SAMPLE, "--explain"], text([" ".join(form.right())]))
+        if b"bad request" in ended.err or not ended.out:
+            return f"{form.shown} is of no form: {ended}"
+        for words, told in form.wrong():
+            ended, wrong = explained.both("run", SAMPLE, [" ".join(words)], SAMPLE)
+            wrong = wrong or explained.has(ended, ["line 1: bad request\n", *told])
+            if wrong:
+                return wrong
+        return None
+
+    trials.every("each form of the table is told with the word at fault", trial, table)
+    words = {form.words[0]: form.shown for form in reversed(table)}
+
+    def paged(_):
+        with open(f"{TOP}/docs/scripts.md") as page:
+            rows = re.search(r"(?:^\| `.*\n)*^\| `grant .*\n(?:^\| `.*\n)*", page.read(), re.M)[0]
+        shown = re.findall(r"^\| `([^`]+)`", rows, re.M)
+        return None if sorted(shown) == sorted(words.values()) else f"{set(shown) ^ set(words.values())}"
+
+    trials.every("the page on scripts has a row for the first form of each word, and no other", paged, [0])
+
+    def meaning(word):
+        ended = run([explained.program, "explain", word])
+        return None if (ended.status, ended.err) == (0, b"") and ended.out else f"{ended}"
+
+    trials.every("rights, causes of waiting and first words of lines are words of the command explain", meaning, [*sorted(words), "USE", "READ", "write", "WAIT", "CHANGE", "LAUNCH", "waiting", "Barrier", "active", "Slots"])
+
+
+def later(trials, explained):
+    """A further policy that the command line doesn't name."""
+
+    def trial(it):
+        names, words = it
+        ended = run([explained.program, "run", SAMPLE, *names, "--explain"], text(["reload 7"]))
+        return explained.has(ended, words)
+
+    inputs = [([SAMPLE], ["names one further policy, number 1\n"]), ([SAMPLE] * 3, ["names 3 further policies, numbers 1 to 3\n"])]
+    trials.every("the numbers of further policies are told", trial, inputs)
+
+
 def privacy(trials, explained):
     """An explanation of a client's call or packet names no right of another."""
 
@@ -420,6 +556,8 @@ def main(program):
         faults(trials, explained, room)
     audit(trials, explained)
     order(trials, explained)
+    forms(trials, explained)
+    later(trials, explained)
     privacy(trials, explained)
     trials.end()
 

@@ -6,8 +6,9 @@ use crate::perform::{failed, read_most, unread};
 use crate::writers::Nowhere;
 use assemble::{AssembleError, Book, BookError, assemble_script};
 use commands::{Status, check_policy};
-use kernel_listing::{Listing, list};
-use std::alloc::Global;
+use explain::text_help;
+use kernel_listing::{Listing, TextFault, list, told as fault_told};
+use std::alloc::{AllocError, Global};
 use std::io;
 use std::io::Write;
 
@@ -28,6 +29,14 @@ pub(crate) fn fails<E: io::Write>(err: &mut E, what: &str) -> Status {
     Status::Failed
 }
 
+// Tells a kernel's text's fault.
+fn tell_fault<E: io::Write>(alloc: Global, text: &[u8], fault: TextFault, err: &mut E) -> Status {
+    match fault_told(alloc, text, fault) {
+        Ok(fault) => told(err, fault.as_str(), Status::Refused),
+        Err(_) => fails(err, "no memory\n"),
+    }
+}
+
 /// Lists the kernels of a text on `out`, or tells the text's fault on `err`.
 pub fn list_kernel<O: io::Write, E: io::Write>(
     alloc: Global,
@@ -40,20 +49,34 @@ pub fn list_kernel<O: io::Write, E: io::Write>(
             Status::Failed => fails(err, "write fault\n"),
             status => status,
         },
-        Ok(Listing::Fault(fault)) => told(err, fault.as_str(), Status::Refused),
+        Ok(Listing::Fault(fault)) => tell_fault(alloc, text, fault, err),
         Err(_) => fails(err, "no memory\n"),
     }
 }
 
-/// Lists the kernels of the text in a file.
+// What helps with the fault of the text in a file, if it has one.
+fn help_of(alloc: Global, file: &str, text: &[u8]) -> Result<String, AllocError> {
+    match list(alloc, text)? {
+        Listing::Fault(fault) => text_help(alloc, file, text, fault),
+        Listing::Kernels(_) => Ok(String::new(alloc)),
+    }
+}
+
+// Lists the kernels of the text in a file, and tells behind a fault what helps, if it explains.
+fn list_file(rt: &HostRuntime, file: &str, explains: bool, text: &[u8]) -> Status {
+    let mut err = rt.stderr();
+    match list_kernel(rt.alloc(), text, &mut rt.stdout(), &mut err) {
+        Status::Refused if explains => {
+            tell(&mut err, help_of(rt.alloc(), file, text), Status::Refused)
+        }
+        status => status,
+    }
+}
+
+/// Lists the kernels of the text in a file, and tells why it has a fault, if it explains.
 pub fn kernel(rt: &HostRuntime, file: &str, explains: bool) -> Status {
     match read_most(rt, file, MOST_TEXT) {
-        Ok(text) => list_kernel(
-            rt.alloc(),
-            text.as_slice(),
-            &mut rt.stdout(),
-            &mut rt.stderr(),
-        ),
+        Ok(text) => list_file(rt, file, explains, text.as_slice()),
         Err(error) => unread(rt, file, explains, &error),
     }
 }

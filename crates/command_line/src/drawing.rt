@@ -38,7 +38,7 @@ fn refused_told<R: io::Read>(
 ) -> Result<String, AllocError> {
     let told = policies_told(alloc, file, further)?;
     if told.is_empty() {
-        bad_line(alloc, lines.line(), lines.number())
+        bad_line(alloc, lines.line(), lines.number(), further.texts.len())
     } else {
         Ok(told)
     }

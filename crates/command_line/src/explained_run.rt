@@ -6,12 +6,9 @@ use crate::further::Manner;
 use crate::line_reader::LineReader;
 use crate::session::help_told;
 use commands::{Failure, PolicyText, Status, check_kernels, name_failure, tell_end};
-use core_model::Part;
 use explain::{Asked, asked_by, bad_line, policy_fault, retold};
 use policy::{Policy, ReadPolicyError, read_policy};
-use script::{
-    Command, Flow, IoLog, LineAnswer, LineReply, ScriptFault, Watch, run_watched, strictly,
-};
+use script::{Command, Flow, IoLog, LineReply, ScriptFault, Watch, run_watched, strictly};
 use std::alloc::{AllocError, Global};
 use std::io;
 use std::io::Write;
@@ -27,30 +24,6 @@ pub struct Further<'a> {
     pub texts: &'a [PolicyText],
 }
 
-// What the world answered, if a line asked it.
-fn answered_in(answer: LineAnswer) -> Option<world::Answer> {
-    match answer {
-        LineAnswer::Answered { answer, .. } => Some(answer),
-        _other => None,
-    }
-}
-
-// The part that an answer hands out, if it does.
-fn rotated_in(answer: world::Answer) -> Option<Part> {
-    match answer {
-        world::Answer::Rotated(part) => Some(part),
-        _other => None,
-    }
-}
-
-// The part that a reply hands out, if it does. In three steps: a match in a match on what is moved takes the check
-// many minutes.
-fn part_of(reply: LineReply) -> Option<Part> {
-    let answer = reply.ok()?;
-    let answered = answered_in(answer)?;
-    rotated_in(answered)
-}
-
 /// Why a run ends behind a line.
 #[derive(Clone, Copy, PartialEq, Eq)]
 enum Cause {
@@ -58,8 +31,6 @@ enum Cause {
     Telling,
     /// The line wasn't done, and the run is strict.
     NotDone,
-    /// There is no memory for what was handed out.
-    OutOfMemory,
 }
 
 /// A watcher that ends a run where something is to be told of a reply, and keeps what.
@@ -74,17 +45,17 @@ struct Explainer {
     has_gone_on: bool,
     // How many lines came before those of this run.
     before: u64,
+    // How many further policies there are.
+    later: usize,
     // What the line asked that was asked last.
     asked: Asked,
     // What is to be told, and why the run ended.
     told: String,
     cause: Cause,
-    // The parts of the history that were handed out, in order.
-    handed_out: Vec<Part>,
 }
 
 impl Explainer {
-    fn new(alloc: Global, manner: Manner) -> Explainer {
+    fn new(alloc: Global, manner: Manner, later: usize) -> Explainer {
         Explainer {
             alloc,
             is_strict: manner.is_strict,
@@ -92,10 +63,10 @@ impl Explainer {
             goes_on: manner.is_session && !manner.is_strict,
             has_gone_on: false,
             before: 0,
+            later,
             asked: Asked::Nothing,
             told: String::new(alloc),
             cause: Cause::Telling,
-            handed_out: Vec::new(alloc),
         }
     }
 
@@ -109,37 +80,20 @@ impl Explainer {
         if !self.tells {
             return;
         }
-        let told = retold(
-            self.alloc,
-            world,
-            self.handed_out.as_slice(),
-            self.number_of(number),
-            self.asked,
-            reply,
-        );
+        let told = retold(self.alloc, world, self.number_of(number), self.asked, reply);
         if let Ok(told) = told {
             self.told = told;
         }
     }
 
-    // Keeps the part that a reply hands out, if it does; false where there is no memory for it.
-    fn keep(&mut self, reply: LineReply) -> bool {
-        match part_of(reply) {
-            Some(part) => self.handed_out.push(part).is_ok(),
-            None => true,
-        }
-    }
-
     // Whether the run ends here, and why.
-    fn flow(&mut self, is_done: bool, is_kept: bool) -> Flow {
-        self.cause = if !is_done {
-            Cause::NotDone
-        } else if !is_kept {
-            Cause::OutOfMemory
-        } else {
+    fn flow(&mut self, is_done: bool) -> Flow {
+        self.cause = if is_done {
             Cause::Telling
+        } else {
+            Cause::NotDone
         };
-        if self.cause == Cause::Telling && self.told.is_empty() {
+        if is_done && self.told.is_empty() {
             Flow::GoOn
         } else {
             Flow::End
@@ -166,9 +120,7 @@ impl Watch for Explainer {
 
     fn seen(&mut self, world: &World, number: u64, reply: LineReply) -> Flow {
         self.explain(world, number, &reply);
-        let is_done = !self.is_strict || strictly(&reply) == Flow::GoOn;
-        let is_kept = self.keep(reply);
-        self.flow(is_done, is_kept)
+        self.flow(!self.is_strict || strictly(&reply) == Flow::GoOn)
     }
 }
 
@@ -199,7 +151,6 @@ fn tell_of_line<E: io::Write>(explainer: &Explainer, err: &mut E) -> Option<Stat
     match explainer.cause {
         Cause::Telling => None,
         Cause::NotDone => Some(Status::Refused),
-        Cause::OutOfMemory => Some(name(explainer.alloc, err, Failure::OutOfMemory)),
     }
 }
 
@@ -226,7 +177,7 @@ fn run_on<R: io::Read, O: io::Write>(
 // What is told of a line of no form.
 fn bad_line_told(explainer: &Explainer, line: &[u8], number: u64) -> Result<String, AllocError> {
     if explainer.tells {
-        bad_line(explainer.alloc, line, number)
+        bad_line(explainer.alloc, line, number, explainer.later)
     } else {
         Ok(String::new(explainer.alloc))
     }
@@ -446,6 +397,6 @@ pub fn run_explaining<R: io::Read, O: io::Write, E: io::Write>(
         let told = told_if(alloc, manner, further_told(alloc, further, place, why));
         return name_and_tell(alloc, err, Failure::of_reading(why), told);
     }
-    let mut explainer = Explainer::new(alloc, manner);
+    let mut explainer = Explainer::new(alloc, manner, later.len());
     run_in(&mut explainer, world, later.as_slice(), script, out, err)
 }

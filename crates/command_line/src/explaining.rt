@@ -1,8 +1,9 @@
 //! A check that tells beside a policy's fault where it lies, and what mends it.
 
 use access_core::Kernel;
-use commands::{KernelError, Status, check_kernels, check_policy};
+use commands::{KernelCause, KernelError, Status, check_kernels, check_policy};
 use explain::{kernel_fault, no_entry, policy_fault};
+use kernel_listing::TextFault;
 use pages::rows_of;
 use policy::{Policy, PolicyCause, PolicyFault, ReadPolicyError, read_policy};
 use std::alloc::{AllocError, Global};
@@ -28,6 +29,14 @@ fn without_entry(kernels: &[Kernel]) -> Option<u32> {
     None
 }
 
+// What is wrong with a kernel's text.
+fn text_fault(cause: KernelCause) -> TextFault {
+    match cause {
+        KernelCause::Read(fault) => TextFault::Read(fault),
+        KernelCause::Check(fault) => TextFault::Check(fault),
+    }
+}
+
 // What is told of a policy's kernels.
 fn kernels_told(
     alloc: Global,
@@ -40,9 +49,14 @@ fn kernels_told(
             None => Ok(String::new(alloc)),
         },
         Err(KernelError::OutOfMemory) => Err(AllocError),
-        Err(KernelError::Fault(fault)) => {
-            kernel_fault(alloc, file.name, file.text, policy, fault.kernel)
-        }
+        Err(KernelError::Fault(fault)) => kernel_fault(
+            alloc,
+            file.name,
+            file.text,
+            policy,
+            fault.kernel,
+            text_fault(fault.cause),
+        ),
     }
 }
 

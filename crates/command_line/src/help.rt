@@ -36,6 +36,9 @@ Names that explain tells:
   policy     1 NotToml 2 MissingKey 3 BadValue 4 UnknownName 5 DoubleName 6 TooMany
   read       1 Lexeme 2 Syntax 3 NotInProfile 4 TooLong
   check      1 UnknownLabel 2 DoubleName 3 WrongRegister 4 WrongType 5 UnknownArgument 6 TooLarge 7 BadAddress
+  rights     USE READ WRITE WAIT CHANGE LAUNCH
+  waiting    Barrier Active Slots, or waiting for all
+  lines      the first word of a line, or lines for all
 
 Exit status: 0 all went well; 1 the policy, a kernel or a line is refused; 2 the command line isn't understood;
 3 reading, writing or memory failed.";

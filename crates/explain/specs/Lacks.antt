@@ -1,5 +1,5 @@
 -- What a client lacks, told from what was granted to it and from what the rows in force allow it, and from nothing of another client.
-use Rattle.std.specs.Prelude.{Bool, false, List, fold, Option, Some, None, if◌then◌else◌}
+use Rattle.std.specs.Prelude.{Bool, List, fold, Option, Some, None, if◌then◌else◌}
 use Rattle.aql_packet.specs.declared.ids.ClientId.{ClientId}
 use Rattle.policy.specs.declared.object.Object.{Object}
 use Rattle.policy.specs.declared.rights.Right.{Right}
@@ -7,13 +7,16 @@ use Rattle.policy.specs.declared.rows.PolicyRows.{PolicyRows}
 use Rattle.policy.specs.Rules.{rows_allow}
 use Rattle.core_model.specs.declared.entry.Entry.{Entry}
 use Rattle.core_model.specs.declared.need.Need.{Need}
+use Rattle.grants.specs.Ledger.{in_force}
+use Rattle.core_model.specs.declared.origin.Origin.{Origin}
 use Rattle.core_model.specs.Grants.{in_force_after}
 use Rattle.core_model.specs.Needs.{object_of}
 use Rattle.explain.specs.declared.lacks.Lack.{Lack}
 
--- whether a client's right on an object is in force, by the entries since the opening of a core, when none was (own)
-abbrev pub in_force_since : List Entry → ClientId → Object → Right → Bool
-in_force_since entries client object right = fold (λ before entry. in_force_after client object right before entry.event) false entries
+-- whether a client's right on an object is in force, by what a history begins from and its entries (own)
+abbrev pub in_force_since : Origin → List Entry → ClientId → Object → Right → Bool
+in_force_since start entries client object right =
+    fold (λ before entry. in_force_after client object right before entry.event) (in_force start.grants client object right) entries
 
 -- the right on an object, as one that the client lacks, with whether the rows allow it (own)
 abbrev pub lacked : PolicyRows → ClientId → Object → Right → Lack
@@ -21,10 +24,10 @@ lacked rows client object right =
     record { client = client; object = object; right = right; is_allowed = rows_allow rows client object right }
 
 -- the right that the client lacks, if it isn't in force (own)
-abbrev pub lack_of : PolicyRows → List Entry → ClientId → Object → Right → Option Lack
-lack_of rows entries client object right =
-    if in_force_since entries client object right then None else Some (lacked rows client object right)
+abbrev pub lack_of : PolicyRows → Origin → List Entry → ClientId → Object → Right → Option Lack
+lack_of rows start entries client object right =
+    if in_force_since start entries client object right then None else Some (lacked rows client object right)
 
 -- the right that the client lacks of what its packet needs (own)
-abbrev pub lack_of_need : PolicyRows → List Entry → ClientId → Need → Option Lack
-lack_of_need rows entries client need = lack_of rows entries client (object_of need.subject) need.right
+abbrev pub lack_of_need : PolicyRows → Origin → List Entry → ClientId → Need → Option Lack
+lack_of_need rows start entries client need = lack_of rows start entries client (object_of need.subject) need.right

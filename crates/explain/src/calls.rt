@@ -1,15 +1,16 @@
 //! Why a call was refused.
 
 use crate::asked::{Asked, Verb};
-use crate::lacks::lack_of;
+use crate::lacks::lacked;
 use crate::rings::{tell_dependencies, tell_holder};
-use crate::scene::{Scene, begin, handed_over, is_right_on, put_why_not, say, tell_lack};
+use crate::scene::{Scene, begin, handed_over, put_why_not, rights_of, say, tell_lack};
 use crate::texts::{lies_whole, put_client, put_clients, put_object, put_objects, put_range};
-use crate::work::{flight, how_far, last_error};
-use aql_packet::ClientId;
-use core_model::{InFlight, MOST_HOST_BYTES, Range, Refusal, Taken};
+use crate::work::{errors, flying_of, how_far};
+use aql_packet::{ClientId, PacketId, QueueId};
+use core_model::{InFlight, MOST_HOST_BYTES, Range, Refusal};
 use packet_processor::is_barrier;
-use policy::{Object, Right, Rights};
+use policy::{Kind, Object, Right, Rights};
+use queue_error::{QueueError, Rule};
 use std::alloc::{AllocError, Global};
 use world::World;
 
@@ -43,7 +44,7 @@ fn tell_queue(out: &mut String, scene: &Scene<'_>, world: &World) -> Result<(), 
     )
 }
 
-// A right on an object that a client lacks for what it asks.
+// A right on an object that a client lacks for what it asks: the core denied it.
 fn tell_right(
     out: &mut String,
     scene: &Scene<'_>,
@@ -54,10 +55,7 @@ fn tell_right(
     if object.number() == 0 {
         return tell_object(out, scene, object);
     }
-    match lack_of(scene.rows, scene.entries, client, object, right) {
-        Some(lack) => tell_lack(out, scene, &lack, ""),
-        None => Ok(()),
-    }
+    tell_lack(out, scene, &lacked(scene.rows, client, object, right), "")
 }
 
 // A right on a range that a client lacks for what it asks.
@@ -113,6 +111,19 @@ fn tell_denied_call(
     }
 }
 
+// A right that there isn't on objects of a kind, and those that there are.
+fn tell_other_rights(out: &mut String, kind: Kind, right: Right) -> Result<(), AllocError> {
+    let article = if kind == Kind::Agent { "an" } else { "a" };
+    write!(out, "{right} is no right on {article} {kind}: there is ")?;
+    for (place, other) in rights_of(kind).iter().enumerate() {
+        if place > 0 {
+            out.push_str(" and ")?;
+        }
+        out.push_str(other.name())?;
+    }
+    out.push_str("\n")
+}
+
 // Why a right may not be granted.
 fn tell_not_allowed(
     out: &mut String,
@@ -125,9 +136,9 @@ fn tell_not_allowed(
         return Ok(());
     }
     begin(out, scene)?;
-    if !is_right_on(right, object) {
-        let kind = object.kind();
-        return writeln!(out, "{right} is no right on a {kind}");
+    let kind = object.kind();
+    if !rights_of(kind).contains(&right) {
+        return tell_other_rights(out, kind, right);
     }
     let lack = crate::lacks::Lack {
         client,
@@ -158,17 +169,99 @@ fn tell_grant(out: &mut String, scene: &Scene<'_>, asked: Asked) -> Result<(), A
 }
 
 // Why a queue launches nothing more.
-fn tell_down(out: &mut String, scene: &Scene<'_>, asked: Asked) -> Result<(), AllocError> {
+fn tell_down(
+    alloc: Global,
+    out: &mut String,
+    scene: &Scene<'_>,
+    world: &World,
+    asked: Asked,
+) -> Result<(), AllocError> {
     let queue = match asked {
         Asked::Processing { queue, .. } | Asked::Queue { queue } => queue,
         _ => return Ok(()),
     };
     begin(out, scene)?;
-    match last_error(scene.entries, queue) {
+    match errors(alloc, world, queue)?.as_slice().last() {
         Some(error) => write!(out, "the queue has the error `{error}`")?,
         None => out.push_str("the queue was stopped")?,
     }
     out.push_str(", and launches nothing more: open another with `queue`\n")
+}
+
+// Whether the packet of a queue and an id was handed over before a history began.
+fn is_before(scene: &Scene<'_>, queue: QueueId, packet: PacketId) -> bool {
+    match scene
+        .start
+        .queues
+        .as_slice()
+        .get((queue.0 as usize).wrapping_sub(1))
+    {
+        Some(queue) => packet.0 < queue.next,
+        None => false,
+    }
+}
+
+// Whether the packet of a queue and an id was handed over: each whose id is below the read index was, none above it.
+fn is_handed_over(scene: &Scene<'_>, world: &World, queue: QueueId, packet: PacketId) -> bool {
+    let Some(ring) = world.ring(queue) else {
+        return false;
+    };
+    let head = ring.read_index();
+    packet.0 < head
+        || (packet.0 == head
+            && (is_before(scene, queue, packet)
+                || handed_over(scene.entries, queue, packet).is_some()))
+}
+
+// Whether a rule is one by which a packet isn't launched.
+fn is_of_launches(rule: Rule) -> bool {
+    matches!(
+        rule,
+        Rule::L1
+            | Rule::L2
+            | Rule::L3
+            | Rule::L4
+            | Rule::L5
+            | Rule::L6
+            | Rule::L7
+            | Rule::L8
+            | Rule::L9
+            | Rule::L10
+    )
+}
+
+// The error by which a packet was denied, if it was.
+fn denial(errors: &[QueueError], packet: PacketId) -> Option<QueueError> {
+    errors
+        .iter()
+        .find(|error| error.packet == packet && is_of_launches(error.rule))
+        .copied()
+}
+
+// Where a packet is that isn't in flight.
+fn tell_gone(
+    alloc: Global,
+    out: &mut String,
+    scene: &Scene<'_>,
+    world: &World,
+    queue: QueueId,
+    packet: PacketId,
+) -> Result<(), AllocError> {
+    let id = packet.0;
+    let number = queue.0;
+    if !is_handed_over(scene, world, queue, packet) {
+        return writeln!(
+            out,
+            "packet {id} of queue {number} was not handed over yet: `serve {number}`"
+        );
+    }
+    match denial(errors(alloc, world, queue)?.as_slice(), packet) {
+        Some(error) => writeln!(out, "it was denied: `{error}`"),
+        None => writeln!(
+            out,
+            "packet {id} of queue {number} was launched, and has left flight since"
+        ),
+    }
 }
 
 // Why a packet isn't in flight for a call.
@@ -176,6 +269,7 @@ fn tell_not_in_flight(
     alloc: Global,
     out: &mut String,
     scene: &Scene<'_>,
+    world: &World,
     asked: Asked,
 ) -> Result<(), AllocError> {
     let Asked::Flying {
@@ -186,30 +280,14 @@ fn tell_not_in_flight(
     else {
         return Ok(());
     };
-    let id = packet.0;
-    let number = queue.0;
     begin(out, scene)?;
-    for flying in flight(alloc, scene.entries)?.iter() {
-        if flying.queue == queue && flying.id == packet {
-            return out.push_str(match verb {
-                Verb::Run => "it is a barrier packet, which `poll` brings on, not `run`\n",
-                _ => "it is a dispatch, which `run` brings on, not `poll`\n",
-            });
-        }
+    if flying_of(alloc, scene, queue, packet)?.is_none() {
+        return tell_gone(alloc, out, scene, world, queue, packet);
     }
-    match handed_over(scene.entries, queue, packet) {
-        None => writeln!(
-            out,
-            "packet {id} of queue {number} was not handed over yet: `serve {number}`"
-        ),
-        Some(found) => match found.taken {
-            Taken::Denied(error) => writeln!(out, "it was denied: `{error}`"),
-            _ => writeln!(
-                out,
-                "packet {id} of queue {number} was launched, and has left flight since"
-            ),
-        },
-    }
+    out.push_str(match verb {
+        Verb::Run => "it is a barrier packet, which `poll` brings on, not `run`\n",
+        _ => "it is a dispatch, which `run` brings on, not `poll`\n",
+    })
 }
 
 // Why a packet isn't finished.
@@ -228,7 +306,7 @@ fn tell_unfinished(
         )?;
         return tell_dependencies(out, scene, flying);
     }
-    let run = how_far(scene.entries, flying.queue, flying.id).groups;
+    let run = how_far(scene, flying.queue, flying.id).groups_run;
     begin(out, scene)?;
     writeln!(
         out,
@@ -246,24 +324,17 @@ fn tell_not_finished(
     let Asked::Flying { queue, packet, .. } = asked else {
         return Ok(());
     };
-    for flying in flight(alloc, scene.entries)?.iter() {
-        if flying.queue == queue && flying.id == packet {
-            tell_unfinished(out, scene, flying)?;
-        }
+    match flying_of(alloc, scene, queue, packet)? {
+        Some(flying) => tell_unfinished(out, scene, &flying),
+        None => Ok(()),
     }
-    Ok(())
 }
 
 // Why the audit has no room.
-fn tell_full(
-    alloc: Global,
-    out: &mut String,
-    scene: &Scene<'_>,
-    world: &World,
-) -> Result<(), AllocError> {
+fn tell_full(out: &mut String, scene: &Scene<'_>, world: &World) -> Result<(), AllocError> {
     let places = world.core().table_sizes().audit_places;
     let taken = scene.entries.len();
-    let kept = flight(alloc, scene.entries)?.len();
+    let kept = scene.in_flight;
     begin(out, scene)?;
     writeln!(
         out,
@@ -332,10 +403,10 @@ pub fn tell_refusal(
         Refusal::Busy { queue, packet } => tell_holder(alloc, out, scene, *queue, *packet),
         Refusal::NotAllowed => tell_grant(out, scene, asked),
         Refusal::OutOfStep(next) => tell_order(out, scene, asked, *next),
-        Refusal::QueueDown => tell_down(out, scene, asked),
-        Refusal::NotInFlight => tell_not_in_flight(alloc, out, scene, asked),
+        Refusal::QueueDown => tell_down(alloc, out, scene, world, asked),
+        Refusal::NotInFlight => tell_not_in_flight(alloc, out, scene, world, asked),
         Refusal::NotFinished => tell_not_finished(alloc, out, scene, asked),
-        Refusal::AuditFull => tell_full(alloc, out, scene, world),
+        Refusal::AuditFull => tell_full(out, scene, world),
         Refusal::BadSize => tell_size(out, scene, asked),
         Refusal::TooMany => say(
             out,

@@ -1,13 +1,12 @@
 //! Why a packet was denied, by the rule that is told and the packet's own bytes.
 
 use crate::kernel_texts::{Shape, shape_of};
-use crate::lacks::{lack_of, lack_of_need};
-use crate::owners::{Opening, owner};
+use crate::lacks::lack_of_need;
 use crate::packets::{tell_header, tell_reserved, tell_sizes, tell_type};
-use crate::scene::{Scene, begin, handed_over, say, tell_lack};
+use crate::scene::{Scene, begin, handed_over, lack_in, owner_in, say, tell_lack};
 use crate::texts::{lies_whole, put_object, put_range};
 use aql_packet::{KernelDispatch, Packet, decode};
-use core_model::{Need, Range, Subject};
+use core_model::{Need, Opening, Range, Subject};
 use executor::MOST_SEGMENT_BYTES;
 use packet_processor::{PacketNeeds, function_of};
 use policy::{Object, Right};
@@ -78,7 +77,7 @@ fn tell_need(
             return tell_range(out, scene, range);
         }
     }
-    match lack_of_need(scene.rows, scene.entries, opening.client, need) {
+    match lack_of_need(scene.rows, scene.start, scene.entries, opening.client, need) {
         Some(lack) => tell_lack(out, scene, &lack, wanted(rule)),
         None => Ok(()),
     }
@@ -171,14 +170,7 @@ fn tell_block(
         return tell_range(out, scene, range);
     }
     let region = Object::Region(regions::region_of(range.address));
-    let lack = lack_of(
-        scene.rows,
-        scene.entries,
-        opening.client,
-        region,
-        Right::Read,
-    );
-    match lack {
+    match lack_in(scene, opening.client, region, Right::Read) {
         Some(lack) => tell_lack(out, scene, &lack, ", in which the argument block lies"),
         None => Ok(()),
     }
@@ -250,7 +242,7 @@ fn tell_rules(
     error: &QueueError,
     packet: &Packet,
 ) -> Result<(), AllocError> {
-    let Some(opening) = owner(alloc, scene.entries, error.queue)? else {
+    let Some(opening) = owner_in(alloc, scene, error.queue)? else {
         return Ok(());
     };
     for rule in RULES {
@@ -296,7 +288,7 @@ pub fn tell_denied(
         "packet {packet} of queue {queue} breaks {rule}, and the queue launches nothing more"
     )?;
     match handed_over(scene.entries, error.queue, error.packet) {
-        Some(found) => tell_bytes(alloc, out, scene, error, &found.bytes),
+        Some((found, _)) => tell_bytes(alloc, out, scene, error, &found.bytes),
         None => Ok(()),
     }
 }

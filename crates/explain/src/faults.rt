@@ -1,14 +1,13 @@
 //! Why a packet failed at its work.
 
 use crate::kernel_texts::{Shape, checked, entry, line_of, put_kernel, put_marked, shape_of};
-use crate::lacks::{is_in_force, lack_of};
-use crate::owners::{Opening, owner};
-use crate::scene::{HandedOver, Scene, begin, handed_over, say, tell_lack};
+use crate::lacks::is_in_force;
+use crate::scene::{Scene, begin, handed_over, lack_in, owner_in, say, tell_lack};
 use crate::texts::{put_address, put_client, put_object};
-use crate::work::{dependencies, how_far, signal_value};
+use crate::work::{dependencies, first_flying, how_far, signal_value};
 use aql_packet::{Address, KernelDispatch, Packet, REGION_SPAN, SignalHandle, decode};
 use byteorder::{ByteOrder, LittleEndian};
-use core_model::{Effect, Entry};
+use core_model::{Effect, Entry, Opening, Origin, PacketOrigin, Satisfied};
 use kernel_check::{AtomicPointer, NumberType, Step};
 use policy::{Object, Right};
 use queue_error::{FaultPlace, QueueError, Rule, SegmentAddress};
@@ -197,10 +196,23 @@ fn put_about(
     out.push_str(behind)
 }
 
+// Whether the packet's client had a right at the launch, on a region into which an argument points.
+fn had(launch: &Launch<'_>, region: Object, right: Right) -> bool {
+    let client = launch.opening.client;
+    match launch.flown {
+        Flown::Since(before) => is_in_force(launch.start, before, client, region, right),
+        Flown::Before(packet) => launch
+            .start
+            .grants
+            .rights_held(packet.flying.queue, packet.flying.id, client, region)
+            .has(right),
+    }
+}
+
 // Whether the packet holds a right on the region in which an access begins: the client had it at the launch, and an
 // argument points into the region.
 fn is_held(launch: &Launch<'_>, region: Object, right: Right) -> bool {
-    launch.is_pointed && is_in_force(launch.before, launch.opening.client, region, right)
+    launch.is_pointed && had(launch, region, right)
 }
 
 // The first right that an access wants and that the packet doesn't hold on the region in which it begins.
@@ -313,14 +325,18 @@ fn lay(block: &mut Vec<u8>, first: u64, entry: &Entry) {
     }
 }
 
-// A part of memory behind some entries since the opening, when all bytes were 0.
+// A part of memory behind some entries of a history.
 fn memory(
     alloc: Global,
+    start: &Origin,
     entries: &[Entry],
     first: Address,
     size: u32,
 ) -> Result<Vec<u8>, AllocError> {
-    let mut block = vec![in alloc; 0u8; size as usize]?;
+    let mut block = match start.memory.read(first, size as u64) {
+        Ok(bytes) => Vec::from_slice(alloc, bytes)?,
+        Err(_) => vec![in alloc; 0u8; size as usize]?,
+    };
     for entry in entries {
         lay(&mut block, first.0, entry);
     }
@@ -360,13 +376,12 @@ fn region_of(scene: &Scene<'_>, address: Option<SegmentAddress>) -> Option<Objec
 fn put_held(
     out: &mut String,
     scene: &Scene<'_>,
-    opening: &Opening,
-    before: &[Entry],
+    launch: &Launch<'_>,
     region: Object,
 ) -> Result<(), AllocError> {
-    let reads = is_in_force(before, opening.client, region, Right::Read);
-    let writes = is_in_force(before, opening.client, region, Right::Write);
-    put_client(out, scene.policy, opening.client)?;
+    let reads = had(launch, region, Right::Read);
+    let writes = had(launch, region, Right::Write);
+    put_client(out, scene.policy, launch.opening.client)?;
     out.push_str(match (reads, writes) {
         (true, true) => " had READ and WRITE on it at the launch\n",
         (true, false) => " had only READ on it at the launch\n",
@@ -375,12 +390,22 @@ fn put_held(
     })
 }
 
+/// Since when a packet is in flight.
+#[derive(Clone, Copy)]
+enum Flown<'a> {
+    /// Since it was launched, behind these entries of the audit.
+    Since(&'a [Entry]),
+    /// Since before the history began.
+    Before(&'a PacketOrigin),
+}
+
 /// By what a fault and each argument that may point into memory are told: the packet's launch, what the access
 /// wants, and the region in which it begins.
 #[derive(Clone, Copy)]
 struct Launch<'a> {
     opening: Opening,
-    before: &'a [Entry],
+    start: &'a Origin,
+    flown: Flown<'a>,
     rule: Rule,
     reach: Reach,
     region: Option<Object>,
@@ -397,10 +422,10 @@ fn tell_wanted(
     right: Right,
 ) -> Result<(), AllocError> {
     let client = launch.opening.client;
-    if is_in_force(launch.before, client, region, right) {
+    if had(launch, region, right) {
         return Ok(());
     }
-    match lack_of(scene.rows, scene.entries, client, region, right) {
+    match lack_in(scene, client, region, right) {
         Some(lack) => tell_lack(out, scene, &lack, ", and needs it before the launch"),
         None => {
             begin(out, scene)?;
@@ -419,7 +444,7 @@ fn tell_all_wanted(
     launch: &Launch<'_>,
     region: Object,
 ) -> Result<(), AllocError> {
-    if launch.rule == Rule::A3 || launch.region != Some(region) {
+    if launch.rule == Rule::A3 {
         return Ok(());
     }
     let (reads, writes) = wanted(launch.reach);
@@ -432,13 +457,14 @@ fn tell_all_wanted(
     Ok(())
 }
 
-// Where an argument points.
+// Where an argument points, and unless that was told of another, what the access wants there.
 fn tell_pointer(
     out: &mut String,
     scene: &Scene<'_>,
     launch: &Launch<'_>,
     offset: u32,
     address: u64,
+    told: &mut bool,
 ) -> Result<(), AllocError> {
     begin(out, scene)?;
     write!(out, "the argument at byte {offset} of its block is ")?;
@@ -449,7 +475,11 @@ fn tell_pointer(
     out.push_str(", in ")?;
     put_object(out, scene.policy, region)?;
     out.push_str("; ")?;
-    put_held(out, scene, &launch.opening, launch.before, region)?;
+    put_held(out, scene, launch, region)?;
+    if launch.region != Some(region) || *told {
+        return Ok(());
+    }
+    *told = true;
     tell_all_wanted(out, scene, launch, region)
 }
 
@@ -500,8 +530,10 @@ fn tell_pointers(
             "the kernel has no argument of 64 bits: its packet holds no right on a region",
         );
     }
+    let mut told = false;
     for offset in shape.wide.as_slice() {
-        tell_pointer(out, scene, launch, *offset, argument(block, *offset))?;
+        let address = argument(block, *offset);
+        tell_pointer(out, scene, launch, *offset, address, &mut told)?;
     }
     tell_unpointed(out, scene, launch)
 }
@@ -534,23 +566,20 @@ fn tell_block(
     }
 }
 
-// Why a kernel dispatch failed, by its kernel's arguments.
-fn tell_shape(
+// A packet's argument block, as it was at its launch.
+fn block_of(
     alloc: Global,
-    out: &mut String,
-    scene: &Scene<'_>,
     dispatch: &KernelDispatch,
-    place: FaultPlace,
     launch: &Launch<'_>,
     shape: &Shape,
-) -> Result<(), AllocError> {
-    let block = memory(
-        alloc,
-        launch.before,
-        dispatch.kernarg_address,
-        shape.arguments,
-    )?;
-    tell_block(out, scene, dispatch, place, launch, shape, block.as_slice())
+) -> Result<Vec<u8>, AllocError> {
+    match launch.flown {
+        Flown::Since(before) => {
+            let first = dispatch.kernarg_address;
+            memory(alloc, launch.start, before, first, shape.arguments)
+        }
+        Flown::Before(packet) => Vec::from_slice(alloc, packet.arguments.as_slice()),
+    }
 }
 
 // Why a kernel dispatch failed.
@@ -559,31 +588,49 @@ fn tell_dispatch(
     out: &mut String,
     scene: &Scene<'_>,
     error: &QueueError,
-    found: &HandedOver,
+    flown: Flown<'_>,
     dispatch: &KernelDispatch,
 ) -> Result<(), AllocError> {
     let Some(place) = error.place else {
         return Ok(());
     };
-    let Some(opening) = owner(alloc, scene.entries, error.queue)? else {
+    let Some(opening) = owner_in(alloc, scene, error.queue)? else {
         return Ok(());
     };
-    let before = scene
-        .entries
-        .split_at(found.before.min(scene.entries.len()))
-        .0;
     let launch = Launch {
         opening,
-        before,
+        start: scene.start,
+        flown,
         rule: error.rule,
         reach: reach_at(alloc, scene, dispatch, place),
         region: region_of(scene, place.address),
         is_pointed: false,
     };
     match shape_of(alloc, scene.policy, dispatch.kernel_object)? {
-        Some(shape) => tell_shape(alloc, out, scene, dispatch, place, &launch, &shape),
+        Some(shape) => {
+            let block = block_of(alloc, dispatch, &launch, &shape)?;
+            tell_block(
+                out,
+                scene,
+                dispatch,
+                place,
+                &launch,
+                &shape,
+                block.as_slice(),
+            )
+        }
         None => Ok(()),
     }
+}
+
+// The packet of an error that was in flight, and since when it was.
+fn flown_of<'a>(scene: &Scene<'a>, error: &QueueError) -> Option<(Packet, Flown<'a>)> {
+    let Some((found, before)) = handed_over(scene.entries, error.queue, error.packet) else {
+        let packet = first_flying(scene.start, error.queue, error.packet)?;
+        return Some((packet.flying.packet, Flown::Before(packet)));
+    };
+    let packet = decode(&found.bytes).ok()?;
+    Some((packet, Flown::Since(before)))
 }
 
 /// Why a packet failed at its work.
@@ -593,11 +640,10 @@ pub fn tell_fault(
     scene: &Scene<'_>,
     error: &QueueError,
 ) -> Result<(), AllocError> {
-    let Some(found) = handed_over(scene.entries, error.queue, error.packet) else {
-        return Ok(());
-    };
-    match decode(&found.bytes) {
-        Ok(Packet::Kernel(dispatch)) => tell_dispatch(alloc, out, scene, error, &found, &dispatch),
+    match flown_of(scene, error) {
+        Some((Packet::Kernel(dispatch), flown)) => {
+            tell_dispatch(alloc, out, scene, error, flown, &dispatch)
+        }
         _ => Ok(()),
     }
 }
@@ -624,16 +670,13 @@ pub fn tell_failed(
     scene: &Scene<'_>,
     error: &QueueError,
 ) -> Result<(), AllocError> {
-    let Some(found) = handed_over(scene.entries, error.queue, error.packet) else {
+    let Some((packet, _)) = flown_of(scene, error) else {
         return Ok(());
     };
-    let Ok(packet) = decode(&found.bytes) else {
-        return Ok(());
-    };
-    let seen = how_far(scene.entries, error.queue, error.packet).seen;
+    let Satisfied(seen) = how_far(scene, error.queue, error.packet).satisfied;
     let signals = dependencies(&packet);
     for (signal, was_seen) in signals.iter().zip(seen.iter()) {
-        if let Some(value) = signal_value(scene.policy, scene.entries, *signal) {
+        if let Some(value) = signal_value(scene, *signal) {
             if value < 0 && !*was_seen {
                 tell_negative(out, scene, *signal, value)?;
             }

@@ -7,7 +7,7 @@ ghost use Rattle.policy.specs.Pairs.{is_one_of};
 ghost use Rattle.explain.specs.Lacks.{in_force_since, lack_of, lack_of_need, lacked};
 
 use aql_packet::ClientId;
-use core_model::{Call, Entry, Event, Need, Subject};
+use core_model::{Call, Entry, Event, Need, Origin, Subject};
 use policy::{Object, PolicyRows, Right, Rights};
 use regions::region_of;
 
@@ -66,20 +66,26 @@ fn in_force_after(
     }
 }
 
-/// Whether a client's right on an object is in force, by the entries since a core was opened: it was granted, and no
-/// later revocation or reload took it.
-pub fn is_in_force(entries: &[Entry], client: ClientId, object: Object, right: Right) -> bool
-    ensures { result ≡ in_force_since entries.now client object right }
+/// Whether a client's right on an object is in force, by what a history begins from and its entries: it was in force
+/// there or was granted since, and no later revocation or reload took it.
+pub fn is_in_force(
+    start: &Origin,
+    entries: &[Entry],
+    client: ClientId,
+    object: Object,
+    right: Right,
+) -> bool
+    ensures { result ≡ in_force_since start.now entries.now client object right }
 {
-    let mut held = false;
+    let mut held = start.grants.is_in_force(client, object, right);
     'entries: for entry in entries {
         held = in_force_after(client, object, right, held, &entry.event);
     }
     held
 }
 
-// A right on an object as one that a client lacks.
-fn lacked(rows: &PolicyRows, client: ClientId, object: Object, right: Right) -> Lack
+/// A right on an object as one that a client lacks.
+pub fn lacked(rows: &PolicyRows, client: ClientId, object: Object, right: Right) -> Lack
     ensures { result ≡ lacked rows.now client object right }
 {
     Lack {
@@ -93,14 +99,15 @@ fn lacked(rows: &PolicyRows, client: ClientId, object: Object, right: Right) -> 
 /// The right on an object that a client lacks, if it isn't in force.
 pub fn lack_of(
     rows: &PolicyRows,
+    start: &Origin,
     entries: &[Entry],
     client: ClientId,
     object: Object,
     right: Right,
 ) -> Option<Lack>
-    ensures { result ≡ lack_of rows.now entries.now client object right }
+    ensures { result ≡ lack_of rows.now start.now entries.now client object right }
 {
-    if is_in_force(entries, client, object, right) {
+    if is_in_force(start, entries, client, object, right) {
         None
     } else {
         Some(lacked(rows, client, object, right))
@@ -120,11 +127,19 @@ pub(crate) fn object_of(subject: &Subject) -> Object
 /// The right that a client lacks of what its packet needs, if it isn't in force.
 pub fn lack_of_need(
     rows: &PolicyRows,
+    start: &Origin,
     entries: &[Entry],
     client: ClientId,
     need: &Need,
 ) -> Option<Lack>
-    ensures { result ≡ lack_of_need rows.now entries.now client need.now }
+    ensures { result ≡ lack_of_need rows.now start.now entries.now client need.now }
 {
-    lack_of(rows, entries, client, object_of(&need.subject), need.right)
+    lack_of(
+        rows,
+        start,
+        entries,
+        client,
+        object_of(&need.subject),
+        need.right,
+    )
 }

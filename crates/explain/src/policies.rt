@@ -1,48 +1,33 @@
-//! What is wrong with a policy's file, or with a kernel of it.
+//! What is wrong with a policy's file.
 
 use crate::kernel_texts::line_of;
 use crate::keys::{Key, PARTS, is_right_value, keys_of, put_value, wanted};
-use crate::positions::{Found, NOWHERE, Position, begin, find, position_at, small};
+use crate::positions::{File, Place, Position, begin, position_at, small};
 use crate::texts::put_word;
-use aql_packet::KernelObject;
-use kernel_listing::{Listing, list};
 use policy::{
     MOST_AGENTS, MOST_ALLOW_ROWS, MOST_CLIENTS, MOST_DENY_ROWS, MOST_KERNELS, MOST_MEMORY_BYTES,
-    MOST_POLICY_BYTES, MOST_SIGNALS, Object, Policy, PolicyCause, PolicyFault, Section,
+    MOST_POLICY_BYTES, MOST_SIGNALS, PolicyCause, PolicyFault, Section,
 };
 use std::alloc::{AllocError, Global};
 use toml::{Table, Value};
 
-// The place of the n-th byte, for the beginning of a line.
-fn at(text: &[u8], before: usize) -> Found {
-    Found {
-        row: None,
-        value: Some(position_at(text, before)),
-    }
-}
-
 // A text that is no TOML.
-fn tell_no_toml(
-    alloc: Global,
-    out: &mut String,
-    file: &str,
-    text: &[u8],
-) -> Result<(), AllocError> {
-    let Ok(letters) = std::str::from_utf8(text) else {
-        begin(out, file, &NOWHERE)?;
+fn tell_no_toml(out: &mut String, file: File<'_>) -> Result<(), AllocError> {
+    let Ok(letters) = std::str::from_utf8(file.text) else {
+        begin(out, file.name, Place::Unknown)?;
         return out.push_str("the file isn't text in UTF-8\n");
     };
-    let Err(error) = toml::table_from_str(alloc, letters) else {
+    let Err(error) = toml::table_from_str(file.alloc, letters) else {
         return Ok(());
     };
     let Some(span) = error.span() else {
         return Ok(());
     };
-    let place = position_at(text, span.start);
+    let place = position_at(file.text, span.start);
     let message = error.message();
-    begin(out, file, &at(text, span.start))?;
+    begin(out, file.name, Place::At(place))?;
     writeln!(out, "{message}")?;
-    put_marked_at(out, line_of(text, place.line), place)
+    put_marked_at(out, line_of(file.text, place.line), place)
 }
 
 // A line of a file, and a mark at a column of it.
@@ -102,8 +87,7 @@ fn knows(keys: &[Key], name: &str) -> bool {
 // A key that a row has and its array doesn't know; false where there is none.
 fn tell_unknown_key(
     out: &mut String,
-    file: &str,
-    text: &[u8],
+    file: File<'_>,
     fault: &PolicyFault,
     section: Section,
     row: &Table,
@@ -112,7 +96,7 @@ fn tell_unknown_key(
     for name in row.keys() {
         if !knows(keys, name.as_str()) {
             let array = section.name();
-            begin(out, file, &find(text, array, fault.row, name.as_str()))?;
+            file.begin(out, array, fault.row, name.as_str())?;
             out.push_str("the key ")?;
             put_word(out, name.as_bytes())?;
             write!(out, " is none that a row of `{array}` has; it has ")?;
@@ -127,8 +111,7 @@ fn tell_unknown_key(
 // The first key of a row whose value isn't right.
 fn tell_value(
     out: &mut String,
-    file: &str,
-    text: &[u8],
+    file: File<'_>,
     fault: &PolicyFault,
     section: Section,
     row: &Table,
@@ -139,7 +122,7 @@ fn tell_value(
                 let name = key.name;
                 let array = section.name();
                 let wanted = wanted(key.part);
-                begin(out, file, &find(text, array, fault.row, name))?;
+                file.begin(out, array, fault.row, name)?;
                 write!(out, "`{name}` is ")?;
                 put_value(out, value)?;
                 writeln!(out, ", and there may stand {wanted}")?;
@@ -153,8 +136,7 @@ fn tell_value(
 // The first key that a row lacks.
 fn tell_missing(
     out: &mut String,
-    file: &str,
-    text: &[u8],
+    file: File<'_>,
     fault: &PolicyFault,
     section: Section,
     row: &Table,
@@ -164,7 +146,7 @@ fn tell_missing(
             let name = key.name;
             let array = section.name();
             let wanted = wanted(key.part);
-            begin(out, file, &find(text, array, fault.row, name))?;
+            file.begin(out, array, fault.row, name)?;
             return writeln!(out, "the row has no `{name}`: {wanted}");
         }
     }
@@ -195,8 +177,7 @@ fn row_named(rows: &[Value], name: &str) -> Option<u32> {
 // A name that an earlier row of the array has.
 fn tell_double(
     out: &mut String,
-    file: &str,
-    text: &[u8],
+    file: File<'_>,
     fault: &PolicyFault,
     section: Section,
     table: &Table,
@@ -210,7 +191,7 @@ fn tell_double(
     };
     let array = section.name();
     let first = row_named(rows(table, section), name).unwrap_or(0);
-    begin(out, file, &find(text, array, fault.row, "name"))?;
+    file.begin(out, array, fault.row, "name")?;
     writeln!(
         out,
         "row {first} of `{array}` has the name `{name}` already"
@@ -249,8 +230,7 @@ fn put_names(out: &mut String, rows: &[Value]) -> Result<(), AllocError> {
 // A name at a key that no row of an array has; false where one has it.
 fn tell_unknown_at(
     out: &mut String,
-    file: &str,
-    text: &[u8],
+    file: File<'_>,
     fault: &PolicyFault,
     table: &Table,
     row: &Table,
@@ -271,7 +251,7 @@ fn tell_unknown_at(
         None => "",
     };
     let of_name = of.name();
-    begin(out, file, &find(text, array, fault.row, key))?;
+    file.begin(out, array, fault.row, key)?;
     write!(
         out,
         "no row of `{of_name}` has the name `{name}`; they have "
@@ -284,22 +264,12 @@ fn tell_unknown_at(
 // A client or an object that isn't declared.
 fn tell_unknown(
     out: &mut String,
-    file: &str,
-    text: &[u8],
+    file: File<'_>,
     fault: &PolicyFault,
     table: &Table,
     row: &Table,
 ) -> Result<(), AllocError> {
-    if tell_unknown_at(
-        out,
-        file,
-        text,
-        fault,
-        table,
-        row,
-        "client",
-        Section::Client,
-    )? {
+    if tell_unknown_at(out, file, fault, table, row, "client", Section::Client)? {
         return Ok(());
     }
     let Some(kind) = row.get("kind") else {
@@ -309,7 +279,7 @@ fn tell_unknown(
         return Ok(());
     };
     if let Some(of) = array_of(kind) {
-        tell_unknown_at(out, file, text, fault, table, row, "object", of)?;
+        tell_unknown_at(out, file, fault, table, row, "object", of)?;
     }
     Ok(())
 }
@@ -317,31 +287,30 @@ fn tell_unknown(
 // What is wrong with a row.
 fn tell_row(
     out: &mut String,
-    file: &str,
-    text: &[u8],
+    file: File<'_>,
     fault: &PolicyFault,
     section: Section,
     table: &Table,
 ) -> Result<(), AllocError> {
     let Some(row) = row(table, section, fault.row) else {
-        begin(out, file, &NOWHERE)?;
         let array = section.name();
+        file.begin(out, array, 1, array)?;
         return writeln!(
             out,
             "`{array}` has to be an array of rows, as `[[{array}]]`"
         );
     };
     match fault.cause {
-        PolicyCause::MissingKey => tell_missing(out, file, text, fault, section, row),
+        PolicyCause::MissingKey => tell_missing(out, file, fault, section, row),
         PolicyCause::BadValue => {
-            if tell_unknown_key(out, file, text, fault, section, row)? {
+            if tell_unknown_key(out, file, fault, section, row)? {
                 Ok(())
             } else {
-                tell_value(out, file, text, fault, section, row)
+                tell_value(out, file, fault, section, row)
             }
         }
-        PolicyCause::UnknownName => tell_unknown(out, file, text, fault, table, row),
-        PolicyCause::DoubleName => tell_double(out, file, text, fault, section, table, row),
+        PolicyCause::UnknownName => tell_unknown(out, file, fault, table, row),
+        PolicyCause::DoubleName => tell_double(out, file, fault, section, table, row),
         _ => Ok(()),
     }
 }
@@ -362,14 +331,14 @@ fn most_rows(section: Section) -> usize {
 // What is over a limit in an array as a whole.
 fn tell_limit(
     out: &mut String,
-    file: &str,
+    file: File<'_>,
     section: Section,
     table: &Table,
 ) -> Result<(), AllocError> {
     let array = section.name();
     let has = rows(table, section).len();
     let most = most_rows(section);
-    begin(out, file, &NOWHERE)?;
+    begin(out, file.name, Place::Unknown)?;
     if has > most {
         return writeln!(
             out,
@@ -383,10 +352,10 @@ fn tell_limit(
 }
 
 // The first key of a file before all tables that isn't right.
-fn tell_head(out: &mut String, file: &str, text: &[u8], table: &Table) -> Result<(), AllocError> {
+fn tell_head(out: &mut String, file: File<'_>, table: &Table) -> Result<(), AllocError> {
     if let Some(version) = table.get("version") {
         if version.as_integer() != Some(1) && version.as_integer() != Some(2) {
-            begin(out, file, &find(text, "", 0, "version"))?;
+            file.begin(out, "", 0, "version")?;
             out.push_str("`version` is ")?;
             put_value(out, version)?;
             return out.push_str(", and there may stand 1, or 2 where the policy has deny rows\n");
@@ -394,7 +363,7 @@ fn tell_head(out: &mut String, file: &str, text: &[u8], table: &Table) -> Result
     }
     for name in table.keys() {
         if !knows(&PARTS, name.as_str()) {
-            begin(out, file, &find(text, name.as_str(), 1, name.as_str()))?;
+            file.begin(out, name.as_str(), 1, name.as_str())?;
             out.push_str("the key ")?;
             put_word(out, name.as_bytes())?;
             out.push_str(" is none that a policy has; it has ")?;
@@ -402,24 +371,23 @@ fn tell_head(out: &mut String, file: &str, text: &[u8], table: &Table) -> Result
             return out.push_str("\n");
         }
     }
-    begin(out, file, &find(text, "deny", 1, "deny"))?;
+    file.begin(out, "deny", 1, "deny")?;
     out.push_str("deny rows want `version = 2` in the first line\n")
 }
 
 // What is wrong with a file that is TOML.
 fn tell_table(
     out: &mut String,
-    file: &str,
-    text: &[u8],
+    file: File<'_>,
     fault: &PolicyFault,
     table: &Table,
 ) -> Result<(), AllocError> {
     match fault.kind {
-        None => tell_head(out, file, text, table),
+        None => tell_head(out, file, table),
         Some(section) if fault.cause == PolicyCause::TooMany => {
             tell_limit(out, file, section, table)
         }
-        Some(section) => tell_row(out, file, text, fault, section, table),
+        Some(section) => tell_row(out, file, fault, section, table),
     }
 }
 
@@ -432,73 +400,24 @@ pub fn policy_fault(
 ) -> Result<String, AllocError> {
     let mut out = String::new(alloc);
     if text.len() > MOST_POLICY_BYTES {
-        begin(&mut out, file, &NOWHERE)?;
+        begin(&mut out, file, Place::Unknown)?;
         writeln!(out, "the file has over {MOST_POLICY_BYTES} bytes, the most")?;
         return Ok(out);
     }
+    let file = File {
+        alloc,
+        name: file,
+        text,
+    };
     if fault.cause == PolicyCause::NotToml {
-        tell_no_toml(alloc, &mut out, file, text)?;
+        tell_no_toml(&mut out, file)?;
         return Ok(out);
     }
     let Ok(letters) = std::str::from_utf8(text) else {
         return Ok(out);
     };
     if let Ok(table) = toml::table_from_str(alloc, letters) {
-        tell_table(&mut out, file, text, fault, &table)?;
+        tell_table(&mut out, file, fault, &table)?;
     }
-    Ok(out)
-}
-
-// Puts the name of a kernel, and where it stands in its file, behind a text.
-fn begin_kernel(
-    out: &mut String,
-    file: &str,
-    text: &[u8],
-    policy: &Policy,
-    kernel: u32,
-    key: &str,
-) -> Result<(), AllocError> {
-    begin(out, file, &find(text, "kernel", kernel, key))?;
-    match policy.object_name(Object::Kernel(KernelObject(kernel as u64))) {
-        Some(name) => write!(out, "kernel {name}"),
-        None => write!(out, "kernel {kernel}"),
-    }
-}
-
-/// What is wrong with the text of a policy's kernel: its name, and the line of the text with a mark.
-pub fn kernel_fault(
-    alloc: Global,
-    file: &str,
-    text: &[u8],
-    policy: &Policy,
-    kernel: u32,
-) -> Result<String, AllocError> {
-    let mut out = String::new(alloc);
-    let Some(source) = policy.kernel_source(KernelObject(kernel as u64)) else {
-        return Ok(out);
-    };
-    begin_kernel(&mut out, file, text, policy, kernel, "text")?;
-    out.push_str(", in its text:\n")?;
-    if let Listing::Fault(told) = list(alloc, source.text().as_bytes())? {
-        out.push_str(told.as_str())?;
-    }
-    Ok(out)
-}
-
-/// That a kernel's text has none of its entry's name.
-pub fn no_entry(
-    alloc: Global,
-    file: &str,
-    text: &[u8],
-    policy: &Policy,
-    kernel: u32,
-) -> Result<String, AllocError> {
-    let mut out = String::new(alloc);
-    begin_kernel(&mut out, file, text, policy, kernel, "entry")?;
-    out.push_str(": its text has no kernel ")?;
-    if let Some(source) = policy.kernel_source(KernelObject(kernel as u64)) {
-        put_word(&mut out, source.entry().as_bytes())?;
-    }
-    out.push_str("\n")?;
     Ok(out)
 }

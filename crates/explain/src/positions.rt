@@ -1,27 +1,22 @@
-//! Where the rows and keys of a policy stand in its file.
+//! Where the rows and keys of a policy stand in its file, which is TOML.
 
-use std::alloc::AllocError;
+use std::alloc::{AllocError, Global};
+use toml_parser::text::{skip_blank, skip_ws};
+use toml_parser::{ParseError, dotted_key, quoted, starts_string};
 
-/// A place in a file: a line and a column, both from 1.
+/// A line and a column of a text, both from 1; a column counts bytes.
 #[derive(Clone, Copy, Debug, PartialEq, Eq)]
 pub struct Position {
     pub line: u32,
     pub column: u32,
 }
 
-/// Where a row begins, and where a value stands in it, as far as they are found.
+/// A place in a file, as far as it is known.
 #[derive(Clone, Copy, Debug, PartialEq, Eq)]
-pub struct Found {
-    pub row: Option<u32>,
-    pub value: Option<Position>,
-}
-
-/// In which string of several lines a line begins.
-#[derive(Clone, Copy, Debug, PartialEq, Eq)]
-enum Inside {
-    None,
-    Literal,
-    Basic,
+pub enum Place {
+    Unknown,
+    Line(u32),
+    At(Position),
 }
 
 /// A number of 32 bits, the greatest where it is greater.
@@ -33,102 +28,170 @@ pub fn small(number: usize) -> u32 {
     }
 }
 
-// How many bytes stand before the first line feed.
-fn line_length(text: &[u8]) -> usize {
-    for (index, byte) in text.iter().enumerate() {
-        if *byte == b'\n' {
-            return index;
+// Whether a key stands next that is this one, without dots, and what stands behind it; none where no key stands there.
+fn key_next<'a>(
+    alloc: Global,
+    text: &'a str,
+    name: &str,
+) -> Result<Option<(bool, &'a str)>, AllocError> {
+    match dotted_key(alloc, text) {
+        Ok((key, behind)) => {
+            let is_named = key.path.is_empty() && key.last.as_str() == name;
+            Ok(Some((is_named, behind)))
         }
-    }
-    text.len()
-}
-
-// In which string the line behind a line begins.
-fn behind(inside: Inside, line: &[u8]) -> Inside {
-    let mut inside = inside;
-    let mut quotes = 0u32;
-    let mut last = 0u8;
-    for byte in line {
-        if *byte == last && (*byte == b'\'' || *byte == b'"') {
-            quotes = quotes.saturating_add(1);
-        } else {
-            quotes = 1;
-        }
-        last = *byte;
-        if quotes == 3 {
-            inside = turned(inside, *byte);
-            quotes = 0;
-            last = 0;
-        }
-    }
-    inside
-}
-
-// In which string one stands behind three quotes.
-fn turned(inside: Inside, quote: u8) -> Inside {
-    match (inside, quote) {
-        (Inside::None, b'\'') => Inside::Literal,
-        (Inside::None, b'"') => Inside::Basic,
-        (Inside::Literal, b'\'') => Inside::None,
-        (Inside::Basic, b'"') => Inside::None,
-        _ => inside,
+        Err(ParseError::OutOfMemory) => Err(AllocError),
+        Err(_) => Ok(None),
     }
 }
 
-// How many blanks a line begins with.
-fn blanks(line: &[u8]) -> usize {
-    for (index, byte) in line.iter().enumerate() {
-        if *byte != b' ' && *byte != b'\t' {
-            return index;
-        }
-    }
-    line.len()
-}
-
-// What stands behind a word that a text begins with.
-fn behind_word<'a>(text: &'a [u8], word: &[u8]) -> Option<&'a [u8]> {
-    if text.len() < word.len() {
-        return None;
-    }
-    let (front, rest) = text.split_at(word.len());
-    if front == word { Some(rest) } else { None }
-}
-
-// Whether a line begins a row of an array.
-fn begins_row(line: &[u8], array: &str) -> bool {
-    let text = line.split_at(blanks(line).min(line.len())).1;
-    let Some(rest) = behind_word(text, b"[[".as_slice()) else {
-        return false;
+// Whether a key of this name stands next, and its value.
+fn pair_next<'a>(
+    alloc: Global,
+    text: &'a str,
+    name: &str,
+) -> Result<Option<(bool, &'a str)>, AllocError> {
+    let Some((is_named, behind)) = key_next(alloc, text, name)? else {
+        return Ok(None);
     };
-    let name = rest.split_at(blanks(rest).min(rest.len())).1;
-    let Some(end) = behind_word(name, array.as_bytes()) else {
-        return false;
+    match behind.strip_prefix("=") {
+        Some(value) => Ok(Some((is_named, skip_ws(value)))),
+        None => Ok(None),
+    }
+}
+
+// Whether a table's header of this name stands next, and what stands behind it.
+fn header_next<'a>(
+    alloc: Global,
+    text: &'a str,
+    name: &str,
+) -> Result<Option<(bool, &'a str)>, AllocError> {
+    let (inside, close) = match text.strip_prefix("[[") {
+        Some(inside) => (inside, "]]"),
+        None => (text.strip_prefix("[").unwrap_or(text), "]"),
     };
-    let close = end.split_at(blanks(end).min(end.len())).1;
-    behind_word(close, b"]]".as_slice()).is_some()
+    let Some((is_named, behind)) = key_next(alloc, skip_ws(inside), name)? else {
+        return Ok(None);
+    };
+    match behind.strip_prefix(close) {
+        Some(behind) => Ok(Some((is_named, behind))),
+        None => Ok(None),
+    }
 }
 
-// Whether a line begins a table or a row of any array.
-fn begins_table(line: &[u8]) -> bool {
-    let text = line.split_at(blanks(line).min(line.len())).1;
-    behind_word(text, b"[".as_slice()).is_some()
+// What stands behind a string.
+fn behind_string<'a>(alloc: Global, text: &'a str) -> Result<Option<&'a str>, AllocError> {
+    if !starts_string(text) {
+        return Ok(None);
+    }
+    match quoted(alloc, text) {
+        Ok((_, behind)) => Ok(Some(behind)),
+        Err(ParseError::OutOfMemory) => Err(AllocError),
+        Err(_) => Ok(None),
+    }
 }
 
-// The column at which the value of a key stands in a line that begins with the key.
-fn column_of(line: &[u8], key: &str) -> Option<u32> {
-    let before = blanks(line);
-    let text = line.split_at(before.min(line.len())).1;
-    let rest = behind_word(text, key.as_bytes())?;
-    let equals = blanks(rest);
-    let value = behind_word(rest.split_at(equals.min(rest.len())).1, b"=".as_slice())?;
-    let column = line
-        .len()
-        .saturating_sub(value.len())
-        .saturating_add(blanks(value));
-    Some(small(column).saturating_add(1))
+// What stands behind a string, or behind one letter of ASCII.
+fn behind_piece<'a>(alloc: Global, text: &'a str) -> Result<Option<&'a str>, AllocError> {
+    if starts_string(text) {
+        return behind_string(alloc, text);
+    }
+    match text.split_at_checked(1) {
+        Some((_, behind)) => Ok(Some(behind)),
+        None => Ok(None),
+    }
 }
 
-/// A row that is looked for: its array, its number, and one of its keys.
+// In how many brackets one stands behind what stands next.
+fn depth_behind(depth: usize, text: &str) -> usize {
+    match text.as_bytes() {
+        [b'[' | b'{', ..] => depth.saturating_add(1),
+        [b']' | b'}', ..] => depth.saturating_sub(1),
+        _ => depth,
+    }
+}
+
+// Whether what stands next ends a value that is in no brackets of its own.
+fn ends_value(text: &str) -> bool {
+    matches!(
+        text.as_bytes(),
+        [] | [b',' | b']' | b'}' | b'#' | b'\r' | b'\n', ..]
+    )
+}
+
+// What stands behind blanks: within brackets, behind ends of lines and remarks too.
+fn behind_blanks(text: &str, depth: usize) -> &str {
+    if depth > 0 {
+        skip_blank(text, true)
+    } else {
+        skip_ws(text)
+    }
+}
+
+// What stands behind a value; none where it doesn't end.
+fn behind_value<'a>(alloc: Global, value: &'a str) -> Result<Option<&'a str>, AllocError> {
+    let mut rest = value;
+    let mut depth = 0;
+    for _ in 0..value.len() {
+        rest = behind_blanks(rest, depth);
+        if depth == 0 && ends_value(rest) {
+            return Ok(Some(rest));
+        }
+        depth = depth_behind(depth, rest);
+        let Some(behind) = behind_piece(alloc, rest)? else {
+            return Ok(None);
+        };
+        rest = behind;
+    }
+    Ok(Some(rest))
+}
+
+// What stands behind a value and a comma; none where no comma stands there.
+fn behind_comma<'a>(alloc: Global, value: &'a str) -> Result<Option<&'a str>, AllocError> {
+    match behind_value(alloc, value)? {
+        Some(behind) => Ok(skip_blank(behind, true).strip_prefix(",")),
+        None => Ok(None),
+    }
+}
+
+// The item of a number, from 1, of an array in brackets, if it is a table.
+fn item_of<'a>(alloc: Global, array: &'a str, number: u32) -> Result<Option<&'a str>, AllocError> {
+    let Some(first) = array.strip_prefix("[") else {
+        return Ok(None);
+    };
+    let mut rest = first;
+    for _ in 1..number {
+        let Some(behind) = behind_comma(alloc, skip_blank(rest, true))? else {
+            return Ok(None);
+        };
+        rest = behind;
+    }
+    let item = skip_blank(rest, true);
+    Ok(if item.starts_with("{") {
+        Some(item)
+    } else {
+        None
+    })
+}
+
+// The value of a key of a table in brackets.
+fn value_in<'a>(alloc: Global, table: &'a str, key: &str) -> Result<Option<&'a str>, AllocError> {
+    let mut rest = table.strip_prefix("{").unwrap_or(table);
+    for _ in 0..table.len() {
+        let Some((is_key, value)) = pair_next(alloc, skip_blank(rest, true), key)? else {
+            return Ok(None);
+        };
+        if is_key {
+            return Ok(Some(value));
+        }
+        let Some(behind) = behind_comma(alloc, value)? else {
+            return Ok(None);
+        };
+        rest = behind;
+    }
+    Ok(None)
+}
+
+/// What is looked for in a file: a key of the row of a number, from 1, of an array; in row 0 a key before all tables.
 #[derive(Clone, Copy)]
 struct Wanted<'a> {
     array: &'a str,
@@ -136,64 +199,226 @@ struct Wanted<'a> {
     key: &'a str,
 }
 
+/// What was found in a file, each as what stands there and behind it.
+#[derive(Clone, Copy)]
+pub struct Found<'a> {
+    text: &'a str,
+    row: Option<&'a str>,
+    // Whether the row stands in brackets, among others of its line.
+    is_in_brackets: bool,
+    /// The value of the key.
+    pub value: Option<&'a str>,
+}
+
+/// In which part of a file what stands next lies.
+#[derive(Clone, Copy, PartialEq, Eq)]
+enum Part {
+    /// Before all tables.
+    Head,
+    /// In the row that is looked for.
+    Row,
+    /// In another row or table.
+    Other,
+}
+
 /// How far a file was looked through.
 #[derive(Clone, Copy)]
-struct Looked {
-    found: Found,
-    // How many rows of the array there were, and whether the line stands in the one that is looked for.
+struct Looked<'a> {
+    found: Found<'a>,
+    rest: &'a str,
+    part: Part,
+    // How many rows of the array have begun.
     rows: u32,
-    is_in: bool,
 }
 
-// What is known behind a line of a file that begins in no string.
-fn looked_on(before: Looked, wanted: &Wanted<'_>, line: &[u8], number: u32) -> Looked {
-    let mut looked = before;
-    if begins_table(line) {
-        looked.is_in = false;
+// Looks on at a table's header.
+fn with_header<'a>(
+    alloc: Global,
+    looked: Looked<'a>,
+    wanted: &Wanted<'_>,
+) -> Result<Option<Looked<'a>>, AllocError> {
+    let Some((is_row, rest)) = header_next(alloc, looked.rest, wanted.array)? else {
+        return Ok(None);
+    };
+    let rows = if is_row {
+        looked.rows.saturating_add(1)
+    } else {
+        looked.rows
+    };
+    let mut found = looked.found;
+    let mut part = Part::Other;
+    if is_row && rows == wanted.row {
+        found.row = Some(looked.rest);
+        part = Part::Row;
     }
-    if begins_row(line, wanted.array) {
-        looked.rows = looked.rows.saturating_add(1);
-        if looked.rows == wanted.row {
-            looked.is_in = true;
-            looked.found.row = Some(number);
-        }
-    }
-    if let Some(column) = column_of(line, wanted.key) {
-        if looked.is_in && looked.found.value.is_none() {
-            looked.found.value = Some(Position {
-                line: number,
-                column,
-            });
-        }
-    }
-    looked
+    Ok(Some(Looked {
+        found,
+        rest,
+        part,
+        rows,
+    }))
 }
 
-/// Where the row of a number, from 1, of an array begins, and where the value of a key stands in it. With row 0: where
-/// the value of a key before all tables stands. Arrays that aren't written as `[[array]]` aren't found.
-pub fn find(text: &[u8], array: &str, row: u32, key: &str) -> Found {
+// What is found of an array whose value is this: its row and the row's key, or where it isn't one in brackets, the value.
+fn in_brackets<'a>(
+    alloc: Global,
+    text: &'a str,
+    value: &'a str,
+    wanted: &Wanted<'_>,
+) -> Result<Found<'a>, AllocError> {
+    let row = item_of(alloc, value, wanted.row)?;
+    let value = match row {
+        Some(row) => value_in(alloc, row, wanted.key)?,
+        None => Some(value),
+    };
+    Ok(Found {
+        text,
+        row,
+        is_in_brackets: true,
+        value,
+    })
+}
+
+// What is found at the value of the key that is looked for.
+fn found_at<'a>(
+    alloc: Global,
+    looked: Looked<'a>,
+    wanted: &Wanted<'_>,
+    value: &'a str,
+) -> Result<Found<'a>, AllocError> {
+    if looked.part == Part::Head && wanted.row > 0 {
+        return in_brackets(alloc, looked.found.text, value, wanted);
+    }
+    let mut found = looked.found;
+    found.value = Some(value);
+    Ok(found)
+}
+
+// Looks on at a key and its value.
+fn with_pair<'a>(
+    alloc: Global,
+    looked: Looked<'a>,
+    wanted: &Wanted<'_>,
+) -> Result<Option<Looked<'a>>, AllocError> {
+    let name = if looked.part == Part::Head && wanted.row > 0 {
+        wanted.array
+    } else {
+        wanted.key
+    };
+    let Some((is_named, value)) = pair_next(alloc, looked.rest, name)? else {
+        return Ok(None);
+    };
+    if is_named && looked.part != Part::Other {
+        let found = found_at(alloc, looked, wanted, value)?;
+        return Ok(Some(Looked {
+            found,
+            rest: "",
+            ..looked
+        }));
+    }
+    match behind_value(alloc, value)? {
+        Some(rest) => Ok(Some(Looked { rest, ..looked })),
+        None => Ok(None),
+    }
+}
+
+// Looks on behind blanks; none at the end, and where nothing is found any more.
+fn looked_on<'a>(
+    alloc: Global,
+    looked: Looked<'a>,
+    wanted: &Wanted<'_>,
+) -> Result<Option<Looked<'a>>, AllocError> {
+    let looked = Looked {
+        rest: skip_blank(looked.rest, true),
+        ..looked
+    };
+    if looked.rest.is_empty() {
+        return Ok(None);
+    }
+    if looked.rest.starts_with("[") {
+        with_header(alloc, looked, wanted)
+    } else {
+        with_pair(alloc, looked, wanted)
+    }
+}
+
+// Where the row of a number, from 1, of an array stands in a file, and the value of a key in it. With row 0: the value
+// of a key before all tables.
+fn find<'a>(
+    alloc: Global,
+    text: &'a [u8],
+    array: &str,
+    row: u32,
+    key: &str,
+) -> Result<Found<'a>, AllocError> {
+    let text = std::str::from_utf8(text).unwrap_or("");
     let wanted = Wanted { array, row, key };
     let mut looked = Looked {
-        found: NOWHERE,
+        found: Found {
+            text,
+            row: None,
+            is_in_brackets: false,
+            value: None,
+        },
+        rest: text,
+        part: Part::Head,
         rows: 0,
-        is_in: row == 0,
     };
-    let mut rest = text;
-    let mut inside = Inside::None;
-    let mut number = 0u32;
     for _ in 0..text.len() {
-        number = number.saturating_add(1);
-        let (line, further) = rest.split_at(line_length(rest).min(rest.len()));
-        if inside == Inside::None {
-            looked = looked_on(looked, &wanted, line, number);
-        }
-        inside = behind(inside, line);
-        rest = further.split_at(further.len().min(1)).1;
-        if rest.is_empty() {
-            return looked.found;
+        match looked_on(alloc, looked, &wanted)? {
+            Some(further) => looked = further,
+            None => return Ok(looked.found),
         }
     }
-    looked.found
+    Ok(looked.found)
+}
+
+impl Found<'_> {
+    /// The line and the column at which the last part of the file begins.
+    pub fn position_of(&self, rest: &str) -> Position {
+        position_of(self.text, rest)
+    }
+
+    /// Where it stands: the key's value, or else the row.
+    pub fn place(&self) -> Place {
+        match (self.value, self.row) {
+            (Some(value), _) => Place::At(position_of(self.text, value)),
+            (None, Some(row)) if self.is_in_brackets => Place::At(position_of(self.text, row)),
+            (None, Some(row)) => Place::Line(position_of(self.text, row).line),
+            (None, None) => Place::Unknown,
+        }
+    }
+}
+
+/// A file: what it is called, and its text.
+#[derive(Clone, Copy)]
+pub struct File<'a> {
+    pub alloc: Global,
+    pub name: &'a str,
+    pub text: &'a [u8],
+}
+
+impl<'a> File<'a> {
+    /// Where a key of a row of an array stands.
+    pub fn find(&self, array: &str, row: u32, key: &str) -> Result<Found<'a>, AllocError> {
+        find(self.alloc, self.text, array, row, key)
+    }
+
+    /// Begins a line of an explanation at such a place.
+    pub fn begin(
+        &self,
+        out: &mut String,
+        array: &str,
+        row: u32,
+        key: &str,
+    ) -> Result<(), AllocError> {
+        begin(out, self.name, self.find(array, row, key)?.place())
+    }
+}
+
+// The line and the column at which the last part of a text begins.
+fn position_of(text: &str, end: &str) -> Position {
+    position_at(text.as_bytes(), text.len().saturating_sub(end.len()))
 }
 
 /// The line and the column of a place in a text, so many bytes from its beginning.
@@ -212,21 +437,15 @@ pub fn position_at(text: &[u8], before: usize) -> Position {
 }
 
 /// Puts the beginning of an explanation behind a text: the file, and the place where it is known.
-pub fn begin(out: &mut String, file: &str, found: &Found) -> Result<(), AllocError> {
+pub fn begin(out: &mut String, file: &str, place: Place) -> Result<(), AllocError> {
     out.push_str(file)?;
-    match (found.value, found.row) {
-        (Some(at), _) => {
-            let line = at.line;
-            let column = at.column;
+    match place {
+        Place::At(position) => {
+            let line = position.line;
+            let column = position.column;
             write!(out, ", line {line}, column {column}: ")
         }
-        (None, Some(line)) => write!(out, ", line {line}: "),
-        (None, None) => out.push_str(": "),
+        Place::Line(line) => write!(out, ", line {line}: "),
+        Place::Unknown => out.push_str(": "),
     }
 }
-
-/// Nothing was found.
-pub const NOWHERE: Found = Found {
-    row: None,
-    value: None,
-};

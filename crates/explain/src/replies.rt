@@ -8,7 +8,7 @@ use crate::refusals::{tell_spent, tell_step};
 use crate::rings::{tell_busy, tell_empty, tell_waiting};
 use crate::scene::{Scene, begin};
 use aql_packet::{PacketId, QueueId};
-use core_model::{Answer, Entry, Outcome, Part, Polled, Taken, Worked};
+use core_model::{Answer, Outcome, Polled, Taken, Worked};
 use script::{LineAnswer, LineReply};
 use std::alloc::{AllocError, Global};
 use world::{Refusal, Sent, World};
@@ -147,55 +147,11 @@ fn tell(
     }
 }
 
-// Whether an answer of the world is one of which something is told by what was done before.
-fn looks_back(answer: &world::Answer) -> bool {
-    match answer {
-        world::Answer::Taken { taken, .. } => !matches!(taken, Taken::Launched),
-        world::Answer::Core(Answer::Outcome(outcome)) => matches!(
-            outcome,
-            Outcome::Worked(Worked::Faulted(_)) | Outcome::Polled(Polled::Failed(_))
-        ),
-        _ => false,
-    }
-}
-
-// Whether a reply is.
-fn wants_entries(reply: &LineReply) -> bool {
-    match reply {
-        Ok(LineAnswer::Answered { answer, .. }) => looks_back(answer),
-        Ok(LineAnswer::Empty | LineAnswer::Sent(Sent::Busy { .. })) => true,
-        Ok(_) => false,
-        Err(_) => true,
-    }
-}
-
-// Puts copies of entries behind others.
-fn put_entries(alloc: Global, all: &mut Vec<Entry>, entries: &[Entry]) -> Result<(), AllocError> {
-    for entry in entries {
-        all.push(entry.copy(alloc)?)?;
-    }
-    Ok(())
-}
-
-// The entries since the opening: those that were handed out, in order, and those of the audit.
-fn all_entries(
-    alloc: Global,
-    handed_out: &[Part],
-    audit: &[Entry],
-) -> Result<Vec<Entry>, AllocError> {
-    let mut all = Vec::new(alloc);
-    for part in handed_out {
-        put_entries(alloc, &mut all, part.entries())?;
-    }
-    put_entries(alloc, &mut all, audit)?;
-    Ok(all)
-}
-
-// What is told, by these entries since the opening.
-fn told_by(
+/// What is told beside the reply to a line of a script, the line of this number, by the world after it: why it was refused
+/// or denied, failed, waits or found nothing, in lines; no text where none of that happened.
+pub fn retold(
     alloc: Global,
     world: &World,
-    entries: &[Entry],
     line: u64,
     asked: Asked,
     reply: &LineReply,
@@ -204,29 +160,12 @@ fn told_by(
     let scene = Scene {
         policy: core.policy(),
         rows: core.rows(),
-        entries,
+        start: core.start(),
+        entries: core.audit(),
+        in_flight: core.table_sizes().argument_blocks,
         line,
     };
     let mut out = String::new(alloc);
     tell(alloc, &mut out, &scene, world, asked, reply)?;
     Ok(out)
-}
-
-/// What is told beside the reply to a line of a script, the line of this number, by the world after it and the parts of
-/// its history that were handed out, all of them in order: why it was refused or denied, failed, waits or found
-/// nothing, in lines; no text where none of that happened.
-pub fn retold(
-    alloc: Global,
-    world: &World,
-    handed_out: &[Part],
-    line: u64,
-    asked: Asked,
-    reply: &LineReply,
-) -> Result<String, AllocError> {
-    let audit = world.core().audit();
-    if handed_out.is_empty() || !wants_entries(reply) {
-        return told_by(alloc, world, audit, line, asked, reply);
-    }
-    let all = all_entries(alloc, handed_out, audit)?;
-    told_by(alloc, world, all.as_slice(), line, asked, reply)
 }

@@ -2,9 +2,9 @@
 
 use crate::scene::{Scene, begin, say};
 use crate::texts::put_object;
-use crate::work::{dependencies, flight, how_far, signal_value};
+use crate::work::{dependencies, flight, flying_of, how_far, signal_value};
 use aql_packet::{PacketId, QueueId};
-use core_model::{InFlight, WaitCause};
+use core_model::{InFlight, Satisfied, WaitCause};
 use packet_processor::is_barrier;
 use policy::Object;
 use ring_core::{Part, RingState};
@@ -109,7 +109,7 @@ fn tell_dependency(
     begin(out, scene)?;
     out.push_str("it waits for ")?;
     put_object(out, scene.policy, Object::Signal(signal))?;
-    match signal_value(scene.policy, scene.entries, signal) {
+    match signal_value(scene, signal) {
         Some(value) => writeln!(out, ", whose value is {value}"),
         None => out.push_str("\n"),
     }
@@ -121,9 +121,9 @@ pub fn tell_dependencies(
     scene: &Scene<'_>,
     flying: &InFlight,
 ) -> Result<(), AllocError> {
-    let come = how_far(scene.entries, flying.queue, flying.id);
+    let Satisfied(seen) = how_far(scene, flying.queue, flying.id).satisfied;
     let signals = dependencies(&flying.packet);
-    for (signal, seen) in signals.iter().zip(come.seen.iter()) {
+    for (signal, seen) in signals.iter().zip(seen.iter()) {
         if signal.0 != 0 && !*seen {
             tell_dependency(out, scene, *signal)?;
         }
@@ -149,6 +149,23 @@ fn tell_flying(out: &mut String, scene: &Scene<'_>, flying: &InFlight) -> Result
     )
 }
 
+// The packets of these for which a packet of a queue waits.
+fn tell_waited_for(
+    out: &mut String,
+    scene: &Scene<'_>,
+    queue: QueueId,
+    cause: WaitCause,
+    flight: &[InFlight],
+) -> Result<(), AllocError> {
+    for flying in flight {
+        let is_waited_for = cause != WaitCause::Barrier || is_barrier(&flying.packet);
+        if flying.queue == queue && is_waited_for {
+            tell_flying(out, scene, flying)?;
+        }
+    }
+    Ok(())
+}
+
 /// What a packet waits for.
 pub fn tell_waiting(
     alloc: Global,
@@ -169,13 +186,21 @@ pub fn tell_waiting(
                 "eight packets of its queue are in flight, the most: it waits for one",
         },
     )?;
-    for flying in flight(alloc, scene.entries)?.iter() {
-        let is_waited_for = cause != WaitCause::Barrier || is_barrier(&flying.packet);
-        if flying.queue == queue && is_waited_for {
-            tell_flying(out, scene, flying)?;
-        }
+    tell_waited_for(out, scene, queue, cause, flight(alloc, scene)?.as_slice())
+}
+
+// A packet in flight that holds a right, and what releases it.
+fn tell_held_by(out: &mut String, scene: &Scene<'_>, flying: &InFlight) -> Result<(), AllocError> {
+    tell_flying(out, scene, flying)?;
+    if !is_barrier(&flying.packet) {
+        return Ok(());
     }
-    Ok(())
+    let number = flying.queue.0;
+    begin(out, scene)?;
+    writeln!(
+        out,
+        "`stop {number}` releases the queue's barrier packets too"
+    )
 }
 
 /// The packet that holds a right, and what would release it.
@@ -191,18 +216,8 @@ pub fn tell_holder(
         scene,
         "a packet in flight holds a right that is to be taken; it is released once it is finished",
     )?;
-    for flying in flight(alloc, scene.entries)?.iter() {
-        if flying.queue == queue && flying.id == packet {
-            tell_flying(out, scene, flying)?;
-            if is_barrier(&flying.packet) {
-                let number = queue.0;
-                begin(out, scene)?;
-                writeln!(
-                    out,
-                    "`stop {number}` releases the queue's barrier packets too"
-                )?;
-            }
-        }
+    match flying_of(alloc, scene, queue, packet)? {
+        Some(flying) => tell_held_by(out, scene, &flying),
+        None => Ok(()),
     }
-    Ok(())
 }

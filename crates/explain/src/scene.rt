@@ -1,19 +1,22 @@
 //! What an explanation is told over: a policy, an audit, and the number of the script's line.
 
-use crate::lacks::Lack;
+use crate::lacks::{Lack, lack_of};
+use crate::owners::owner;
 use crate::texts::{put_client, put_grant, put_object};
-use aql_packet::{PacketId, QueueId};
-use core_model::{Entry, Event, Outcome, Taken};
-use policy::{Object, Policy, PolicyRows, Right};
-use std::alloc::AllocError;
+use aql_packet::{ClientId, PacketId, QueueId};
+use core_model::{Entry, Event, Opening, Origin, Outcome, Taken};
+use policy::{Kind, Object, Policy, PolicyRows, Right};
+use std::alloc::{AllocError, Global};
 
-/// A policy, the rows on rights that are in force, the entries since its core was opened, and the number of the line that
-/// is explained.
+/// A policy, the rows on rights that are in force, what the core's history begins from and the entries since, how many
+/// packets are in flight, and the number of the line that is explained.
 #[derive(Clone, Copy)]
 pub struct Scene<'a> {
     pub policy: &'a Policy,
     pub rows: &'a PolicyRows,
+    pub start: &'a Origin,
     pub entries: &'a [Entry],
+    pub in_flight: usize,
     pub line: u64,
 }
 
@@ -30,37 +33,72 @@ pub fn say(out: &mut String, scene: &Scene<'_>, text: &str) -> Result<(), AllocE
     out.push_str("\n")
 }
 
+/// The right on an object that a client lacks, if it isn't in force.
+pub fn lack_in(scene: &Scene<'_>, client: ClientId, object: Object, right: Right) -> Option<Lack> {
+    lack_of(
+        scene.rows,
+        scene.start,
+        scene.entries,
+        client,
+        object,
+        right,
+    )
+}
+
+/// Who opened a queue, and on which agent.
+pub fn owner_in(
+    alloc: Global,
+    scene: &Scene<'_>,
+    queue: QueueId,
+) -> Result<Option<Opening>, AllocError> {
+    owner(alloc, scene.start, scene.entries, queue)
+}
+
 /// The 64 bytes of a packet that was handed over, and what became of it.
 #[derive(Clone, Copy)]
 pub struct HandedOver {
     pub bytes: [u8; 64],
     pub taken: Taken,
-    /// How many entries came before its own.
-    pub before: usize,
 }
 
-/// The packet of a queue and an id that was handed over last, if one was.
-pub fn handed_over(entries: &[Entry], queue: QueueId, packet: PacketId) -> Option<HandedOver> {
-    let mut found = None;
-    for (index, entry) in entries.iter().enumerate() {
-        if let Event::Take {
-            queue: of,
-            packet: id,
-            bytes,
-        } = &entry.event
-        {
-            if *of == queue && *id == packet {
-                if let Outcome::Taken(taken) = entry.outcome {
-                    found = Some(HandedOver {
-                        bytes: *bytes,
-                        taken,
-                        before: index,
-                    });
-                }
-            }
+// What an entry hands over of a queue and an id, if it does.
+fn handed_over_by(entry: &Entry, queue: QueueId, packet: PacketId) -> Option<HandedOver> {
+    let Event::Take {
+        queue: of,
+        packet: id,
+        bytes,
+    } = &entry.event
+    else {
+        return None;
+    };
+    match entry.outcome {
+        Outcome::Taken(taken) if *of == queue && *id == packet => Some(HandedOver {
+            bytes: *bytes,
+            taken,
+        }),
+        _ => None,
+    }
+}
+
+// What the first of these entries hands over of a queue and an id, if it does.
+fn first_handed_over(entries: &[Entry], queue: QueueId, packet: PacketId) -> Option<HandedOver> {
+    handed_over_by(entries.first()?, queue, packet)
+}
+
+/// The packet of a queue and an id that these entries hand over, if they do, and those of them before it. The last entry
+/// is looked at first.
+pub fn handed_over(
+    entries: &[Entry],
+    queue: QueueId,
+    packet: PacketId,
+) -> Option<(HandedOver, &[Entry])> {
+    for place in (0..entries.len()).rev() {
+        let (before, rest) = entries.split_at(place.min(entries.len()));
+        if let Some(found) = first_handed_over(rest, queue, packet) {
+            return Some((found, before));
         }
     }
-    found
+    None
 }
 
 // Whether some allow row covers a right of a client on an object; a deny row takes it away then, where it isn't allowed.
@@ -122,12 +160,12 @@ pub fn tell_lack(
     tell_remedy(out, scene, lack)
 }
 
-/// Whether a right is one on objects of this kind.
-pub fn is_right_on(right: Right, object: Object) -> bool {
-    match object {
-        Object::Agent(_) => right == Right::Use,
-        Object::Region(_) => right == Right::Read || right == Right::Write,
-        Object::Signal(_) => right == Right::Wait || right == Right::Change,
-        Object::Kernel(_) => right == Right::Launch,
+/// The rights that there are on objects of a kind.
+pub fn rights_of(kind: Kind) -> &'static [Right] {
+    match kind {
+        Kind::Agent => &[Right::Use],
+        Kind::Region => &[Right::Read, Right::Write],
+        Kind::Signal => &[Right::Wait, Right::Change],
+        Kind::Kernel => &[Right::Launch],
     }
 }

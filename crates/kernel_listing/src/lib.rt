@@ -7,17 +7,34 @@ mod faults;
 mod kernel_lines;
 mod lines;
 
-use hsail_reader::{Module, ReadError, read_module};
-use kernel_check::{CheckError, check};
+use hsail_reader::{Module, ReadError, ReadFault, read_module};
+use kernel_check::{CheckError, CheckFault, check};
 use std::alloc::{AllocError, Global};
+
+/// What is wrong with a kernel's text: its first fault.
+#[derive(Clone, Copy, Debug, PartialEq, Eq)]
+pub enum TextFault {
+    /// It is no module.
+    Read(ReadFault),
+    /// Its module is refused.
+    Check(CheckFault),
+}
 
 /// What is told of a kernel's text (own).
 #[derive(Debug, Drop)]
 pub enum Listing {
     /// Its kernels, with their layout and steps, and `ok`.
     Kernels(String),
-    /// Its first fault, and the line that it lies in.
-    Fault(String),
+    /// Its first fault.
+    Fault(TextFault),
+}
+
+/// What is told of a text's first fault: cause, line, column and meaning, and the line's text with a mark.
+pub fn told(alloc: Global, text: &[u8], fault: TextFault) -> Result<String, AllocError> {
+    match fault {
+        TextFault::Read(fault) => faults::read(alloc, text, fault),
+        TextFault::Check(fault) => faults::checked(alloc, text, fault),
+    }
 }
 
 // What is told of a module.
@@ -25,7 +42,7 @@ fn list_module(alloc: Global, text: &[u8], module: &Module) -> Result<Listing, A
     match check(alloc, module) {
         Ok(checked) => Ok(Listing::Kernels(kernel_lines::listed(alloc, text, module, &checked)?)),
         Err(CheckError::OutOfMemory) => Err(AllocError),
-        Err(CheckError::Fault(fault)) => Ok(Listing::Fault(faults::checked(alloc, text, fault)?)),
+        Err(CheckError::Fault(fault)) => Ok(Listing::Fault(TextFault::Check(fault))),
     }
 }
 
@@ -34,6 +51,6 @@ pub fn list(alloc: Global, text: &[u8]) -> Result<Listing, AllocError> {
     match read_module(alloc, text) {
         Ok(module) => list_module(alloc, text, &module),
         Err(ReadError::OutOfMemory) => Err(AllocError),
-        Err(ReadError::Fault(fault)) => Ok(Listing::Fault(faults::read(alloc, text, fault)?)),
+        Err(ReadError::Fault(fault)) => Ok(Listing::Fault(TextFault::Read(fault))),
     }
 }

@@ -8,4 +8,4 @@ use Rattle.explain.proofs.lacks.is_in_force.Given as goal
 abbrev pub invariant-entries : goal.invariant-entries
 invariant-entries l =
     fold (λ before entry. in_force_after l.client l.object l.right before entry.event) l.held (drop l.entry-index l.entries)
-    ≡ in_force_since l.entries l.client l.object l.right
+    ≡ in_force_since l.start l.entries l.client l.object l.right

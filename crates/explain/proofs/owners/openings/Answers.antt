@@ -1,6 +1,5 @@
 use Rattle.std.proofs.Common.{◌∙◌, ap, arith}
-use Rattle.core_model.specs.Queues.{with_some}
-use Rattle.explain.specs.Owners.{opening_of}
+use Rattle.core_model.specs.Queues.{opening_of, with_some}
 use Rattle.explain.proofs.Folding.{fold-next}
 use Rattle.explain.proofs.owners.openings.Goals as goal
 
