@@ -29,7 +29,7 @@ mod work;
 pub use asked::{Asked, asked_by};
 pub use kernel_faults::{kernel_fault, no_entry, text_help};
 pub use lacks::{Lack, is_in_force, lack_of, lack_of_need};
-pub use laws::{told_owners_own, told_rights_are_in_force};
+pub use laws::{told_lacks_are_lacks, told_owners_own, told_rights_are_in_force};
 pub use lines::bad_line;
 pub use owners::owner;
 pub use policies::policy_fault;
