@@ -177,6 +177,22 @@ READABLE = [
     "audit",
 ]
 
+# readable lines that are all done, each with one reply
+TYPED = [
+    *PRELUDE,
+    "write alice buf+0x10 01020304",
+    "fill 1 1 buf length 4 with 0x5a signal done # a fill",
+    "serve 1",
+    "run 1 0",
+    "finish 1 0",
+    "copy 1 2 buf to buf+16 length 4",
+    "serve 1",
+    "drain 1",
+    "read alice buf+16 4",
+    "drain",
+    "audit",
+]
+
 # audits that are handed out while packets are in flight
 ROTATIONS = [
     *PRELUDE,
@@ -315,6 +331,7 @@ def rows(room):
         Row("a script of kernels", ["run", SAMPLE, *few], KERNELS, "script", shares_front=True),
         Row("a script of groups", ["run", file("reverse.toml"), *few], GROUPS, "script"),
         Row("a strict run", ["run", SAMPLE, "--strict", *few], DONE, "strict"),
+        Row("a readable run", ["run", SAMPLE, "--readable", "--strict", *few], [it for it in TYPED if not it.startswith("drain")], "strict", is_new=True),
         Row("a script of rotations", ["run", SAMPLE, *few], ROTATIONS, "script", is_new=True),
         Row("a script of reloads", ["run", SAMPLE, file("first.toml"), file("second.toml"), *few], RELOADS, "script", is_new=True),
         Row("picture", ["picture", SAMPLE], DONE, "picture", is_new=True),

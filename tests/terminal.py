@@ -138,6 +138,9 @@ def sessions(trials, program):
         (["help mend", "helper"], [], 1, b"", ["nothing is called `mend`", "line 2: bad request"], ["line 1: bad request"]),
         (["load alice done", "x", "list bob"], ["--strict"], 1, b"refused 3 Denied WAIT\n", ["alice has no WAIT"], ["bad request"]),
         (["x", "list bob"], ["--strict"], 1, b"", ["line 1: bad request"], []),
+        (["fill 1", "list bob # nobody", "drain"], ["--readable"], 1, b"list 0\ndrained launched 0 denied 0 ran 0 faulted 0 ready 0 failed 0 finished 0 waiting 0\n",
+         ["line 1: bad request", "line 1: end of line: wanted is the number of a producer"], ["line 2:"]),
+        (["help drain", "load alice done", "list bob"], ["--json"], 0, b'{"line":2,"reply":"refused","number":3,"name":"Denied","right":"WAIT"}\n{"line":3,"reply":"list","objects":[]}\n', ["line 2: alice has no WAIT"], []),
         ([*DENIED.decode().splitlines(), "y"], [], 1, REPLIES, ["line 4: alice has no WRITE", "line 5: bad request"], []),
     ]
     trials.every("a person is prompted, helped, and goes on behind a bad line", session, rows)

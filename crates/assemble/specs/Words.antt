@@ -1,5 +1,5 @@
 -- Words of a line, and what single words stand for (own).
-use Rattle.std.specs.Prelude.{ℕ, ◌+◌, ◌-◌, ◌*◌, ◌^◌, nat_lt, nat_le, ◌==◌, Bool, ◌&&◌, ◌||◌, List, [], ◌∷◌, ◌++◌, codes, Option, Some, None, option_map, option_and_then, if◌then◌else◌}
+use Rattle.std.specs.Prelude.{ℕ, ◌+◌, ◌-◌, ◌*◌, ◌^◌, nat_lt, nat_le, ◌==◌, Bool, false, ◌&&◌, ◌||◌, List, [], ◌∷◌, ◌++◌, codes, Option, Some, None, option_map, option_and_then, if◌then◌else◌}
 use denote.Ref.{Bor}
 
 -- a word, as its bytes
@@ -23,6 +23,11 @@ words_from word (byte ∷ bytes) = if is_blank byte then nonempty_before word (w
 -- the words of a line
 abbrev pub words : List ℕ → List Word
 words line = words_from [] line
+
+-- a line is a comment: its first byte is `#`
+abbrev pub is_comment : List ℕ → Bool
+is_comment [] = false
+is_comment (first ∷ rest) = first == 35
 
 -- the value of a digit, in either case
 abbrev pub digit_of : ℕ → Option ℕ

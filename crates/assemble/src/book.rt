@@ -1,6 +1,7 @@
 //! What lines may name: a policy, and how the arguments of its kernels lie.
 
-ghost use Rattle.std.specs.Prelude.{◌≡◌};
+ghost use Rattle.std.specs.Prelude.{◌≡◌, IfOk};
+ghost use Rattle.policy.specs.Format.{Declares};
 
 use crate::layout::{Place, end_of, place_behind};
 use aql_packet::KernelObject;
@@ -144,7 +145,9 @@ fn shapes(alloc: Global, policy: &Policy) -> Result<Vec<Option<Shape>>, BookErro
 }
 
 // Reads the text of a policy.
-fn policy_in(alloc: Global, text: &[u8]) -> Result<Policy, BookError> {
+fn policy_in(alloc: Global, text: &[u8]) -> Result<Policy, BookError>
+    ensures { IfOk result (Declares text.now) }
+{
     match read_policy(alloc, text) {
         Ok(policy) => Ok(policy),
         Err(ReadPolicyError::OutOfMemory) => Err(BookError::OutOfMemory),
@@ -154,7 +157,9 @@ fn policy_in(alloc: Global, text: &[u8]) -> Result<Policy, BookError> {
 
 impl Book {
     /// The book of the policy in a text. `Refused` is told without its cause: what checks policies names it.
-    pub fn read(alloc: Global, text: &[u8]) -> Result<Book, BookError> {
+    pub fn read(alloc: Global, text: &[u8]) -> Result<Book, BookError>
+        ensures { IfOk result (λ book. Declares text.now book.policy) }
+    {
         let policy = policy_in(alloc, text)?;
         let shapes = shapes(alloc, &policy)?;
         Ok(Book { policy, shapes })

@@ -37,6 +37,16 @@ pub enum Want {
     At,
     /// An address.
     Address,
+    /// An address of a script's line, in digits or otherwise.
+    LineAddress,
+    /// The number of a queue, or the end of the line.
+    QueueOrEnd,
+    /// The end of the line.
+    EndOfLine,
+    /// A word that lines begin with, of which this comes nearest, if one is near.
+    Verb(Option<&'static str>),
+    /// A run: what the line asks can't be assembled.
+    Run,
     /// A number of 64 bits.
     Number,
     /// A number of 32 bits.
@@ -82,6 +92,12 @@ impl Want {
             Want::Value64 => "a value of 64 bits, or a region as buf or buf+16",
             Want::At => "`at` and where the arguments lie, as at args",
             Want::Address => "an address: a region as buf or buf+16, or a number",
+            Want::LineAddress =>
+                "an address: 16 hexadecimal digits, a region as buf or buf+16, or a number as 0x100000000",
+            Want::QueueOrEnd => "the number of a queue, or the end of the line",
+            Want::EndOfLine => "the end of the line",
+            Want::Verb(_) => "a word that lines begin with",
+            Want::Run => "a line that comes to lines of a script: `run --readable` takes this one",
             Want::Number => "a number of 64 bits, as 7 or 0x5a",
             Want::Size => "a number of 32 bits, as 64",
             Want::Length => "`length`",
@@ -102,8 +118,11 @@ impl Want {
 
 impl fmt::Display for Want {
     fn fmt<W: fmt::Write>(&self, f: &mut fmt::Formatter<W>) -> fmt::Result {
-        let text = self.text();
-        write!(f, "{text}")
+        f.write_str(self.text())?;
+        match self {
+            Want::Verb(Some(nearest)) => write!(f, ", as {nearest}"),
+            _ => Ok(()),
+        }
     }
 }
 

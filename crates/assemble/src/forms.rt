@@ -1,12 +1,15 @@
 //! The forms of lines: each is read word by word, and comes to the lines of a script.
 
-ghost use Rattle.std.specs.Prelude.{◌≡◌, ◌≤◌, IfOk, IsTrue};
+ghost use Rattle.std.specs.Prelude.{◌≡◌, ◌≤◌, ◌||◌, IfOk, IsTrue, true};
 ghost use Rattle.aql_packet.specs.Layout.{is_well_formed};
 ghost use Rattle.assemble.specs.Sizes.{AreGridSizes, AreGroupSizes};
+ghost use Rattle.assemble.specs.Verbs.{begins_as_script};
+ghost use Rattle.assemble.specs.Words.{is_comment, words};
 
 use crate::block::read_block;
 use crate::book::{Book, Shape};
 use crate::fault::{Fault, LineError, Want};
+use crate::numbers::decimal;
 use crate::operands::{
     Read, Sizes, address, fault_at, grid_sizes, group_sizes, kernel, keyword, next, number,
     numeral, signal,
@@ -16,9 +19,11 @@ use crate::packets::{
     add_packet, all_of_packet, any_of_packet, copy_packet, dispatch_packet, fill_packet, put_packet,
 };
 use crate::texts::{put_address, put_bytes, put_word};
-use crate::words::{is_word, split_word};
-use aql_packet::{Address, KernelObject, Packet, SignalHandle};
+use crate::verbs::{Verb, is_of_script, nearest, verb_named};
+use crate::words::{is_comment, is_word, split_word};
+use aql_packet::{Address, KernelObject, Packet, QueueId, SignalHandle};
 use policy::Policy;
+use script::Class;
 use std::alloc::{AllocError, Global};
 
 /// The words of a line that name a queue and a producer.
@@ -40,7 +45,7 @@ fn fill<'a>(policy: &Policy, line: &'a [u8]) -> Result<(Seat<'a>, Packet), Fault
     ensures { IfOk result (λ read. IsTrue (is_well_formed read.1)) }
 {
     let (seat, rest) = read_seat(line)?;
-    let (start, rest) = address(policy, rest)?;
+    let (start, rest) = address(policy, rest, Want::Address)?;
     let rest = keyword(rest, "length", Want::Length)?;
     let (length, rest) = number(rest)?;
     let rest = keyword(rest, "with", Want::With)?;
@@ -54,9 +59,9 @@ fn copy<'a>(policy: &Policy, line: &'a [u8]) -> Result<(Seat<'a>, Packet), Fault
     ensures { IfOk result (λ read. IsTrue (is_well_formed read.1)) }
 {
     let (seat, rest) = read_seat(line)?;
-    let (from, rest) = address(policy, rest)?;
+    let (from, rest) = address(policy, rest, Want::Address)?;
     let rest = keyword(rest, "to", Want::To)?;
-    let (to, rest) = address(policy, rest)?;
+    let (to, rest) = address(policy, rest, Want::Address)?;
     let rest = keyword(rest, "length", Want::Length)?;
     let (length, rest) = number(rest)?;
     let said = read_options(policy, Form::Agent, rest)?;
@@ -70,7 +75,7 @@ fn add<'a>(policy: &Policy, line: &'a [u8]) -> Result<(Seat<'a>, Packet), Fault>
     let (seat, rest) = read_seat(line)?;
     let (amount, rest) = number(rest)?;
     let rest = keyword(rest, "to", Want::To)?;
-    let (to, rest) = address(policy, rest)?;
+    let (to, rest) = address(policy, rest, Want::Address)?;
     let said = read_options(policy, Form::Agent, rest)?;
     Ok((seat, add_packet(amount, to, said)))
 }
@@ -261,31 +266,127 @@ fn dispatch(alloc: Global, book: &Book, line: &[u8], out: &mut Vec<u8>) -> Resul
     Ok(put_dispatch(out, front, shape, said)?)
 }
 
-/// Puts the lines that a line comes to behind a text, and tells whether it is one of the forms; any other
-/// line comes to nothing.
+// Puts what a readable line comes to behind a text, by its verb and what stands behind it. A drain comes to no lines.
+fn put_readable(
+    alloc: Global,
+    book: &Book,
+    verb: Verb,
+    line: &[u8],
+    out: &mut Vec<u8>,
+) -> Result<Turned, LineError>
+    ensures { IfOk result (λ turned. turned ≡ Turned.Itself → ⊥) }
+{
+    match verb {
+        Verb::Dispatch => dispatch(alloc, book, line, out)?,
+        Verb::Fill => put_form(out, fill(&book.policy, line))?,
+        Verb::Copy => put_form(out, copy(&book.policy, line))?,
+        Verb::Add => put_form(out, add(&book.policy, line))?,
+        Verb::AllOf => put_form(out, all_of(&book.policy, line))?,
+        Verb::AnyOf => put_form(out, any_of(&book.policy, line))?,
+        Verb::Drain => return Ok(Turned::Drain(read_drain(line)?)),
+    }
+    Ok(Turned::Lines)
+}
+
+// `drain Q?`: the queue, if one is named.
+fn read_drain(line: &[u8]) -> Result<Option<QueueId>, Fault> {
+    let Some((word, rest)) = split_word(line) else {
+        return Ok(None);
+    };
+    match decimal(word) {
+        None => Err(fault_at(line, Want::QueueOrEnd)),
+        Some(_) if split_word(rest).is_some() => Err(fault_at(rest, Want::EndOfLine)),
+        Some(queue) => Ok(Some(QueueId(queue))),
+    }
+}
+
+// The address of a line of a script that doesn't stand there in digits, and what stands behind it.
+fn named_address<'a>(
+    policy: &Policy,
+    line: &'a [u8],
+) -> Result<Option<(Address, &'a [u8])>, Fault> {
+    match split_word(line) {
+        Some((word, _)) if !Class::Address.has(word) => {
+            let (place, rest) = address(policy, line, Want::LineAddress)?;
+            Ok(Some((place, rest)))
+        }
+        _ => Ok(None),
+    }
+}
+
+// Puts a line of a verb, a client, an address and what stands behind it behind a text.
+fn put_addressed(
+    out: &mut Vec<u8>,
+    verb: &[u8],
+    client: &[u8],
+    place: Address,
+    rest: &[u8],
+) -> Result<(), AllocError> {
+    put_word(out, verb)?;
+    put_word(out, client)?;
+    put_address(out, place)?;
+    out.extend_from_slice(rest)?;
+    Ok(out.push(b'\n')?)
+}
+
+// Puts `read CLIENT ADDRESS N` or `write CLIENT ADDRESS BYTES` behind a text, with the digits of an address that stands
+// there by a region's name or as a number.
+fn put_access(
+    policy: &Policy,
+    verb: &[u8],
+    line: &[u8],
+    out: &mut Vec<u8>,
+) -> Result<Turned, LineError>
+    ensures { IfOk result (λ turned. turned ≡ Turned.Itself → out.new.items ≡ out.old.items) }
+{
+    let Some((client, behind)) = split_word(line) else {
+        return Ok(Turned::Itself);
+    };
+    match named_address(policy, behind)? {
+        None => Ok(Turned::Itself),
+        Some((place, rest)) => {
+            put_addressed(out, verb, client, place, rest)?;
+            Ok(Turned::Lines)
+        }
+    }
+}
+
+/// What a line comes to.
+#[derive(Clone, Copy, Debug, PartialEq, Eq)]
+pub enum Turned {
+    /// Itself: it is a line that a script may have, or it has no word.
+    Itself,
+    /// Lines of a script, which were put behind a text.
+    Lines,
+    /// No line of a script: a queue is to be drained, or all are.
+    Drain(Option<QueueId>),
+}
+
+/// Puts the lines that a line comes to behind a text, and tells what it comes to. A line that comes to itself puts nothing
+/// there, and is a comment, has no word, or begins with a word that a script's line may begin with.
 pub fn put_lines(
     alloc: Global,
     book: &Book,
     line: &[u8],
     out: &mut Vec<u8>,
-) -> Result<bool, LineError> {
-    let Some((verb, rest)) = split_word(line) else {
-        return Ok(false);
-    };
-    if is_word(verb, "dispatch") {
-        dispatch(alloc, book, rest, out)?;
-    } else if is_word(verb, "fill") {
-        put_form(out, fill(&book.policy, rest))?;
-    } else if is_word(verb, "copy") {
-        put_form(out, copy(&book.policy, rest))?;
-    } else if is_word(verb, "add") {
-        put_form(out, add(&book.policy, rest))?;
-    } else if is_word(verb, "all-of") {
-        put_form(out, all_of(&book.policy, rest))?;
-    } else if is_word(verb, "any-of") {
-        put_form(out, any_of(&book.policy, rest))?;
-    } else {
-        return Ok(false);
+) -> Result<Turned, LineError>
+    ensures kept { IfOk result (λ turned. turned ≡ Turned.Itself → out.new.items ≡ out.old.items) }
+    ensures verb { IfOk result (λ turned. turned ≡ Turned.Itself → (is_comment line.now || begins_as_script (words line.now)) ≡ true) }
+{
+    if is_comment(line) {
+        return Ok(Turned::Itself);
     }
-    Ok(true)
+    let Some((word, rest)) = split_word(line) else {
+        return Ok(Turned::Itself);
+    };
+    if let Some(verb) = verb_named(word) {
+        return put_readable(alloc, book, verb, rest, out);
+    }
+    if !is_of_script(word) {
+        return Err(LineError::Fault(fault_at(line, Want::Verb(nearest(word)))));
+    }
+    if is_word(word, "read") || is_word(word, "write") {
+        return put_access(&book.policy, word, rest, out);
+    }
+    Ok(Turned::Itself)
 }

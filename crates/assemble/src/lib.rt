@@ -14,10 +14,12 @@ mod options;
 mod packets;
 mod run;
 mod texts;
+mod verbs;
 mod words;
 
 pub use book::{Book, BookError, Shape};
 pub use fault::{Fault, LineError, Want};
-pub use forms::put_lines;
+pub use forms::{Turned, put_lines};
 pub use layout::Place;
-pub use run::{AssembleError, assemble_script};
+pub use run::{AssembleError, assemble_script, fault_text};
+pub use words::without_comment;

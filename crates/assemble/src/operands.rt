@@ -133,11 +133,11 @@ fn address_in(policy: &Policy, word: &[u8]) -> Option<u64> {
 }
 
 /// An address.
-pub fn address<'a>(policy: &Policy, line: &'a [u8]) -> Read<'a, Address> {
-    let (word, rest) = next(line, Want::Address)?;
+pub fn address<'a>(policy: &Policy, line: &'a [u8], want: Want) -> Read<'a, Address> {
+    let (word, rest) = next(line, want)?;
     match address_in(policy, word) {
         Some(address) => Ok((Address(address), rest)),
-        None => Err(fault_at(line, Want::Address)),
+        None => Err(fault_at(line, want)),
     }
 }
 

@@ -89,7 +89,7 @@ fn with_signal<'a>(policy: &Policy, said: Options, line: &'a [u8]) -> Read<'a, O
 
 // `at ADDRESS`
 fn with_block<'a>(policy: &Policy, said: Options, line: &'a [u8]) -> Read<'a, Options> {
-    let (block, rest) = address(policy, line)?;
+    let (block, rest) = address(policy, line, Want::Address)?;
     let block = Some(block);
     Ok((Options { block, ..said }, rest))
 }
@@ -121,7 +121,7 @@ fn with_private_bytes(said: Options, line: &[u8]) -> Read<'_, Options> {
 
 // `return ADDRESS`
 fn with_result<'a>(policy: &Policy, said: Options, line: &'a [u8]) -> Read<'a, Options> {
-    let (result, rest) = address(policy, line)?;
+    let (result, rest) = address(policy, line, Want::Address)?;
     Ok((Options { result, ..said }, rest))
 }
 

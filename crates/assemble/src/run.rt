@@ -2,13 +2,11 @@
 
 use crate::book::Book;
 use crate::fault::{Fault, LineError, Want};
-use crate::forms::put_lines;
-use crate::words::split_word;
+use crate::forms::{Turned, put_lines};
+use crate::words::{skip_blanks, split_word, without_comment};
+use script::LONGEST_LINE;
 use std::alloc::{AllocError, AllocFailed, Global};
 use std::io;
-
-// The most bytes that a line has.
-const LONGEST_LINE: usize = 16_384;
 
 // The most reads, and the most writes for what one of them gave (own).
 const MOST_CALLS: u64 = 1 << 40;
@@ -75,8 +73,13 @@ fn show_word(text: &mut String, word: &[u8]) -> Result<(), AllocError> {
     Ok(())
 }
 
-// What is said of a line's fault, as `line 3: buff: wanted is a region`.
-fn fault_text(alloc: Global, number: u64, line: &[u8], fault: Fault) -> Result<String, AllocError> {
+/// What is said of the fault of a line of a number, without the comment at its end: as `line 3: buff: wanted is a region`.
+pub fn fault_text(
+    alloc: Global,
+    number: u64,
+    line: &[u8],
+    fault: Fault,
+) -> Result<String, AllocError> {
     let before = line.len().saturating_sub(fault.left);
     let mut text = format!(in alloc; "line {number}: ")?;
     match split_word(line.split_at(before).1) {
@@ -96,28 +99,44 @@ fn refused(alloc: Global, number: u64, line: &[u8], fault: Fault) -> AssembleErr
     }
 }
 
-// Assembles the line that ends here, or passes it on as it is.
-fn end_line(alloc: Global, book: &Book, session: &mut Session) -> Result<bool, AssembleError> {
-    let line = session.line.as_slice();
-    match put_lines(alloc, book, line, &mut session.out) {
-        Ok(assembled) => Ok(assembled),
+// Puts what the line that ends here comes to behind what was assembled.
+fn turn_line(
+    alloc: Global,
+    book: &Book,
+    number: u64,
+    line: &[u8],
+    out: &mut Vec<u8>,
+) -> Result<Turned, AssembleError> {
+    match put_lines(alloc, book, line, out) {
+        Ok(turned) => Ok(turned),
         Err(LineError::OutOfMemory) => Err(AssembleError::OutOfMemory),
-        Err(LineError::Fault(fault)) => Err(refused(alloc, session.number, line, fault)),
+        Err(LineError::Fault(fault)) => Err(refused(alloc, number, line, fault)),
     }
 }
 
-// Puts what the line comes to, or the line as it is with what ends it, behind what was assembled.
+// Puts a line and what ends it behind what was assembled.
+fn pass_line(out: &mut Vec<u8>, line: &[u8], end: &[u8]) -> Result<(), AssembleError> {
+    out.extend_from_slice(line)?;
+    Ok(out.extend_from_slice(end)?)
+}
+
+// Puts what the line that ends here comes to behind what was assembled, or the line as it is, with what ends it.
 fn put_line(
     alloc: Global,
     book: &Book,
     session: &mut Session,
     end: &[u8],
 ) -> Result<(), AssembleError> {
-    if !end_line(alloc, book, session)? {
-        session.out.extend_from_slice(session.line.as_slice())?;
-        session.out.extend_from_slice(end)?;
+    let line = without_comment(session.line.as_slice());
+    match turn_line(alloc, book, session.number, line, &mut session.out)? {
+        Turned::Itself => pass_line(&mut session.out, line, end),
+        Turned::Lines => Ok(()),
+        Turned::Drain(_) => {
+            let left = skip_blanks(line).len();
+            let want = Want::Run;
+            Err(refused(alloc, session.number, line, Fault { left, want }))
+        }
     }
-    Ok(())
 }
 
 // The same; where it fails nothing is put there, so that only whole lines are handed over.

@@ -1,7 +1,7 @@
 //! The words of a line.
 
 ghost use Rattle.std.specs.Prelude.{◌≡◌, ◌<◌, ◌∷◌, [], length, MatchOption, bytes_eq, slice_index, false};
-ghost use Rattle.assemble.specs.Words.{is_blank, words};
+ghost use Rattle.assemble.specs.Words.{is_blank, is_comment, words};
 
 // Whether a byte stands between words.
 fn is_blank(byte: u8) -> bool
@@ -44,4 +44,26 @@ pub fn is_word(word: &[u8], spelled: &str) -> bool
     ensures { result ≡ bytes_eq word.now spelled.now }
 {
     word == spelled.as_bytes()
+}
+
+/// Whether a line is a comment.
+pub fn is_comment(line: &[u8]) -> bool
+    ensures { result ≡ is_comment line.now }
+{
+    match line.split_first() {
+        Some((first, _)) => *first == b'#',
+        None => false,
+    }
+}
+
+/// A line without the comment at its end: up to the first word that begins with `#`. A line that is a comment stays.
+pub fn without_comment(line: &[u8]) -> &[u8] {
+    let mut is_between = false;
+    for (index, byte) in line.iter().enumerate() {
+        if is_between && *byte == b'#' {
+            return line.split_at(index).0;
+        }
+        is_between = is_blank(*byte);
+    }
+    line
 }

@@ -4,11 +4,16 @@ use crate::author::told;
 use crate::explaining::{PolicyFile, policy_told, tell};
 use crate::further::Manner;
 use crate::line_reader::LineReader;
+use crate::request::Reads;
 use crate::session::help_told;
+use assemble::{Book, BookError};
 use commands::{Failure, PolicyText, Status, check_kernels, name_failure, tell_end};
 use explain::{Asked, asked_by, bad_line, policy_fault, retold};
 use policy::{Policy, ReadPolicyError, read_policy};
-use script::{Command, Flow, IoLog, LineReply, ScriptFault, Watch, run_watched, strictly};
+use readable::{Style, serve_line};
+use script::{
+    Command, Flow, IoLog, LineAnswer, LineReply, ScriptFault, Watch, run_watched, strictly,
+};
 use std::alloc::{AllocError, Global};
 use std::io;
 use std::io::Write;
@@ -43,6 +48,10 @@ struct Explainer {
     // Whether the run goes on behind a line of no form, and whether it has.
     goes_on: bool,
     has_gone_on: bool,
+    // Whether each line is done by itself, so that its number is that in the whole script; and what is wanted in a
+    // readable one of no form.
+    is_by_line: bool,
+    wanted: String,
     // How many lines came before those of this run.
     before: u64,
     // How many further policies there are.
@@ -62,6 +71,8 @@ impl Explainer {
             tells: manner.is_explaining,
             goes_on: manner.is_session && !manner.is_strict,
             has_gone_on: false,
+            is_by_line: manner.reads.is_readable || manner.reads.is_json,
+            wanted: String::new(alloc),
             before: 0,
             later,
             asked: Asked::Nothing,
@@ -102,7 +113,9 @@ impl Explainer {
 
     // Goes on behind a line of this run.
     fn go_on(&mut self, number: u64) {
-        self.before = self.number_of(number);
+        if !self.is_by_line {
+            self.before = self.number_of(number);
+        }
         self.told.clear();
     }
 }
@@ -154,14 +167,47 @@ fn tell_of_line<E: io::Write>(explainer: &Explainer, err: &mut E) -> Option<Stat
     }
 }
 
+// Does what is left of a script line by line, up to the next explanation.
+fn run_by_line<R: io::Read, O: io::Write>(
+    world: &mut World,
+    later: &[Policy],
+    explainer: &mut Explainer,
+    style: Style<'_>,
+    lines: &mut LineReader<'_, R>,
+    out: &mut O,
+    wanted: &mut String,
+) -> Result<(), ScriptFault> {
+    let alloc = explainer.alloc;
+    for _ in 0..MOST_RUNS {
+        match lines.next_line() {
+            Ok(true) => {}
+            Ok(false) => return Ok(()),
+            Err(_) => return Err(ScriptFault::Read),
+        }
+        let number = lines.number();
+        let line = lines.line();
+        serve_line(
+            alloc, world, later, explainer, style, number, line, out, wanted,
+        )?;
+    }
+    Err(ScriptFault::Read)
+}
+
 // Runs what is left of a script up to the next explanation.
 fn run_on<R: io::Read, O: io::Write>(
     world: &mut World,
     later: &[Policy],
     explainer: &mut Explainer,
+    style: Style<'_>,
     lines: &mut LineReader<'_, R>,
     out: &mut O,
 ) -> Result<(), ScriptFault> {
+    if explainer.is_by_line {
+        let mut wanted = String::new(explainer.alloc);
+        let ended = run_by_line(world, later, explainer, style, lines, out, &mut wanted);
+        explainer.wanted = wanted;
+        return ended;
+    }
     let mut answers = IoLog::none();
     run_watched(
         explainer.alloc,
@@ -176,7 +222,10 @@ fn run_on<R: io::Read, O: io::Write>(
 
 // What is told of a line of no form.
 fn bad_line_told(explainer: &Explainer, line: &[u8], number: u64) -> Result<String, AllocError> {
-    if explainer.tells {
+    let wanted = explainer.wanted.as_str();
+    if !wanted.is_empty() {
+        format!(in explainer.alloc; "{wanted}\n")
+    } else if explainer.tells {
         bad_line(explainer.alloc, line, number, explainer.later)
     } else {
         Ok(String::new(explainer.alloc))
@@ -277,21 +326,52 @@ fn tell_of_run<R: io::Read, E: io::Write>(
 // Runs a script over a world, and tells how that ended.
 fn run_in<R: io::Read, O: io::Write, E: io::Write>(
     explainer: &mut Explainer,
-    world: World,
+    style: Style<'_>,
+    world: &mut World,
     later: &[Policy],
     script: &mut R,
     out: &mut O,
     err: &mut E,
 ) -> Status {
-    let mut world = world;
     let mut lines = LineReader::new(script);
     for _ in 0..MOST_RUNS {
-        let ended = run_on(&mut world, later, explainer, &mut lines, out);
+        let ended = run_on(world, later, explainer, style, &mut lines, out);
         if let Some(status) = tell_of_run(ended, explainer, &mut lines, err) {
             return status;
         }
     }
     name(explainer.alloc, err, Failure::Read)
+}
+
+// Runs a script over a world in the style that is asked, with the policy that its readable lines go by.
+fn run_in_style<R: io::Read, O: io::Write, E: io::Write>(
+    explainer: &mut Explainer,
+    reads: Reads,
+    text: &[u8],
+    world: &mut World,
+    later: &[Policy],
+    script: &mut R,
+    out: &mut O,
+    err: &mut E,
+) -> Status {
+    let style = Style {
+        book: None,
+        is_json: reads.is_json,
+    };
+    if !reads.is_readable {
+        return run_in(explainer, style, world, later, script, out, err);
+    }
+    match Book::read(explainer.alloc, text) {
+        Ok(book) => {
+            let style = Style {
+                book: Some(&book),
+                ..style
+            };
+            run_in(explainer, style, world, later, script, out, err)
+        }
+        Err(BookError::OutOfMemory) => name(explainer.alloc, err, Failure::OutOfMemory),
+        Err(BookError::Refused) => Status::Refused,
+    }
 }
 
 // Opens a world over a policy.
@@ -385,7 +465,7 @@ pub fn run_explaining<R: io::Read, O: io::Write, E: io::Write>(
     out: &mut O,
     err: &mut E,
 ) -> Status {
-    let world = match open_text(alloc, file.text, manner.places) {
+    let mut world = match open_text(alloc, file.text, manner.places) {
         Ok(world) => world,
         Err(failure) => {
             let told = told_if(alloc, manner, policy_told(alloc, file));
@@ -398,5 +478,14 @@ pub fn run_explaining<R: io::Read, O: io::Write, E: io::Write>(
         return name_and_tell(alloc, err, Failure::of_reading(why), told);
     }
     let mut explainer = Explainer::new(alloc, manner, later.len());
-    run_in(&mut explainer, world, later.as_slice(), script, out, err)
+    run_in_style(
+        &mut explainer,
+        manner.reads,
+        file.text,
+        &mut world,
+        later.as_slice(),
+        script,
+        out,
+        err,
+    )
 }

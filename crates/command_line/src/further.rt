@@ -4,20 +4,29 @@ use crate::drawing::{Drawn, draw_explaining};
 use crate::explained_run::{Further, run_explaining};
 use crate::explaining::PolicyFile;
 use crate::perform::{read_file, unread};
+use crate::request::Reads;
 use crate::session::GREETING;
 use crate::terminal::{Beside, TerminalReader};
 use commands::{PolicyText, Span, Status, draw_policies, run_policies, run_strictly};
 use std::io::{self, IsTerminal};
 
+// Lines are those of scripts, and replies are text.
+const AS_SCRIPTS: Reads = Reads {
+    is_readable: false,
+    is_json: false,
+};
+
 /// How a script is run: with places for so many entries in the audit, up to the first line that isn't done, if it is
 /// strict, and with a text beside its replies that tells why, if it is explaining; or with a picture of these entries in
-/// place of its replies. In a session with a person it goes on behind a line of no form.
+/// place of its replies. In a session with a person it goes on behind a line of no form. Its lines may be readable, and
+/// its replies JSON.
 #[derive(Clone, Copy)]
 pub struct Manner {
     pub places: usize,
     pub is_strict: bool,
     pub is_explaining: bool,
     pub is_session: bool,
+    pub reads: Reads,
     pub drawn: Option<Span>,
 }
 
@@ -29,6 +38,7 @@ impl Manner {
             is_strict: false,
             is_explaining: false,
             is_session: false,
+            reads: AS_SCRIPTS,
             drawn: None,
         }
     }
@@ -40,6 +50,7 @@ impl Manner {
             is_strict: true,
             is_explaining: false,
             is_session: false,
+            reads: AS_SCRIPTS,
             drawn: None,
         }
     }
@@ -51,6 +62,7 @@ impl Manner {
             is_strict,
             is_explaining: true,
             is_session: false,
+            reads: AS_SCRIPTS,
             drawn: None,
         }
     }
@@ -62,6 +74,7 @@ impl Manner {
             is_strict: false,
             is_explaining,
             is_session: false,
+            reads: AS_SCRIPTS,
             drawn: Some(span),
         }
     }
@@ -129,7 +142,8 @@ fn run_over<R: io::Read>(
     manner: Manner,
     script: &mut R,
 ) -> Status {
-    if !manner.is_explaining && !manner.is_session {
+    let is_by_line = manner.reads != AS_SCRIPTS;
+    if !manner.is_explaining && !manner.is_session && !is_by_line {
         return run_plainly(rt, file.text, further.texts, manner, script);
     }
     if let Some(span) = manner.drawn {

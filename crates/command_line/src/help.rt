@@ -19,10 +19,11 @@ Lines of a script (docs/scripts.md):
 KIND is agent, region, signal or kernel; R is USE, READ, WRITE, WAIT, CHANGE or LAUNCH, and - for none;
 OP is store, add, subtract, and, or, xor, exchange or cas (which has two V); COND is EQ, NE, LT or GTE.
 
-Lines that assemble reads beside these (docs/assemble.md):
+Lines that assemble and run --readable read beside these (docs/assemble.md):
   dispatch C? Q P KERNEL grid N,N,N group N,N,N arguments VALUE.. at ADDRESS signal NAME ..
   fill Q P ADDRESS length N with BYTE ..       copy Q P ADDRESS to ADDRESS length N ..
   add Q P N to ADDRESS ..                      all-of Q P SIGNAL.. ..       any-of Q P SIGNAL.. ..
+and run --readable alone: drain, drain Q. ADDRESS may be a region, as buf or buf+16; # begins a comment at a line's end.
 
 Pages that help prints: brokerd help scripts, brokerd help policy, brokerd help kernels.
 A file that is called - is standard input. On a terminal faults are explained unasked (--explain=never), run prompts,

@@ -133,6 +133,22 @@ impl<'a, R: io::Read> io::Read for LineReader<'a, R> {
 }
 
 impl<'a, R: io::Read> LineReader<'a, R> {
+    /// Reads the next line whole: false where there is none.
+    pub fn next_line(&mut self) -> io::Result<bool> {
+        let before = self.number;
+        let mut part = [0; 256];
+        for _ in 0..MOST_READS {
+            match self.read(&mut part) {
+                Ok(0) => return Ok(self.number != before),
+                Ok(_) if self.is_between => return Ok(true),
+                Ok(_) => {}
+                Err(error) if error.kind() == io::ErrorKind::Interrupted => {}
+                Err(error) => return Err(error),
+            }
+        }
+        Ok(false)
+    }
+
     /// Reads what is left of the line that was given last.
     pub fn skip_line(&mut self) -> io::Result<()> {
         let mut rest = [0; 256];

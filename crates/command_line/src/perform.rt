@@ -215,6 +215,21 @@ fn perform_run(rt: &HostRuntime, asked: &Asked<'_>) -> Option<Status> {
             places,
             is_strict,
         } => (policy, Manner::explaining(places, is_strict)),
+        Request::RunByLine {
+            policy,
+            places,
+            is_strict,
+            explains,
+            reads,
+        } => (
+            policy,
+            Manner {
+                is_strict,
+                is_explaining: explains,
+                reads,
+                ..Manner::plain(places)
+            },
+        ),
         Request::Picture {
             policy,
             places,

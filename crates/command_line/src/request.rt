@@ -3,7 +3,8 @@
 use crate::listing::ListForm;
 use crate::syntax::{
     ALWAYS, ASSEMBLE, AUDIT, CHECK, DECODE, DIGITS, EXPLAIN, FILE, FROM, HELP, JSON, KERNEL, LIST,
-    MOST_NEXT, NEXT, PICTURE, POLICY, PRODUCERS, RUN, SLOTS, STRICT, THREADS, TO, WORD, program,
+    MOST_NEXT, NEXT, PICTURE, POLICY, PRODUCERS, READABLE, RUN, SLOTS, STRICT, THREADS, TO, WORD,
+    program,
 };
 use clap::error::ErrorKind;
 use clap::{ArgMatches, Error};
@@ -13,6 +14,15 @@ use std::alloc::{AllocError, Global};
 
 /// How many entries an audit has place for, if the command line doesn't say.
 const PLACES: usize = 65536;
+
+/// How a run reads its lines and replies to them (own).
+#[derive(Clone, Copy, Debug, PartialEq, Eq)]
+pub struct Reads {
+    /// Whether it takes readable lines.
+    pub is_readable: bool,
+    /// Whether its replies are objects of JSON.
+    pub is_json: bool,
+}
 
 /// What a command line asks for (own).
 #[derive(Clone, Copy, Debug, PartialEq, Eq)]
@@ -47,6 +57,14 @@ pub enum Request<'a> {
         policy: &'a str,
         places: usize,
         is_strict: bool,
+    },
+    /// `run POLICY [NEXT..] --readable --json ..`: the same, with lines of readable scripts too, or with replies as JSON.
+    RunByLine {
+        policy: &'a str,
+        places: usize,
+        is_strict: bool,
+        explains: bool,
+        reads: Reads,
     },
     /// `picture POLICY [NEXT..] [--audit N] [--from N] [--to N]`: to run it the same way, and to draw what the audit tells
     /// in place of the replies, of which the entries from one number to another.
@@ -152,7 +170,19 @@ fn explains_in(asked: &ArgMatches<'_>, unasked: bool) -> bool {
 fn run_request<'a>(policy: &'a str, asked: &ArgMatches<'a>, explains: bool) -> Request<'a> {
     let places = places_in(asked);
     let is_strict = asked.get_flag(STRICT);
-    if explains {
+    let reads = Reads {
+        is_readable: asked.get_flag(READABLE),
+        is_json: asked.get_flag(JSON),
+    };
+    if reads.is_readable || reads.is_json {
+        Request::RunByLine {
+            policy,
+            places,
+            is_strict,
+            explains,
+            reads,
+        }
+    } else if explains {
         Request::RunExplaining {
             policy,
             places,

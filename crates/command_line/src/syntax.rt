@@ -20,6 +20,9 @@ pub const JSON: &str = "json";
 /// The name of the command that runs a script.
 pub const RUN: &str = "run";
 
+/// The option by which a run takes readable lines.
+pub const READABLE: &str = "readable";
+
 /// The name of the first entry that is drawn.
 pub const FROM: &str = "from";
 
@@ -173,6 +176,22 @@ fn as_json<'a>(alloc: Global) -> Arg<'a> {
         .help("Lists it as JSON, on one line (docs/json.md)")
 }
 
+fn readably<'a>(alloc: Global) -> Arg<'a> {
+    Arg::new(alloc, READABLE)
+        .long(READABLE)
+        .action(ArgAction::SetTrue)
+        .help(
+            "Takes the lines of readable scripts too, as `assemble` does, and `drain` (docs/assemble.md)",
+        )
+}
+
+fn replying_as_json<'a>(alloc: Global) -> Arg<'a> {
+    Arg::new(alloc, JSON)
+        .long(JSON)
+        .action(ArgAction::SetTrue)
+        .help("Writes each reply as an object of JSON, on one line (docs/json.md)")
+}
+
 fn kernel_file<'a>(alloc: Global) -> Arg<'a> {
     Arg::new(alloc, FILE)
         .required(true)
@@ -204,6 +223,8 @@ fn run_command<'a>(alloc: Global) -> Result<Command<'a>, Error> {
         .arg(further_files(alloc))?
         .arg(audit_places(alloc))?
         .arg(strictly(alloc))?
+        .arg(readably(alloc))?
+        .arg(replying_as_json(alloc))?
         .arg(explaining(alloc))?;
     Ok(run)
 }

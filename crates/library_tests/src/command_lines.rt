@@ -1,6 +1,6 @@
 //! What command lines ask for, and their exit statuses.
 
-use command_line::{ListForm, Request, obey, read_words};
+use command_line::{ListForm, Reads, Request, obey, read_words};
 use commands::Span;
 use pages::Page;
 use std::alloc::{AllocError, Global};
@@ -98,6 +98,32 @@ fn a_command_is_asked_for_with_its_arguments(rt: HostRuntime) -> Result<(), Fail
     check_request(&rt, "brokerd kernel k.hsail", kernel)?;
     let explain = Some(Request::Explain { word: "L8" });
     check_request(&rt, "brokerd explain L8", explain)
+}
+
+/// The request of a run that isn't strict and explains nothing, and reads and replies so.
+fn by_line<'a>(is_readable: bool, is_json: bool) -> Option<Request<'a>> {
+    Some(Request::RunByLine {
+        policy: "a.toml",
+        places: 65536,
+        is_strict: false,
+        explains: false,
+        reads: Reads {
+            is_readable,
+            is_json,
+        },
+    })
+}
+
+#[test]
+fn readable_lines_and_json_are_asked_for(rt: HostRuntime) -> Result<(), Fail> {
+    check_request(&rt, "brokerd run a.toml --readable", by_line(true, false))?;
+    check_request(&rt, "brokerd run --json a.toml", by_line(false, true))?;
+    check_request(
+        &rt,
+        "brokerd run --json a.toml --readable",
+        by_line(true, true),
+    )?;
+    check_request(&rt, "brokerd assemble a.toml --readable", None)
 }
 
 #[test]

@@ -207,7 +207,7 @@ A page is that of a whole script or there is none: where a line has no form, or 
 
 ## What isn't done, and packets in words
 
-`brokerd run POLICY --strict` ends after the first reply that tells that a line was refused or denied, or that a kernel or a poll faulted, with status 1. `brokerd run POLICY --explain` tells on standard error after each such reply why, and the line that mends it (`docs/explaining.md`). `brokerd explain L8`, or `explain QueueDown`, or `explain 7`, tells what a rule, a refusal or a cause means. `brokerd assemble POLICY` turns packets in words into the digits above (`docs/assemble.md`).
+`brokerd run POLICY --strict` ends after the first reply that tells that a line was refused or denied, or that a kernel or a poll faulted, with status 1. `brokerd run POLICY --explain` tells on standard error after each such reply why, and the line that mends it (`docs/explaining.md`). `brokerd explain L8`, or `explain QueueDown`, or `explain 7`, tells what a rule, a refusal or a cause means. `brokerd run POLICY --readable` takes packets in words, and `drain`, which serves, runs and finishes until nothing moves; `brokerd assemble POLICY` turns such lines into those above (`docs/assemble.md`). `brokerd run POLICY --json` writes each reply as an object of JSON (`docs/json.md`).
 
 ## Every form once
 

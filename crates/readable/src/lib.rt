@@ -1,0 +1,19 @@
+//! Runs of scripts for people and programs, a line at a time: readable lines are done by way of the lines that they come
+//! to, queues are drained, and replies are told as text or as JSON.
+
+// The check tries its tactics on what is left of each proof.
+#![tactic(auto)]
+
+mod course;
+mod drained;
+mod draining;
+mod flight;
+mod lines;
+mod moves;
+mod tally;
+
+pub use drained::{Drained, Wait};
+pub use draining::drain;
+pub use lines::{Style, serve_line};
+pub use moves::{Came, Move, command_of};
+pub use tally::Tally;

@@ -1,0 +1,240 @@
+#!/usr/bin/env python3
+"""Runs of readable lines, drains, and replies as JSON: readable.py PROGRAM
+
+A readable run replies as `assemble` and a plain run in a row do, its messages have the numbers of the lines as they were
+typed, a drain comes to what its requests come to one by one, and each reply as JSON tells what its text tells.
+"""
+import glob
+import json
+import os
+import re
+import sys
+
+from commands import FORMS, GROUPS, KERNELS, READABLE, ROTATIONS, TYPED
+from trial import PRELUDE, SAMPLE, TOP, Ended, Trials, run, text
+
+KIND_OF = {"true": "test", "false": "test"}
+
+
+def replies(out, lines):
+    """The texts of replies, one for each line that asks something: those that count their lines have these behind them."""
+    found, left = [], out.decode().splitlines()
+    while left:
+        head = left.pop(0)
+        words = head.split(" ")
+        count = int(words[1]) if words[0] in ("list", "errors", "audit", "rotated") else int(words[-1]) if words[0] == "drained" else 0
+        found.append([head, *left[:count]])
+        left = left[count:]
+    return found
+
+
+def same_as_text(reply, told):
+    """What is wrong with a reply as JSON, held against its text."""
+    words = told[0].split(" ")
+    kind = "not publishable" if words[0] == "not" else KIND_OF.get(words[0], words[0])
+    if reply["reply"] != kind:
+        return f"{reply} is no {kind}"
+    numbers = [int(it) for it in re.findall(r"-?\b\d+\b", told[0])]
+    if kind in ("launched", "waiting", "published", "shown"):
+        wanted = [reply["packet"]]
+        numbers = numbers[:1]
+    elif kind in ("denied", "faulted", "failed"):
+        wanted = [reply["queue"], reply["packet"], *(reply[it] for it in ("group", "item", "text_line") if it in reply)]
+        if reply["rule"] not in words:
+            return f"{reply}: another rule"
+    elif kind == "refused":
+        wanted = [reply["number"], *(reply[it] for it in ("queue", "packet", "next") if it in reply)]
+        if reply["name"] != words[2] or reply.get("right", words[-1]) != words[-1]:
+            return f"{reply}: another name"
+    elif kind == "ran":
+        wanted = [reply["group"], reply["left"]]
+    elif kind in ("queue", "ticket", "read", "value", "old"):
+        wanted = [reply["value" if kind in ("value", "old") else "index" if kind == "read" else kind]]
+    elif kind == "test":
+        return None if reply["held"] == (words[0] == "true") else f"{reply}: held otherwise"
+    elif kind in ("bytes", "word"):
+        return None if reply["bytes"] == words[1] else f"{reply}: other bytes"
+    elif kind in ("list", "errors", "audit", "rotated"):
+        return listed(reply[{"list": "objects", "errors": "errors"}.get(kind, "entries")], kind, told[1:])
+    elif kind == "drained":
+        counts = dict(zip(words[1::2], map(int, words[2::2])))
+        own = {it: reply[it] for it in counts if it != "waiting"} | {"waiting": len(reply["waiting"])}
+        return None if own == counts else f"{reply}: other counts"
+    else:
+        wanted, numbers = [], []
+    return None if wanted == numbers else f"{reply}: {wanted} and not {numbers}"
+
+
+def listed(items, kind, lines):
+    """What is wrong with a list, held against the lines of its text."""
+    if len(items) != len(lines):
+        return f"{len(items)} items and not {len(lines)}"
+    for item, line in zip(items, lines):
+        words = line.split(" ")
+        if kind == "list":
+            own = [item["kind"], str(item["number"]), item["name"], ",".join(item["rights"])]
+        elif kind == "errors":
+            own, words = [item["queue"], item["packet"], item["rule"]], [int(words[1]), int(words[3]), words[5]]
+        else:
+            event = {"open": "queue"}.get(item["event"], item["event"])
+            own, words = [item["entry"], event, len(item["effects"])], [int(words[0]), words[1], line.count(";")]
+        if own != words:
+            return f"{item} is not {line}"
+    return None
+
+
+def told_as_json(trials, program):
+    """Each reply as JSON tells what its text tells, line by line."""
+
+    def trial(it):
+        words, lines = it
+        given = text(lines)
+        plain = run([program, "run", SAMPLE, *words], given)
+        ended = run([program, "run", SAMPLE, *words, "--json"], given)
+        if (ended.status, ended.err) != (plain.status, plain.err):
+            return f"it ended otherwise: {ended} {plain}"
+        asking = [number for number, line in enumerate(lines, 1) if line.split("#")[0].split()]
+        objects = [json.loads(line) for line in ended.out.splitlines()]
+        texts = replies(plain.out, lines)
+        if len(objects) != len(texts) or [it["line"] for it in objects] != asking[: len(objects)]:
+            return f"{len(objects)} objects and {len(texts)} replies"
+        return next((why for it, told in zip(objects, texts) if (why := same_as_text(it, told))), None)
+
+    scripts = [FORMS, KERNELS, GROUPS, ROTATIONS, [*PRELUDE, "load alice done", "nonsense"], [], ["# a remark"]]
+    trials.every("replies as JSON", trial, [(words, it) for it in scripts for words in ([], ["--strict"], ["--explain=always"])])
+    trials.every("replies to readable lines as JSON", trial, [(["--readable"], it) for it in (TYPED, FORMS)])
+
+
+def as_in_a_row(trials, program):
+    """A readable run replies as `assemble` and `run` in a row do."""
+
+    def trial(lines):
+        given = text(lines)
+        made = run([program, "assemble", SAMPLE], given)
+        wanted = run([program, "run", SAMPLE], made.out)
+        ended = run([program, "run", "--readable", SAMPLE], given)
+        return None if (ended.out, ended.status) == (wanted.out, max(made.status, wanted.status)) else f"{ended} and not {wanted} of {made}"
+
+    plain = [*PRELUDE, "write alice buf 01000000 # four bytes", "read alice buf+2 2", "read alice 0x100000000 4", "  # a remark", "read alice 0000000100000000 4", "#", "fill 1 1 buf length 4 with 7 signal done # a fill", "serve 1"]
+    trials.every("a readable run is assemble and run in a row", trial, [READABLE, plain, FORMS, KERNELS, GROUPS, ROTATIONS, [], ["list alice", "fill 1"]])
+
+
+def numbered(trials, program):
+    """What is told has the number of the line as it was typed."""
+    block = "dispatch alice 1 1 inc grid 4 group 2 arguments buf at args signal done"
+    front = [*PRELUDE, block]
+
+    def trial(it):
+        lines, words, status, told = it
+        ended = run([program, "run", "--readable", SAMPLE, *words], text(lines))
+        return None if ended.status == status and (ended.err.decode() == told if isinstance(told, str) else all(it in ended.err.decode() for it in told)) else f"{ended}"
+
+    wanted = "line 9: bad request\nline 9: buff: wanted is an address: a region as buf or buf+16, or a number\n"
+    rows = [
+        ([*front, "fill 1 1 buff length 4 with 1"], [], 1, wanted),
+        ([*front, "fill 1 1 buff length 4 with 1 # no buff"], ["--explain"], 1, wanted),
+        ([*front, "fils 1 1"], [], 1, "line 9: bad request\nline 9: fils: wanted is a word that lines begin with, as fill\n"),
+        ([*front, "?"], [], 1, "line 9: bad request\nline 9: ?: wanted is a word that lines begin with\n"),
+        ([*front, "", "serv 1"], [], 1, "line 10: bad request\nline 10: serv: wanted is a word that lines begin with, as serve\n"),
+        ([*front, "read alice buff 4"], [], 1, "line 9: bad request\nline 9: buff: wanted is an address: 16 hexadecimal digits, a region as buf or buf+16, or a number as 0x100000000\n"),
+        ([*front, "drain one"], [], 1, "line 9: bad request\nline 9: one: wanted is the number of a queue, or the end of the line\n"),
+        ([*front, "drain 1 2"], [], 1, "line 9: bad request\nline 9: 2: wanted is the end of the line\n"),
+        ([*front, "serve x"], [], 1, "line 9: bad request\n"),
+        ([*front, "load bob done"], ["--strict"], 1, ""),
+        ([*front, "load bob done"], ["--explain"], 0, ["line 9: bob has no WAIT"]),
+        ([*front, "x" * 16385], [], 1, "line 9: bad request\n"),
+    ]
+    trials.every("what is told has the number of the line that was typed", trial, rows)
+    script = lambda lines: None if (ended := run([program, "run", SAMPLE], text(lines))).status == 1 and ended.err == b"line %d: bad request\n" % len(lines) else f"{ended}"
+    trials.every("a plain run takes none of these", script, [["drain"], ["drain 1"], ["list alice", "fill 1 1 buf length 4 with 1"], ["list alice # a remark"], ["read alice buf 4"]])
+    refused = lambda it: None if run([program, "assemble", SAMPLE], text([it[0]])) == Ended(1, b"", it[1].encode()) else "it ended otherwise"
+    trials.every("assemble refuses what no line begins with", refused, [
+        ("fils 1", "line 1: fils: wanted is a word that lines begin with, as fill\n"),
+        ("Serve 1", "line 1: Serve: wanted is a word that lines begin with, as serve\n"),
+        ("drain", "line 1: drain: wanted is a line that comes to lines of a script: `run --readable` takes this one\n"),
+        ("drain 2 # the second", "line 1: drain: wanted is a line that comes to lines of a script: `run --readable` takes this one\n"),
+    ])
+
+
+def drains(trials, program):
+    """A drain, held against its requests one by one."""
+
+    def trial(it):
+        lines, wanted = it
+        ended = run([program, "run", "--readable", SAMPLE], text([*PRELUDE, *lines]))
+        return None if ended.status == 0 and not ended.err and ended.out.decode().splitlines()[7:] == wanted else f"{ended.out.decode().splitlines()[7:]}, {ended}"
+
+    none = "drained launched 0 denied 0 ran 0 faulted 0 ready 0 failed 0 finished 0 waiting 0"
+    fill = "fill 1 1 buf length 4 with 0x5a signal done"
+    one = "drained launched 1 denied 0 ran 1 faulted 0 ready 0 failed 0 finished 1 waiting 0"
+    kernel = "dispatch alice 1 1 inc grid 4 group 2 arguments buf at args signal done"
+    rows = [
+        (["drain", "drain 1"], [none, none]),
+        (["drain 2"], [none.replace("waiting 0", "waiting 1"), "queue 2 refused 2 UnknownQueue"]),
+        (["drain 18446744073709551615"], [none.replace("waiting 0", "waiting 1"), "queue 18446744073709551615 refused 2 UnknownQueue"]),
+        ([fill, "drain 1", "read alice buf 4", "load alice done"], ["published 0", one, "bytes 5a5a5a5a", "value 0"]),
+        ([fill, "serve 1", "drain", "drain"], ["published 0", "launched 0", one.replace("launched 1", "launched 0"), none]),
+        ([kernel, "serve 1", "run 1 0", "drain 1", "list bob"], ["ok", "published 0", "launched 0", "ran 0 left 1", one.replace("launched 1", "launched 0"), "list 0"]),
+        # what waits is told, with the signals that it waits for, and what was launched behind it
+        (["all-of 1 1 go done", fill, "drain"], ["published 0", "published 1", "drained launched 1 denied 0 ran 0 faulted 0 ready 0 failed 0 finished 0 waiting 2", "queue 1 waiting 1 Barrier", "queue 1 packet 0 pending on go done"]),
+        (["all-of 1 1 go", fill, "drain", "signal alice go store 0", "drain"],
+         ["published 0", "published 1", "drained launched 1 denied 0 ran 0 faulted 0 ready 0 failed 0 finished 0 waiting 2", "queue 1 waiting 1 Barrier", "queue 1 packet 0 pending on go", "ok",
+          "drained launched 1 denied 0 ran 1 faulted 0 ready 1 failed 0 finished 2 waiting 0"]),
+        # a denied packet stops its queue
+        (["revoke alice region buf WRITE", fill, fill, "drain 1"],
+         ["ok", "published 0", "published 1", "drained launched 0 denied 1 ran 0 faulted 0 ready 0 failed 0 finished 0 waiting 1", "queue 1 refused 7 QueueDown"]),
+        # behind a rotation the packets in flight are those that it began with
+        (["queue alice gpu 4 1", fill.replace("1 1", "2 1"), "serve 2", "rotate", "drain 1", "drain"], None),
+    ]
+    trials.every("drains", trial, [it for it in rows if it[1]])
+
+    def rotated(it):
+        ended = run([program, "run", "--readable", SAMPLE], text([*PRELUDE, *it]))
+        return None if ended.status == 0 and ended.out.decode().splitlines()[-2:] == [none, one.replace("launched 1", "launched 0")] else f"{ended}"
+
+    trials.every("a drain behind a rotation", rotated, [it[0] for it in rows if not it[1]])
+
+    def one_by_one(lines):
+        """The history behind a drain is that behind its requests, in the order of the drain."""
+        drained = run([program, "run", "--readable", SAMPLE], text([*PRELUDE, *lines, "drain", "audit"])).out.decode()
+        entries = [it.split(" ", 1)[1].split(";")[0].split(" ") for it in drained[drained.rindex("audit ") :].splitlines()[1:]]
+        asked = [f"serve {it[1]}" if it[0] == "take" else " ".join(it[:3]) for it in entries if it[0] in ("take", "run", "poll", "finish")]
+        alone = run([program, "run", "--readable", SAMPLE], text([*PRELUDE, *lines, *asked, "audit"])).out.decode()
+        return None if drained[drained.rindex("audit ") :] == alone[alone.rindex("audit ") :] else f"{drained} {alone}"
+
+    many = [it for _ in range(2) for it in (fill, kernel.replace("1 1", "1 2"))]
+    trials.every("a drain leaves the history of its requests one by one", one_by_one, [[fill], [kernel, fill], ["queue alice gpu 8 2", *(it.replace("1 1", "2 1") for it in many[:1]), fill], ["all-of 1 1 go", fill]])
+    stops = lambda it: None if (ended := run([program, "run", "--readable", *it, SAMPLE], text([*PRELUDE, "revoke alice region buf WRITE", fill, "drain", "list bob"]))).status == (1 if "--strict" in it else 0) and (b"list" in ended.out) == ("--strict" not in it) and (b"line 10: " in ended.err) == ("--explain" in it) else f"{ended}"
+    trials.every("a fault of a drain ends a strict run, and is explained", stops, [[], ["--strict"], ["--explain"], ["--strict", "--explain"]])
+    told = run([program, "run", "--readable", "--json", SAMPLE], text([*PRELUDE, "all-of 1 1 go", fill, "drain"])).out.splitlines()
+    last = {"line": 10, "reply": "drained", "launched": 1, "denied": 0, "ran": 0, "faulted": 0, "ready": 0, "failed": 0, "finished": 0, "waiting": [
+        {"queue": 1, "reply": "waiting", "packet": 1, "cause": "Barrier"}, {"queue": 1, "packet": 0, "reply": "pending", "seen": [], "on": ["go"]}]}
+    trials.every("a drain as JSON", lambda it: None if json.loads(it) == last else f"{it}", told[-1:])
+
+
+def cases(trials, program):
+    """The files of cases that are plain scripts are replied to as without the option, but for what a readable line is."""
+    found = sorted(glob.glob(f"{TOP}/crates/cases/data/*.script"))
+
+    def trial(path):
+        with open(path, "rb") as it:
+            given = it.read()
+        plain, readable = run([program, "run", SAMPLE], given), run([program, "run", "--readable", SAMPLE], given)
+        well = (plain.status, plain.out) == (readable.status, readable.out) and readable.err.startswith(plain.err)
+        return None if well else f"{readable} and not {plain}"
+
+    trials.every("a plain script is replied to as without the option", trial, found)
+
+
+def main(program):
+    trials = Trials("readable")
+    as_in_a_row(trials, program)
+    numbered(trials, program)
+    drains(trials, program)
+    told_as_json(trials, program)
+    cases(trials, program)
+    trials.end()
+
+
+if __name__ == "__main__":
+    main(os.path.abspath(sys.argv[1]))
