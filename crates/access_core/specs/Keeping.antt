@@ -1,4 +1,4 @@
--- Which calls leave the places of a core's tables as they are (own).
+-- Which calls leave the places of a core's tables as they are, and which tables an opening lengthens (own).
 use Rattle.std.specs.Prelude.{◌≡◌, ℕ, ◌+◌, ◌*◌, ◌<◌, max, false, [], ◌∷◌, ◌++◌, length, Result, Ok, Err}
 use Rattle.aql_packet.specs.declared.ids.QueueId.{QueueId}
 use Rattle.core_model.specs.History.{beginning}
