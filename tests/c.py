@@ -24,8 +24,23 @@ LEFT_OUT = {
     **dict.fromkeys(("reserve", "room", "word", "publish", "look", "part", "peek", "take", "clear", "advance", "retire"), "steps a ring"),
     **dict.fromkeys(("test", "list", "errors", "audit", "rotate", "reload"), "has no call yet"),
 }
-# Cases whose lines are calls, and that ask for more than a call is: by file, with the reason.
-ASKS_MORE = {}
+# Cases whose lines are calls, and that ask for more than the library answers: by file, with the reason.
+NO_FORM = "a line is of no form, which the driver doesn't look for"
+OF_A_RING = "a ring answers, and not the core"
+ASKS_MORE = {
+    "ends_of_host_calls": dict.fromkeys(("reads_more_than_64_bits", "below_the_least_value", "past_the_greatest_value"), NO_FORM),
+    "entries": {"the refusal comes before a line of no form is met": "a fault of a policy is told in words"},
+    "limits": dict.fromkeys(("16 producers", "a ring of 4,096 slots is filled"), OF_A_RING),
+    "lines": dict.fromkeys(
+        ("no_verb", "a_verb_in_capitals", "a_remark_behind_a_blank", "no_kind", "no_right", "an_empty_right", "none_in_a_list", "no_number")
+        + ("a_sign", "past_64_bits", "a_short_address", "no_hexadecimal_address", "odd_digits", "no_hexadecimal_digits", "a_short_packet")
+        + ("no_operation", "cas_with_one_value", "past_greatest_value", "past_least_value"),
+        NO_FORM,
+    ),
+    "queues": dict.fromkeys(("no queue", "queue zero", "producer zero", "past last producer", "not publishable"), OF_A_RING),
+    "turned_barrier_and": {"bit_1": OF_A_RING},
+    "turned_barrier_or": {"bit_2": OF_A_RING},
+}
 
 
 def library_of_c():

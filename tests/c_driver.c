@@ -124,15 +124,16 @@ static void change_rights(int is_grant, char **words)
 
 static void open_queue(char **words)
 {
-    uint64_t queue, size = strtoull(words[3], NULL, 10);
-    if (strtoull(words[4], NULL, 10) == 0 || strtoull(words[4], NULL, 10) > 64) stop("a world's refusal of producers");
+    uint64_t queue, size = strtoull(words[3], NULL, 10), producers = strtoull(words[4], NULL, 10);
+    /* (a number of producers that a ring can't have is refused as a wrong size is) */
+    if (producers == 0 || producers > 16) size = 0;
     hd_status status = hd_open_queue(&broker, number(HD_CLIENT, words[1]), number(HD_AGENT, words[2]), size, &queue);
     if (status != HD_OK) {
         answer(status, "USE");
         return;
     }
     rings[queue].size = size;
-    rings[queue].producers = strtoull(words[4], NULL, 10);
+    rings[queue].producers = producers;
     rings[queue].packets = memory(size * 64);
     printf("queue %" PRIu64 "\n", queue);
 }
@@ -161,9 +162,15 @@ static void submit(char **words)
 
 static void serve(char **words)
 {
-    static const char *const causes[] = { "barrier", "active", "slots" };
-    uint64_t queue = queue_in(words[1]), id = rings[queue].read, next;
+    static const char *const causes[] = { "Barrier", "Active", "Slots" };
+    static const uint8_t none[64];
+    uint64_t queue = strtoull(words[1], NULL, 10), id, next;
     hd_taken taken;
+    if (queue == 0 || queue > QUEUES || !rings[queue].packets) {
+        answer(hd_take(&broker, queue, 0, none, &taken, &next), "");
+        return;
+    }
+    id = rings[queue].read;
     if (id == rings[queue].write) {
         printf("empty\n");
         return;
@@ -248,8 +255,8 @@ static void change_signal(char **words, int count)
 {
     uint32_t change = place(changes, 8, words[3]);
     int is_cas = change == HD_CAS;
-    int64_t old, value = strtoll(words[is_cas ? 5 : 4], NULL, 10), expected = is_cas ? strtoll(words[4], NULL, 10) : 0;
     if (count != (is_cas ? 6 : 5)) stop("another form");
+    int64_t old, value = strtoll(words[is_cas ? 5 : 4], NULL, 10), expected = is_cas ? strtoll(words[4], NULL, 10) : 0;
     hd_status status = hd_signal(&broker, number(HD_CLIENT, words[1]), number(HD_SIGNAL, words[2]), change, value, expected, &old);
     if (status != HD_OK || change < HD_EXCHANGE) answer(status, "CHANGE");
     else printf("old %" PRId64 "\n", old);
