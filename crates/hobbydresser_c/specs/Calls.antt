@@ -1,7 +1,5 @@
 -- What each call for C is answered, and what it leaves (own).
-use Rattle.std.specs.Prelude.{ℕ, ℤ, ◌≡◌, ◌+◌, ◌⊎◌, Bool, nat_lt, ◌-◌, List, [], ◌∷◌, length, slice_get, Option, Some, None, Result, Ok, Err, if◌then◌else◌}
-use Rattle.aql_packet.specs.declared.ids.QueueId.{QueueId}
-use Rattle.aql_packet.specs.declared.ids.PacketId.{PacketId}
+use Rattle.std.specs.Prelude.{ℕ, ℤ, ◌≡◌, Bool, nat_lt, ◌-◌, List, [], ◌∷◌, length, slice_get, Option, Some, None, Result, Ok, Err, if◌then◌else◌}
 use Rattle.core_model.specs.declared.answer.Answer.{Answer}
 use Rattle.core_model.specs.declared.entry.Effect.{Effect}
 use Rattle.core_model.specs.declared.entry.Entry.{Entry}
@@ -26,7 +24,7 @@ use Rattle.hobbydresser_c.specs.declared.broker.Broker.{Broker}
 use Rattle.hobbydresser_c.specs.declared.session.Session.{Session}
 use Rattle.hobbydresser_c.specs.declared.told.TakenRecord.{TakenRecord}
 use Rattle.hobbydresser_c.specs.Words.{stands_open}
-use Rattle.hobbydresser_c.specs.Statuses.{ok, closed, no_such, status_of_refusal}
+use Rattle.hobbydresser_c.specs.Statuses.{ok, no_such, status_of_refusal}
 use Rattle.hobbydresser_c.specs.Told.{taken_told}
 
 -- whether a broker is open

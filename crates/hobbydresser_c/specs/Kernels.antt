@@ -1,5 +1,5 @@
 -- Which kernels of a policy are let pass, what packets may then launch, and which is the first that isn't let pass (own).
-use Rattle.std.specs.Prelude.{ℕ, ◌≡◌, ◌<◌, ◌≤◌, Bool, not, List, [], length, map, position, Option, Some, None, is_some, option_map, Result, Ok, Err, ⊤}
+use Rattle.std.specs.Prelude.{ℕ, ◌≡◌, ◌<◌, ◌≤◌, List, [], length, map, position, Option, Some, None, option_map, Result, Ok, Err, ⊤}
 use Rattle.std.specs.Result.{result_err, result_unwrap_or}
 use Rattle.std.specs.Str.{bytes_eq}
 use Rattle.access_core.specs.declared.kernel.Kernel.{Kernel}

@@ -7,7 +7,6 @@ use Rattle.access_core.specs.declared.access.OpenFault.TheVariants as opening
 use Rattle.access_core.specs.declared.kernel.Kernel.{Kernel}
 use Rattle.policy.specs.Policy.{Declared}
 use Rattle.policy.specs.Format.{Declares, HasFault}
-use Rattle.policy.specs.declared.fault.PolicyFault.{PolicyFault}
 use Rattle.policy.specs.declared.fault.Section.{Section}
 use Rattle.policy.specs.declared.fault.Section.TheVariants as section
 use Rattle.hobbydresser_c.specs.declared.broker.Broker.{Broker}
