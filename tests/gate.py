@@ -15,6 +15,7 @@ from trial import HERE, TOP
 CASES = f"{TOP}/crates/cases/data"
 JOINS = f"{TOP}/crates/joins/out/joins"
 WANTS = f"{TOP}/crates/wants/out/wants"
+ARCHIVE = f"{TOP}/crates/hobbydresser_c/out/libhobbydresser_c.a"
 TRIALS = ("cases.py", "words.py", "memory.py", "streams.py", "texts.py", "explain.py", "picture.py", "rotation.py", "decode.py", "listing.py", "pages.py", "forms.py", "terminal.py", "readable.py", "docs.py", "instructions.py")
 
 
@@ -49,7 +50,7 @@ def main(program=None):
     counts = [] if program else [told(["rt", "ci"])]
     program = program or f"{TOP}/crates/brokerd/out/brokerd"
     counts.append(written_anew())
-    for script, tried in [*((it, program) for it in TRIALS), ("joins.py", JOINS), ("wants.py", WANTS)]:
+    for script, tried in [*((it, program) for it in TRIALS), ("joins.py", JOINS), ("wants.py", WANTS), ("c.py", ARCHIVE)]:
         print(f"== {script}", flush=True)
         counts.append(told([sys.executable, "-B", f"{HERE}/{script}", os.path.abspath(tried)]))
     passed, failed = (sum(column) for column in zip(*counts))

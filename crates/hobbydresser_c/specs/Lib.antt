@@ -1,0 +1,10 @@
+pub mod Buffers
+pub mod Calls
+pub mod Follows
+pub mod Kernels
+pub mod Names
+pub mod Opening
+pub mod Owned
+pub mod Statuses
+pub mod Told
+pub mod Words

@@ -1,0 +1,177 @@
+//! What clients do from outside their queues: they write and read memory, and change and load signals.
+
+ghost use Rattle.std.specs.Prelude.{◌≡◌, ◌⊎◌, IfOk, List, true, false, ℕ, ℤ, length};
+ghost use Rattle.core_model.specs.declared.answer.Answer.TheVariants as answers;
+ghost use Rattle.core_model.specs.declared.call.Call.TheVariants as call;
+ghost use Rattle.core_model.specs.declared.event.Event.TheVariants as event;
+ghost use Rattle.core_model.specs.declared.event.Query.TheVariants as query;
+ghost use Rattle.core_model.specs.declared.outcome.Outcome.TheVariants as outcome;
+ghost use Rattle.core_model.specs.Legal.{RepliesOrLacks};
+ghost use Rattle.policy.specs.Results.{map_ok};
+ghost use Rattle.hobbydresser_c.specs.Statuses.{closed, out_of_memory};
+ghost use Rattle.hobbydresser_c.specs.Calls.{Answered, IsMade, IsSame, IsUnknown, Replied, Tells, WhereKnown, is_open, operation_of_number};
+
+use crate::broker::Broker;
+use crate::granting::status_of;
+use crate::status;
+use access_core::AccessCore;
+use aql_packet::{Address, ClientId, SignalHandle};
+use core_model::Refusal;
+use sequences::Sequence;
+use signals::SignalOp;
+use std::alloc::Global;
+
+/// Writes bytes to memory, as a client.
+#[unsafe(no_mangle)]
+pub extern "C" fn hd_write(
+    alloc: Global,
+    broker: &mut Broker,
+    client: u32,
+    address: u64,
+    bytes: &[u8],
+) -> u32
+    ensures closed { is_open broker.old ≡ false → (result ≡ closed) × IsSame broker.old broker.new }
+    ensures open { is_open broker.new ≡ is_open broker.old }
+    ensures met { is_open broker.old ≡ true →
+        IsMade (event.Call (call.HostWrite (record { 0 = client }) (record { 0 = address }) bytes.now)) broker.old broker.new result
+        ⊎ ((result ≡ out_of_memory) × IsSame broker.old broker.new) }
+{
+    if !broker.is_open() {
+        return status::CLOSED;
+    }
+    let Ok(copy) = Vec::from_slice(alloc, bytes) else {
+        return status::OUT_OF_MEMORY;
+    };
+    let core = &mut broker.pointer.session_mut().core;
+    status_of(core.host_write(
+        alloc,
+        ClientId(client),
+        Address(address),
+        Sequence::from_vec(copy),
+    ))
+}
+
+// Tells a signal's value.
+fn tell_value(answer: Result<i64, Refusal>, out: &mut i64) -> u32
+    ensures { Tells (λ (value : ℤ). value) result out.old out.new answer }
+{
+    match answer {
+        Ok(value) => {
+            *out = value;
+            status::OK
+        }
+        Err(why) => status::of_refusal(why),
+    }
+}
+
+// The change of a number.
+fn operation_of_number(number: u32, value: i64, expected: i64) -> Option<SignalOp>
+    ensures { result ≡ operation_of_number number value expected }
+{
+    let operations = [
+        SignalOp::Store(value),
+        SignalOp::Add(value),
+        SignalOp::Subtract(value),
+        SignalOp::And(value),
+        SignalOp::Or(value),
+        SignalOp::Xor(value),
+        SignalOp::Exchange(value),
+        SignalOp::Cas { expected, value },
+    ];
+    operations.get(number as usize).copied()
+}
+
+/// Changes a signal, as a client.
+#[unsafe(no_mangle)]
+pub extern "C" fn hd_signal(
+    broker: &mut Broker,
+    client: u32,
+    signal: u64,
+    operation: u32,
+    value: i64,
+    expected: i64,
+    old: &mut i64,
+) -> u32
+    ensures closed { is_open broker.old ≡ false → (result ≡ closed) × IsSame broker.old broker.new × (old.new ≡ old.old) }
+    ensures open { is_open broker.new ≡ is_open broker.old }
+    ensures met { is_open broker.old ≡ true → WhereKnown (operation_of_number operation value expected)
+        (IsUnknown broker.old broker.new result × (old.new ≡ old.old))
+        (λ change. Answered (event.Call (call.ChangeSignal (record { 0 = client }) (record { 0 = signal }) change)) outcome.Changed broker.old broker.new
+        (Tells (λ (value : ℤ). value) result old.old old.new)) }
+{
+    if !broker.is_open() {
+        return status::CLOSED;
+    }
+    let Some(change) = operation_of_number(operation, value, expected) else {
+        return status::NO_SUCH;
+    };
+    let core = &mut broker.pointer.session_mut().core;
+    let answer = core.signal_op(ClientId(client), SignalHandle(signal), change);
+    tell_value(answer, old)
+}
+
+/// Loads a signal's value, as a client.
+#[unsafe(no_mangle)]
+pub extern "C" fn hd_load(broker: &mut Broker, client: u32, signal: u64, value: &mut i64) -> u32
+    ensures closed { is_open broker.old ≡ false → (result ≡ closed) × (value.new ≡ value.old) }
+    ensures same { IsSame broker.old broker.new }
+    ensures met { is_open broker.old ≡ true → Replied (query.LoadSignal (record { 0 = client }) (record { 0 = signal })) answers.Value broker.old
+        (Tells (λ (value : ℤ). value) result value.old value.new) }
+{
+    if !broker.is_open() {
+        return status::CLOSED;
+    }
+    let core = &mut broker.pointer.session_mut().core;
+    let answer = core.signal_load(ClientId(client), SignalHandle(signal));
+    tell_value(answer, value)
+}
+
+// Tells bytes.
+fn tell_bytes(answer: Result<Sequence<u8>, Refusal>, out: &mut [u8]) -> u32
+    requires { IfOk answer (λ bytes. length bytes ≡ length out.old) }
+    ensures { Tells (λ (bytes : List ℕ). bytes) result out.old out.new answer }
+{
+    match answer {
+        Ok(bytes) => {
+            out.copy_from_slice(bytes.as_slice());
+            status::OK
+        }
+        Err(why) => status::of_refusal(why),
+    }
+}
+
+// Reads bytes, as many as are asked for.
+fn read(
+    alloc: Global,
+    core: &AccessCore,
+    client: u32,
+    address: u64,
+    size: u64,
+) -> Result<Sequence<u8>, Refusal>
+    ensures told { RepliesOrLacks (query.HostRead (record { 0 = client }) (record { 0 = address }) size) core.now.history (map_ok answers.Bytes result) }
+    ensures long { IfOk result (λ bytes. length bytes ≡ size) }
+{
+    core.host_read(alloc, ClientId(client), Address(address), size)
+}
+
+/// Reads bytes of memory, as many as the buffer has, as a client.
+#[unsafe(no_mangle)]
+pub extern "C" fn hd_read(
+    alloc: Global,
+    broker: &mut Broker,
+    client: u32,
+    address: u64,
+    out: &mut [u8],
+) -> u32
+    ensures closed { is_open broker.old ≡ false → (result ≡ closed) × (out.new ≡ out.old) }
+    ensures same { IsSame broker.old broker.new }
+    ensures met { is_open broker.old ≡ true → Replied (query.HostRead (record { 0 = client }) (record { 0 = address }) (length out.old)) answers.Bytes broker.old
+        (Tells (λ (bytes : List ℕ). bytes) result out.old out.new) }
+{
+    if !broker.is_open() {
+        return status::CLOSED;
+    }
+    let core = &mut broker.pointer.session_mut().core;
+    let answer = read(alloc, core, client, address, out.len() as u64);
+    tell_bytes(answer, out)
+}

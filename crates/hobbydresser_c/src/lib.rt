@@ -1,0 +1,21 @@
+//! The broker's core for C: a handle over a core, and a call for each call of the core. Each answers a status, and
+//! leaves a broker that isn't open, and what it refuses, as they are. `include/hobbydresser.h` tells what C sees.
+
+// The check tries its tactics on what is left of each proof.
+#![tactic(auto)]
+
+mod broker;
+mod buffers;
+mod effects;
+mod granting;
+mod host;
+mod kernels;
+mod names;
+mod opening;
+mod packets;
+mod parts;
+mod queues;
+mod session;
+mod session_pointer;
+mod status;
+mod told;

@@ -1,0 +1,326 @@
+/* Runs a script over a policy as `brokerd run` does, by the library's calls alone: driver POLICY AUDIT. It knows the lines that are one of
+   these calls, and `submit` and `serve`, whose ring it keeps itself. Another line ends it with status 64, and its word told. */
+#include <inttypes.h>
+#include <stdio.h>
+#include <stdlib.h>
+#include <string.h>
+
+#include "hobbydresser.h"
+
+enum { QUEUES = 64, SLOTS = 4096, WORDS = 64 };
+
+static hd_broker broker = HD_BROKER;
+
+/* The ring of each queue: what was published and not yet retired. */
+static struct {
+    uint64_t size, producers, write, read;
+    uint8_t *packets;
+} rings[QUEUES + 1];
+
+static const char *const refusals[] = {
+    "OutOfMemory", "UnknownClient", "UnknownQueue", "Denied", "Busy", "NotAllowed", "OutOfStep", "QueueDown", "NotInFlight",
+    "NotFinished", "AuditFull", "BadSize", "TooMany", "UnknownObject",
+};
+static const char *const rules[] = {
+    "", "L1", "L2", "L3", "L4", "L5", "L6", "L7", "L8", "L9", "L10", "A1", "A2", "A3", "A4", "A5", "A6", "A7", "B1",
+};
+static const char *const rights[] = { "USE", "READ", "WRITE", "WAIT", "CHANGE", "LAUNCH" };
+static const char *const kinds[] = { "agent", "region", "signal", "kernel" };
+static const char *const changes[] = { "store", "add", "subtract", "and", "or", "xor", "exchange", "cas" };
+
+static void stop(const char *why)
+{
+    fflush(stdout);
+    fprintf(stderr, "%s\n", why);
+    exit(64);
+}
+
+static void *memory(size_t size)
+{
+    void *at = malloc(size ? size : 1);
+    if (!at) stop("no memory");
+    return at;
+}
+
+/* Which of some words a word is. */
+static uint32_t place(const char *const *words, uint32_t count, const char *word)
+{
+    for (uint32_t i = 0; i < count; i++)
+        if (strcmp(words[i], word) == 0) return i;
+    stop("a word that is none");
+    return 0;
+}
+
+static uint32_t number(uint32_t kind, const char *name)
+{
+    uint64_t found;
+    if (hd_number(&broker, kind, name, strlen(name), &found) != HD_OK) stop("hd_number");
+    return (uint32_t)found;
+}
+
+static uint32_t rights_in(char *word)
+{
+    uint32_t bits = 0;
+    if (strcmp(word, "-") == 0) return 0;
+    for (char *one = strtok(word, ","); one; one = strtok(NULL, ",")) bits |= 1u << place(rights, 6, one);
+    return bits;
+}
+
+/* The bytes of a word in hexadecimal. */
+static uint8_t *bytes_in(const char *word, size_t *length)
+{
+    *length = strlen(word) / 2;
+    uint8_t *bytes = memory(*length);
+    for (size_t i = 0; i < *length; i++) {
+        unsigned value;
+        if (sscanf(word + 2 * i, "%2x", &value) != 1) stop("no bytes");
+        bytes[i] = (uint8_t)value;
+    }
+    return bytes;
+}
+
+/* A refusal, and the right that its call lacks. */
+static void refuse(hd_status status, const char *right)
+{
+    if (status < 1 || status > 14) {
+        char why[64];
+        snprintf(why, sizeof why, "status %" PRIu32, status);
+        stop(why);
+    }
+    printf("refused %" PRIu32 " %s", status - 1, refusals[status - 1]);
+    if (status == HD_DENIED) printf(" %s", right);
+}
+
+static void answer(hd_status status, const char *right)
+{
+    if (status == HD_OK) printf("ok");
+    else refuse(status, right);
+    printf("\n");
+}
+
+static void tell_error(const hd_error *error)
+{
+    printf("queue %" PRIu64 " packet %" PRIu64 " rule %s", error->queue, error->packet, rules[error->rule]);
+    if (error->has_place) printf(" group %" PRIu32 " item %" PRIu32 " line %" PRIu32, error->group, error->item, error->line);
+}
+
+static void change_rights(int is_grant, char **words)
+{
+    uint32_t kind = place(kinds, 4, words[2]);
+    uint32_t client = number(HD_CLIENT, words[1]), object = number(kind, words[3]), bits = rights_in(words[4]);
+    uint64_t queue = 0, packet = 0;
+    if (is_grant) {
+        answer(hd_grant(&broker, client, kind, object, bits), "");
+        return;
+    }
+    hd_status status = hd_revoke(&broker, client, kind, object, bits, &queue, &packet);
+    if (status != HD_BUSY) {
+        answer(status, "");
+        return;
+    }
+    refuse(status, "");
+    printf(" queue %" PRIu64 " packet %" PRIu64 "\n", queue, packet);
+}
+
+static void open_queue(char **words)
+{
+    uint64_t queue, size = strtoull(words[3], NULL, 10), producers = strtoull(words[4], NULL, 10);
+    /* (a number of producers that a ring can't have is refused as a wrong size is) */
+    if (producers == 0 || producers > 16) size = 0;
+    hd_status status = hd_open_queue(&broker, number(HD_CLIENT, words[1]), number(HD_AGENT, words[2]), size, &queue);
+    if (status != HD_OK) {
+        answer(status, "USE");
+        return;
+    }
+    rings[queue].size = size;
+    rings[queue].producers = producers;
+    rings[queue].packets = memory(size * 64);
+    printf("queue %" PRIu64 "\n", queue);
+}
+
+static uint64_t queue_in(const char *word)
+{
+    uint64_t queue = strtoull(word, NULL, 10);
+    if (queue == 0 || queue > QUEUES || !rings[queue].packets) stop("a ring's refusal");
+    return queue;
+}
+
+static void submit(char **words)
+{
+    uint64_t queue = queue_in(words[1]);
+    size_t length;
+    uint64_t producer = strtoull(words[2], NULL, 10);
+    if (producer == 0 || producer > rings[queue].producers) stop("a ring's refusal");
+    if (rings[queue].write - rings[queue].read >= rings[queue].size) stop("a full ring");
+    uint8_t *bytes = bytes_in(words[3], &length);
+    if (length != 64) stop("a packet of another size");
+    if (bytes[0] == 1) stop("a packet of type INVALID");
+    memcpy(rings[queue].packets + rings[queue].write % rings[queue].size * 64, bytes, 64);
+    free(bytes);
+    printf("published %" PRIu64 "\n", rings[queue].write++);
+}
+
+static void serve(char **words)
+{
+    static const char *const causes[] = { "Barrier", "Active", "Slots" };
+    static const uint8_t none[64];
+    uint64_t queue = strtoull(words[1], NULL, 10), id, next;
+    hd_taken taken;
+    if (queue == 0 || queue > QUEUES || !rings[queue].packets) {
+        answer(hd_take(&broker, queue, 0, none, &taken, &next), "");
+        return;
+    }
+    id = rings[queue].read;
+    if (id == rings[queue].write) {
+        printf("empty\n");
+        return;
+    }
+    hd_status status = hd_take(&broker, queue, id, rings[queue].packets + id % rings[queue].size * 64, &taken, &next);
+    if (status != HD_OK) {
+        answer(status, "");
+        return;
+    }
+    if (taken.became >= HD_AWAITS_BARRIER) {
+        printf("waiting %" PRIu64 " %s\n", id, causes[taken.became - HD_AWAITS_BARRIER]);
+        return;
+    }
+    rings[queue].read++;
+    if (taken.became == HD_LAUNCHED) {
+        printf("launched %" PRIu64 "\n", id);
+        return;
+    }
+    printf("denied ");
+    tell_error(&taken.error);
+    printf("\n");
+}
+
+static void run(char **words)
+{
+    hd_worked worked;
+    hd_status status = hd_run(&broker, strtoull(words[1], NULL, 10), strtoull(words[2], NULL, 10), &worked);
+    if (status != HD_OK) {
+        answer(status, "");
+    } else if (worked.became == HD_RAN) {
+        printf("ran %" PRIu32 " left %" PRIu32 "\n", worked.group, worked.left);
+    } else if (worked.became == HD_DONE) {
+        printf("done\n");
+    } else {
+        printf("faulted ");
+        tell_error(&worked.error);
+        printf("\n");
+    }
+}
+
+static void poll_packet(char **words)
+{
+    hd_polled polled;
+    hd_status status = hd_poll(&broker, strtoull(words[1], NULL, 10), strtoull(words[2], NULL, 10), &polled);
+    if (status != HD_OK) {
+        answer(status, "");
+    } else if (polled.became == HD_FAILED) {
+        printf("failed ");
+        tell_error(&polled.error);
+        printf("\n");
+    } else {
+        printf(polled.became == HD_READY ? "ready\n" : "pending\n");
+    }
+}
+
+static void write_memory(char **words)
+{
+    size_t length;
+    uint8_t *bytes = bytes_in(words[3], &length);
+    answer(hd_write(&broker, number(HD_CLIENT, words[1]), strtoull(words[2], NULL, 16), bytes, length), "WRITE");
+    free(bytes);
+}
+
+static void read_memory(char **words)
+{
+    uint64_t asked = strtoull(words[3], NULL, 10);
+    /* (a range that no call may read needs no buffer of its size) */
+    size_t length = asked > 65537 ? 65537 : (size_t)asked;
+    uint8_t *bytes = memory(length);
+    hd_status status = hd_read(&broker, number(HD_CLIENT, words[1]), strtoull(words[2], NULL, 16), bytes, length);
+    if (status != HD_OK) {
+        answer(status, "READ");
+    } else {
+        printf("bytes ");
+        for (size_t i = 0; i < length; i++) printf("%02x", bytes[i]);
+        printf("\n");
+    }
+    free(bytes);
+}
+
+static void change_signal(char **words, int count)
+{
+    uint32_t change = place(changes, 8, words[3]);
+    int is_cas = change == HD_CAS;
+    if (count != (is_cas ? 6 : 5)) stop("another form");
+    int64_t old, value = strtoll(words[is_cas ? 5 : 4], NULL, 10), expected = is_cas ? strtoll(words[4], NULL, 10) : 0;
+    hd_status status = hd_signal(&broker, number(HD_CLIENT, words[1]), number(HD_SIGNAL, words[2]), change, value, expected, &old);
+    if (status != HD_OK || change < HD_EXCHANGE) answer(status, "CHANGE");
+    else printf("old %" PRId64 "\n", old);
+}
+
+static void load(char **words)
+{
+    int64_t value;
+    hd_status status = hd_load(&broker, number(HD_CLIENT, words[1]), number(HD_SIGNAL, words[2]), &value);
+    if (status != HD_OK) answer(status, "WAIT");
+    else printf("value %" PRId64 "\n", value);
+}
+
+/* Makes the call that a line is. */
+static void ask(char **words, int count)
+{
+    const char *verb = words[0];
+    if (strcmp(verb, "grant") == 0 && count == 5) change_rights(1, words);
+    else if (strcmp(verb, "revoke") == 0 && count == 5) change_rights(0, words);
+    else if (strcmp(verb, "queue") == 0 && count == 5) open_queue(words);
+    else if (strcmp(verb, "stop") == 0 && count == 2) answer(hd_stop(&broker, strtoull(words[1], NULL, 10)), "");
+    else if (strcmp(verb, "submit") == 0 && count == 4) submit(words);
+    else if (strcmp(verb, "serve") == 0 && count == 2) serve(words);
+    else if (strcmp(verb, "run") == 0 && count == 3) run(words);
+    else if (strcmp(verb, "poll") == 0 && count == 3) poll_packet(words);
+    else if (strcmp(verb, "finish") == 0 && count == 3)
+        answer(hd_finish(&broker, strtoull(words[1], NULL, 10), strtoull(words[2], NULL, 10)), "");
+    else if (strcmp(verb, "write") == 0 && count == 4) write_memory(words);
+    else if (strcmp(verb, "read") == 0 && count == 4) read_memory(words);
+    else if (strcmp(verb, "signal") == 0 && count >= 5) change_signal(words, count);
+    else if (strcmp(verb, "load") == 0 && count == 3) load(words);
+    else stop(verb);
+}
+
+static uint8_t *file(const char *path, size_t *length)
+{
+    FILE *in = fopen(path, "rb");
+    if (!in) stop(path);
+    fseek(in, 0, SEEK_END);
+    *length = (size_t)ftell(in);
+    rewind(in);
+    uint8_t *bytes = memory(*length);
+    if (fread(bytes, 1, *length, in) != *length) stop(path);
+    fclose(in);
+    return bytes;
+}
+
+int main(int count, char **arguments)
+{
+    static char line[1 << 20];
+    hd_fault fault = { 0 };
+    size_t length;
+    if (count != 3) stop("driver POLICY AUDIT");
+    uint8_t *policy = file(arguments[1], &length);
+    hd_status status = hd_open(&broker, policy, length, strtoull(arguments[2], NULL, 10), &fault);
+    free(policy);
+    if (status != HD_OK) refuse(status, "");
+    while (fgets(line, sizeof line, stdin)) {
+        char *words[WORDS];
+        int found = 0;
+        if (line[0] == '#') continue;
+        for (char *word = strtok(line, " \t\r\n"); word && found < WORDS; word = strtok(NULL, " \t\r\n")) words[found++] = word;
+        if (found) ask(words, found);
+    }
+    for (int i = 0; i <= QUEUES; i++) free(rings[i].packets);
+    return hd_close(&broker) == HD_OK && hd_close(&broker) == HD_CLOSED ? 0 : 65;
+}
