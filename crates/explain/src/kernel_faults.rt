@@ -152,7 +152,7 @@ fn trimmed(text: &[u8]) -> usize {
     end
 }
 
-// Whether a text is read to its end, or to behind a place.
+// Whether a text is read to its end, or past a place.
 fn is_read_on(alloc: Global, text: &[u8], at: Position) -> Result<bool, AllocError> {
     match read_module(alloc, text) {
         Ok(_) => Ok(true),
@@ -164,7 +164,7 @@ fn is_read_on(alloc: Global, text: &[u8], at: Position) -> Result<bool, AllocErr
     }
 }
 
-// The place behind the token before a fault, if the text is read on with a `;` there.
+// The place after the token before a fault, if the text is read on with a `;` there.
 fn missing_end(alloc: Global, text: &[u8], at: Position) -> Result<Option<Position>, AllocError> {
     let (front, _) = text.split_at(offset_of(text, at).min(text.len()));
     let before = trimmed(front).min(text.len());
@@ -181,7 +181,7 @@ fn missing_end(alloc: Global, text: &[u8], at: Position) -> Result<Option<Positi
     }
 }
 
-// Puts what helps where a text is no module behind a text, and tells where that lies.
+// Adds what helps where a text is no module to the output, and tells where that lies.
 fn put_reading(
     alloc: Global,
     out: &mut String,
@@ -213,7 +213,7 @@ fn put_reading(
     Ok(end)
 }
 
-// Puts what helps with a fault of a text behind a text, and tells where that lies; none where nothing is known to help.
+// Adds what helps with a fault of a text to the output, and tells where that lies; none where nothing is known to help.
 fn put_help(
     alloc: Global,
     out: &mut String,
@@ -264,7 +264,7 @@ pub fn text_help(
     Ok(out)
 }
 
-// What stands in a string of TOML from its first letter on: behind its quotes, and behind the end of the line after three.
+// What stands in a string of TOML from its first letter on: after its quotes, and after the end of the line after three.
 fn inside(value: &str) -> &str {
     for quotes in ["'''", "\"\"\""] {
         if let Some(text) = value.strip_prefix(quotes) {
@@ -297,7 +297,7 @@ fn source_of<'a>(file: File<'a>, kernel: u32, text: &'a str) -> Result<Source<'a
     })
 }
 
-// Puts the name of a policy's kernel behind a text.
+// Adds the name of a policy's kernel to the output.
 fn put_name(out: &mut String, policy: &Policy, kernel: u32) -> Result<(), AllocError> {
     match policy.object_name(Object::Kernel(KernelObject(kernel as u64))) {
         Some(name) => write!(out, "kernel {name}"),

@@ -99,7 +99,7 @@ fn over_of(operation: &Operation) -> Option<Over> {
         .or(over_in(&operands.fourth))
 }
 
-// Puts the range of a type's bits behind a text.
+// Adds the range of a type's bits to the output.
 fn put_range(out: &mut String, kind: DataType) -> Result<(), AllocError> {
     if kind == DataType::B1 {
         return out.push_str("a number of 1 bit is 0 or 1\n");
@@ -110,7 +110,7 @@ fn put_range(out: &mut String, kind: DataType) -> Result<(), AllocError> {
     writeln!(out, "a number of {bits} bits is -{depth} to {greatest}")
 }
 
-// Puts a number that is over its limit, and the limit, behind a text.
+// Adds a number that is over its limit, and the limit, to the output.
 fn put_over(out: &mut String, over: Over) -> Result<(), AllocError> {
     match over {
         Over::Register(register) => {
@@ -138,7 +138,7 @@ fn put_over(out: &mut String, over: Over) -> Result<(), AllocError> {
     }
 }
 
-// Puts which limit an item of a kernel passes behind a text, if it stands in a line; whether it does.
+// Adds which limit an item of a kernel passes to the output, if it stands in a line; whether it does.
 fn put_item(out: &mut String, item: &Item, line: u32) -> Result<bool, AllocError> {
     match item {
         Item::Instruction(instruction) if instruction.line == line => {
@@ -156,7 +156,7 @@ fn put_item(out: &mut String, item: &Item, line: u32) -> Result<bool, AllocError
     Ok(true)
 }
 
-// Puts which limit the items of a kernel pass in a line behind a text; whether one of them does.
+// Adds which limit the items of a kernel pass in a line to the output; whether one of them does.
 fn put_items(out: &mut String, items: &[Item], line: u32) -> Result<bool, AllocError> {
     for item in items {
         if put_item(out, item, line)? {
@@ -175,7 +175,7 @@ fn has_argument(kernel: &Kernel, line: u32) -> bool {
         .any(|argument| argument.line == line)
 }
 
-// Puts which limit a kernel passes in a line behind a text; whether one is known.
+// Adds which limit a kernel passes in a line to the output; whether one is known.
 fn put_kernel(out: &mut String, kernel: &Kernel, line: u32) -> Result<bool, AllocError> {
     if put_items(out, kernel.items.as_slice(), line)? {
         return Ok(true);
@@ -190,7 +190,7 @@ fn put_kernel(out: &mut String, kernel: &Kernel, line: u32) -> Result<bool, Allo
     Ok(false)
 }
 
-// Puts which limit a module passes in a line behind a text.
+// Adds which limit a module passes in a line to the output.
 fn put_module(out: &mut String, module: &Module, line: u32) -> Result<(), AllocError> {
     for (index, kernel) in module.kernels.as_slice().iter().enumerate() {
         if index >= MAX_KERNELS && kernel.line == line {
@@ -206,7 +206,7 @@ fn put_module(out: &mut String, module: &Module, line: u32) -> Result<(), AllocE
     )
 }
 
-/// Puts which limit a line of a kernel's text passes, with its number, behind a text.
+/// Adds which limit a line of a kernel's text passes, with its number, to the output.
 pub fn put_limit(
     alloc: Global,
     out: &mut String,

@@ -28,7 +28,7 @@ pub fn small(number: usize) -> u32 {
     }
 }
 
-// Whether a key stands next that is this one, without dots, and what stands behind it; none where no key stands there.
+// Whether a key stands next that is this one, without dots, and what stands after it; none where no key stands there.
 fn key_next<'a>(
     alloc: Global,
     text: &'a str,
@@ -59,7 +59,7 @@ fn pair_next<'a>(
     }
 }
 
-// Whether a table's header of this name stands next, and what stands behind it.
+// Whether a table's header of this name stands next, and what stands after it.
 fn header_next<'a>(
     alloc: Global,
     text: &'a str,
@@ -78,7 +78,7 @@ fn header_next<'a>(
     }
 }
 
-// What stands behind a string.
+// What stands after a string.
 fn behind_string<'a>(alloc: Global, text: &'a str) -> Result<Option<&'a str>, AllocError> {
     if !starts_string(text) {
         return Ok(None);
@@ -90,7 +90,7 @@ fn behind_string<'a>(alloc: Global, text: &'a str) -> Result<Option<&'a str>, Al
     }
 }
 
-// What stands behind a string, or behind one letter of ASCII.
+// What stands after a string, or after one letter of ASCII.
 fn behind_piece<'a>(alloc: Global, text: &'a str) -> Result<Option<&'a str>, AllocError> {
     if starts_string(text) {
         return behind_string(alloc, text);
@@ -101,7 +101,7 @@ fn behind_piece<'a>(alloc: Global, text: &'a str) -> Result<Option<&'a str>, All
     }
 }
 
-// In how many brackets one stands behind what stands next.
+// In how many brackets one stands after what stands next.
 fn depth_behind(depth: usize, text: &str) -> usize {
     match text.as_bytes() {
         [b'[' | b'{', ..] => depth.saturating_add(1),
@@ -118,7 +118,7 @@ fn ends_value(text: &str) -> bool {
     )
 }
 
-// What stands behind blanks: within brackets, behind ends of lines and remarks too.
+// What stands after blanks: within brackets, after ends of lines and remarks too.
 fn behind_blanks(text: &str, depth: usize) -> &str {
     if depth > 0 {
         skip_blank(text, true)
@@ -127,7 +127,7 @@ fn behind_blanks(text: &str, depth: usize) -> &str {
     }
 }
 
-// What stands behind a value; none where it doesn't end.
+// What stands after a value; none where it doesn't end.
 fn behind_value<'a>(alloc: Global, value: &'a str) -> Result<Option<&'a str>, AllocError> {
     let mut rest = value;
     let mut depth = 0;
@@ -145,7 +145,7 @@ fn behind_value<'a>(alloc: Global, value: &'a str) -> Result<Option<&'a str>, Al
     Ok(Some(rest))
 }
 
-// What stands behind a value and a comma; none where no comma stands there.
+// What stands after a value and a comma; none where no comma stands there.
 fn behind_comma<'a>(alloc: Global, value: &'a str) -> Result<Option<&'a str>, AllocError> {
     match behind_value(alloc, value)? {
         Some(behind) => Ok(skip_blank(behind, true).strip_prefix(",")),
@@ -199,7 +199,7 @@ struct Wanted<'a> {
     key: &'a str,
 }
 
-/// What was found in a file, each as what stands there and behind it.
+/// What was found in a file, each as what stands there and after it.
 #[derive(Clone, Copy)]
 pub struct Found<'a> {
     text: &'a str,
@@ -322,7 +322,7 @@ fn with_pair<'a>(
     }
 }
 
-// Looks on behind blanks; none at the end, and where nothing is found any more.
+// Looks on after blanks; none at the end, and where nothing is found any more.
 fn looked_on<'a>(
     alloc: Global,
     looked: Looked<'a>,
@@ -436,7 +436,7 @@ pub fn position_at(text: &[u8], before: usize) -> Position {
     Position { line, column }
 }
 
-/// Puts the beginning of an explanation behind a text: the file, and the place where it is known.
+/// Adds the beginning of an explanation to the output: the file, and the place where it is known.
 pub fn begin(out: &mut String, file: &str, place: Place) -> Result<(), AllocError> {
     out.push_str(file)?;
     match place {
