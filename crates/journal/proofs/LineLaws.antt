@@ -1,6 +1,6 @@
 -- The lines of a journal are read as they were written, and lists of entries of the same lines are one.
-use Rattle.std.proofs.Common.{◌≡◌, ℕ, zero, suc, ◌+◌, ◌-◌, ◌*◌, ◌<◌, true, false, List, [], ◌∷◌, ◌++◌, length, map, take, drop, Some, refl, sym, ap, ◌∙◌, arith, append_assoc, append-nil, length-append}
-use Rattle.std.specs.Prelude.{◌^◌, nat_lt, decimal, ◌==◌, bytes_eq, option_map, option_and_then}
+use Rattle.std.proofs.Common.{◌≡◌, ℕ, zero, suc, ◌+◌, ◌-◌, ◌*◌, ◌<◌, Bool, true, false, List, [], ◌∷◌, ◌++◌, length, map, take, drop, Option, Some, None, Ok, Err, refl, sym, ap, ◌∙◌, arith, append_assoc, append-nil, length-append}
+use Rattle.std.specs.Prelude.{◌^◌, nat_lt, codes, decimal, ◌==◌, bytes_eq, is_some, option_map, option_and_then, if◌then◌else◌}
 use Rattle.std.specs.List.{list_all}
 use Rattle.std.proofs.lemmas.Bool.Decides.{nat_tests}
 use Rattle.std.proofs.lemmas.List.{append_cancel_left}
@@ -8,12 +8,15 @@ use Rattle.std.proofs.Math.Seq.{drop-append_seam, take-append_seam}
 use Rattle.sha2.specs.Sha256.{digest_bytes, final_hash, initial_hash_256, sha256}
 use Rattle.core_model.specs.declared.entry.Entry.{Entry}
 use Rattle.journal.specs.declared.chain.Chain.{Chain}
-use Rattle.journal.specs.Words.{Text, Word, Reading, text_of, text_of_bytes, behind_blanks, fits, has_no_blank, words_from}
-use Rattle.journal.specs.Entries.{all_fit, fit, words_of_entry}
+use Rattle.journal.specs.declared.chain.Head.{Head}
+use Rattle.journal.specs.declared.faults.HeadFault.TheVariants as head_fault
+use Rattle.journal.specs.declared.faults.LineFault.{LineFault}
+use Rattle.journal.specs.Words.{Text, Word, Name, Number, Bytes, Reading, text_of, text_of_bytes, behind_blanks, fits, has_no_blank, words_from}
+use Rattle.journal.specs.Entries.{all_fit, fit, words_of_entry, words_of_list}
 use Rattle.journal.specs.Readings.{done, entry_at}
-use Rattle.journal.specs.Lines.{digest_of, line, numbered, after, entry_line, entry_lines, line_text, entry_behind_number, entry_of_line}
+use Rattle.journal.specs.Lines.{digest_of, line, numbered, after, entry_line, entry_lines, line_text, behind_text, entry_behind_number, entry_of_line, entry_of_text, fault_behind, fault_in, fault_of_line, head_in, head_of_line, head_over, is_end, no_digest, numbers_in, other_number, text_of_end, text_of_head, unless_entry, words_of_head}
 use Rattle.journal.proofs.WordSteps.{at_blank}
-use Rattle.journal.proofs.WordLaws.{both_first, both_second, bytes_no_blank, decimal_no_blank, past_word, split_as_written, word_no_blank}
+use Rattle.journal.proofs.WordLaws.{both_first, both_second, bytes_no_blank, decimal_no_blank, number_read, past_word, split_as_written, word_no_blank}
 use Rattle.journal.proofs.EntryLaws.{told, entry_read}
 
 -- what stands behind the text of a line: its digest behind a blank, a line feed, and further lines
@@ -138,7 +141,7 @@ line_text_read last text =
 
 -- the line of an entry is read as that entry, where its number has 64 bits
 pub line_read : (chain : Chain) (entry : Entry) → chain.number + 1 < 2 ^ 64 → fit (words_of_entry entry) ≡ true →
-    entry_of_line chain (entry_line chain entry) ≡ Some entry
+    entry_of_line chain (entry_line chain entry) ≡ Some (entry, after chain entry)
 line_read chain entry small f =
     let words : words_from [] (numbered (chain.number + 1) entry) ≡ decimal (chain.number + 1) ∷ map text_of (words_of_entry entry) =
     split_as_written (decimal (chain.number + 1)) (words_of_entry entry) (decimal_no_blank (chain.number + 1) small) f in
@@ -146,5 +149,77 @@ line_read chain entry small f =
     let read : entry_at (map text_of (words_of_entry entry)) ≡ Some (entry, []) = ap entry_at (sym whole) ∙ entry_read entry [] f in
     let found : entry_behind_number (chain.number + 1) (decimal (chain.number + 1) ∷ map text_of (words_of_entry entry)) ≡ Some entry =
     rw (same_bytes (decimal (chain.number + 1))) (ap done read) in
-    ap (option_and_then (λ text. entry_behind_number (chain.number + 1) (words_from [] text))) (line_text_read chain.digest (numbered (chain.number + 1) entry))
-    ∙ ap (entry_behind_number (chain.number + 1)) words ∙ found
+    ap (option_and_then (entry_of_text chain)) (line_text_read chain.digest (numbered (chain.number + 1) entry))
+    ∙ ap (option_map (λ read. (read, after chain entry))) (ap (entry_behind_number (chain.number + 1)) words ∙ found)
+
+-- ---- heads, ends and faults
+
+-- the head of a journal is read as it was written, over the policies that it tells
+pub head_read : (head : Head) → fit (words_of_head head) ≡ true → head_of_line head.policies (line [] (text_of_head head)) ≡ Ok head
+head_read head f =
+    let capacity : fits (Number 64 head.capacity) ≡ true = both_first (fits (Number 64 head.capacity)) _ f in
+    let behind : fit (Number 64 head.before ∷ words_of_list (λ digest. Bytes digest ∷ []) head.policies) ≡ true = both_second (fits (Number 64 head.capacity)) _ f in
+    let before : fits (Number 64 head.before) ≡ true = both_first (fits (Number 64 head.before)) _ behind in
+    let words : words_from [] (text_of_head head) ≡ codes "journal" ∷ map text_of (Name (codes "1") ∷ words_of_head head) =
+    split_as_written (codes "journal") (Name (codes "1") ∷ words_of_head head) refl f in
+    let numbers : numbers_in (words_from [] (text_of_head head)) ≡ Some (head.capacity, head.before) =
+    ap numbers_in words ∙ rw (number_read 64 head.capacity capacity, number_read 64 head.before before) refl in
+    ap (λ found. elim found [ None ↦ Err head_fault.OtherDigest | Some text ↦ head_in head.policies text ]) (line_text_read [] (text_of_head head))
+    ∙ ap (λ found. elim found [ None ↦ Err head_fault.NoHead | Some read ↦ head_over head.policies (text_of_head head) read ]) numbers
+    ∙ rw (same_bytes (text_of_head head)) refl
+
+-- and so is its end
+pub end_read : (chain : Chain) → is_end chain (line chain.digest (text_of_end chain)) ≡ true
+end_read chain = same_bytes (line chain.digest (text_of_end chain))
+
+-- a line has a fault just where it isn't read as an entry
+behind_fault : (number : ℕ) (text : Text) (words : List Text) (fault : LineFault) → fault_behind number text words ≡ Some fault → entry_behind_number number words ≡ None
+behind_fault number text [] fault e = refl
+behind_fault number text (word ∷ words) fault e = by_number (bytes_eq word (decimal number)) (done (entry_at words)) e
+  where
+    by_number : (b : Bool) (read : Option Entry) → (if b then unless_entry word (is_some read) else other_number) ≡ Some fault → (if b then read else None) ≡ None
+    by_number true None same = refl
+    by_number true (Some entry) same = absurd cc
+    by_number false read same = refl
+
+behind_read : (number : ℕ) (text : Text) (words : List Text) → fault_behind number text words ≡ None → (entry : Entry) × (entry_behind_number number words ≡ Some entry)
+behind_read number text [] e = absurd cc
+behind_read number text (word ∷ words) e = by_number (bytes_eq word (decimal number)) (done (entry_at words)) e
+  where
+    by_number : (b : Bool) (read : Option Entry) → (if b then unless_entry word (is_some read) else other_number) ≡ None → (entry : Entry) × ((if b then read else None) ≡ Some entry)
+    by_number true None same = absurd cc
+    by_number true (Some entry) same = (entry, refl)
+    by_number false read same = absurd cc
+
+short_unread : (chain : Chain) (bytes : Text) → nat_lt (length bytes) 65 ≡ true → entry_of_line chain bytes ≡ None
+short_unread chain bytes short = rw short refl
+
+long_line : (chain : Chain) (bytes : Text) → nat_lt (length bytes) 65 ≡ false → fault_of_line chain bytes ≡ fault_in chain bytes (line_text chain.digest bytes)
+long_line chain bytes long = ap (λ b. if b then no_digest bytes else fault_in chain bytes (line_text chain.digest bytes)) long
+
+short_line : (chain : Chain) (bytes : Text) → nat_lt (length bytes) 65 ≡ true → fault_of_line chain bytes ≡ no_digest bytes
+short_line chain bytes short = ap (λ b. if b then no_digest bytes else fault_in chain bytes (line_text chain.digest bytes)) short
+
+text_fault : (chain : Chain) (bytes : Text) (fault : LineFault) (found : Option Text) → fault_in chain bytes found ≡ Some fault → option_and_then (entry_of_text chain) found ≡ None
+text_fault chain bytes fault None same = refl
+text_fault chain bytes fault (Some text) same = ap (option_map (λ entry. (entry, behind_text chain text))) (behind_fault (chain.number + 1) text (words_from [] text) fault same)
+
+text_read : (chain : Chain) (bytes : Text) (found : Option Text) → fault_in chain bytes found ≡ None → (read : Entry × Chain) × (option_and_then (entry_of_text chain) found ≡ Some read)
+text_read chain bytes None same = absurd cc
+text_read chain bytes (Some text) same =
+    let there = behind_read (chain.number + 1) text (words_from [] text) same in
+    ((there.0, behind_text chain text), ap (option_map (λ entry. (entry, behind_text chain text))) there.1)
+
+pub fault_told : (chain : Chain) (bytes : Text) (fault : LineFault) → fault_of_line chain bytes ≡ Some fault → entry_of_line chain bytes ≡ None
+fault_told chain bytes fault e = by_length (nat_lt (length bytes) 65) refl
+  where
+    by_length : (b : Bool) → nat_lt (length bytes) 65 ≡ b → entry_of_line chain bytes ≡ None
+    by_length true short = short_unread chain bytes short
+    by_length false long = text_fault chain bytes fault (line_text chain.digest bytes) (sym (long_line chain bytes long) ∙ e)
+
+pub no_fault_read : (chain : Chain) (bytes : Text) → fault_of_line chain bytes ≡ None → (read : Entry × Chain) × (entry_of_line chain bytes ≡ Some read)
+no_fault_read chain bytes e = by_length (nat_lt (length bytes) 65) refl
+  where
+    by_length : (b : Bool) → nat_lt (length bytes) 65 ≡ b → (read : Entry × Chain) × (entry_of_line chain bytes ≡ Some read)
+    by_length true short = let no : no_digest bytes ≡ None = sym (short_line chain bytes short) ∙ e in absurd cc
+    by_length false long = text_read chain bytes (line_text chain.digest bytes) (sym (long_line chain bytes long) ∙ e)

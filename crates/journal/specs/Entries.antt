@@ -146,10 +146,13 @@ words_of_effect (effect.Write address bytes) = Name (codes "write") ∷ Number 6
 words_of_effect (effect.Signal signal old new) = Name (codes "signal") ∷ Number 64 signal.0 ∷ Signed old ∷ Signed new ∷ []
 words_of_effect (effect.Release queue packet) = Name (codes "release") ∷ words_of_packet queue packet
 
+-- what the call of an entry came to, and the changes that it made
+abbrev pub words_of_result : Entry → List Word
+words_of_result entry = words_of_outcome entry.outcome ++ words_of_list words_of_effect entry.effects
+
 -- an entry: what happened, what it came to, and the changes that it made
 abbrev pub words_of_entry : Entry → List Word
-words_of_entry entry =
-    words_of_event entry.event ++ (words_of_outcome entry.outcome ++ words_of_list words_of_effect entry.effects)
+words_of_entry entry = words_of_event entry.event ++ words_of_result entry
 
 -- an entry as text, each word behind a blank
 abbrev pub text_of_entry : Entry → Text

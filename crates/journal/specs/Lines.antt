@@ -1,10 +1,14 @@
 -- The lines of a journal: a head, an entry a line, and an end, each with the digest of the line before and its own text (own).
-use Rattle.std.specs.Prelude.{ℕ, ◌+◌, ◌-◌, List, [], ◌∷◌, ◌++◌, length, take, drop, codes, decimal, Option, Some, None, option_and_then, bytes_eq, nat_lt, if◌then◌else◌}
+use Rattle.std.specs.Prelude.{ℕ, ◌+◌, ◌-◌, Bool, List, [], ◌∷◌, ◌++◌, length, take, drop, codes, decimal, Option, Some, None, option_and_then, option_map, Result, Ok, Err, bytes_eq, is_some, nat_lt, if◌then◌else◌}
 use Rattle.sha2.specs.Sha256.{sha256}
 use Rattle.core_model.specs.declared.entry.Entry.{Entry}
 use Rattle.journal.specs.declared.chain.Chain.{Chain}
 use Rattle.journal.specs.declared.chain.Head.{Head}
-use Rattle.journal.specs.Words.{Text, Number, Bytes, behind_blanks, text_of_bytes, words_from}
+use Rattle.journal.specs.declared.faults.HeadFault.{HeadFault}
+use Rattle.journal.specs.declared.faults.HeadFault.TheVariants as head_fault
+use Rattle.journal.specs.declared.faults.LineFault.{LineFault}
+use Rattle.journal.specs.declared.faults.LineCause.TheVariants as cause
+use Rattle.journal.specs.Words.{Text, Word, Number, Bytes, Reading, and_then, behind_blanks, number_at, text_of_bytes, word_at, words_from}
 use Rattle.journal.specs.Entries.{text_of_entry, words_of_list}
 use Rattle.journal.specs.Readings.{done, entry_at}
 
@@ -20,9 +24,13 @@ line last text = text ++ 32 ∷ text_of_bytes (digest_of last text)
 abbrev pub numbered : ℕ → Entry → Text
 numbered number entry = decimal number ++ text_of_entry entry
 
+-- where a journal stands behind a line of the next entry, of this text
+abbrev pub behind_text : Chain → Text → Chain
+behind_text chain text = record { digest = digest_of chain.digest text; number = chain.number + 1 }
+
 -- where a journal stands behind an entry
 abbrev pub after : Chain → Entry → Chain
-after chain entry = record { digest = digest_of chain.digest (numbered (chain.number + 1) entry); number = chain.number + 1 }
+after chain entry = behind_text chain (numbered (chain.number + 1) entry)
 
 -- the line of an entry, where a journal stands so
 abbrev pub entry_line : Chain → Entry → Text
@@ -33,10 +41,13 @@ unfoldable pub entry_lines : Chain → List Entry → Text
 entry_lines chain [] = []
 entry_lines chain (entry ∷ entries) = entry_line chain entry ++ 10 ∷ entry_lines (after chain entry) entries
 
--- the text of a head: the version of the form, the audit's room, how many entries came before, and the digests of the policies
+-- what a head tells: the audit's room, how many entries came before, and the digests of the policies
+abbrev pub words_of_head : Head → List Word
+words_of_head head = Number 64 head.capacity ∷ Number 64 head.before ∷ words_of_list (λ digest. Bytes digest ∷ []) head.policies
+
+-- the text of a head, behind the version of the form
 abbrev pub text_of_head : Head → Text
-text_of_head head =
-    codes "journal 1" ++ behind_blanks (Number 64 head.capacity ∷ Number 64 head.before ∷ words_of_list (λ digest. Bytes digest ∷ []) head.policies)
+text_of_head head = codes "journal 1" ++ behind_blanks (words_of_head head)
 
 -- where a journal stands behind its head
 abbrev pub behind_head : Head → Chain
@@ -60,6 +71,72 @@ abbrev pub entry_behind_number : ℕ → List Text → Option Entry
 entry_behind_number number [] = None
 entry_behind_number number (word ∷ words) = if bytes_eq word (decimal number) then done (entry_at words) else None
 
--- the entry of a line, where a journal stands so
-abbrev pub entry_of_line : Chain → Text → Option Entry
-entry_of_line chain bytes = option_and_then (λ text. entry_behind_number (chain.number + 1) (words_from [] text)) (line_text chain.digest bytes)
+-- the next entry of a text, and where the journal stands behind it
+abbrev pub entry_of_text : Chain → Text → Option (Entry × Chain)
+entry_of_text chain text = option_map (λ entry. (entry, behind_text chain text)) (entry_behind_number (chain.number + 1) (words_from [] text))
+
+-- the next entry of a line, where a journal stands so, and where it stands behind that
+abbrev pub entry_of_line : Chain → Text → Option (Entry × Chain)
+entry_of_line chain bytes = option_and_then (entry_of_text chain) (line_text chain.digest bytes)
+
+-- ---- heads and ends
+
+-- the capacity, and how many entries came before, of a head of this version
+abbrev pub numbers_at : List Text → Reading (ℕ × ℕ)
+numbers_at words = and_then (number_at 64 words) (λ capacity rest. and_then (number_at 64 rest) (λ before last. Some ((capacity, before), last)))
+
+-- they stand behind the version's number
+abbrev pub version_at : List Text → Reading (ℕ × ℕ)
+version_at words = and_then (word_at words) (λ word rest. if bytes_eq word (codes "1") then numbers_at rest else None)
+
+-- and that behind the form's name
+abbrev pub numbers_in : List Text → Option (ℕ × ℕ)
+numbers_in [] = None
+numbers_in (word ∷ words) = if bytes_eq word (codes "journal") then option_map (λ read. read.0) (version_at words) else None
+
+-- the head of a text, if it is that of a journal over just these policies
+abbrev pub head_over : List (List ℕ) → Text → ℕ × ℕ → Result Head HeadFault
+head_over policies text numbers =
+    if bytes_eq text (text_of_head (record { capacity = numbers.0; before = numbers.1; policies = policies }))
+    then Ok (record { capacity = numbers.0; before = numbers.1; policies = policies }) else Err head_fault.OtherPolicies
+
+-- the head of a text
+abbrev pub head_in : List (List ℕ) → Text → Result Head HeadFault
+head_in policies text = elim (numbers_in (words_from [] text)) [ None ↦ Err head_fault.NoHead | Some numbers ↦ head_over policies text numbers ]
+
+-- the head of a journal over these policies, of its first line
+abbrev pub head_of_line : List (List ℕ) → Text → Result Head HeadFault
+head_of_line policies bytes = elim (line_text [] bytes) [ None ↦ Err head_fault.OtherDigest | Some text ↦ head_in policies text ]
+
+-- whether a line is the last of a journal that stands so
+abbrev pub is_end : Chain → Text → Bool
+is_end chain bytes = bytes_eq bytes (line chain.digest (text_of_end chain))
+
+-- ---- faults
+
+-- another number stands at the beginning of a line, or none
+abbrev pub other_number : Option LineFault
+other_number = Some (record { cause = cause.OtherNumber; column = 1 })
+
+-- what stands behind this word, which is the number, is an entry, or isn't
+abbrev pub unless_entry : Text → Bool → Option LineFault
+unless_entry word is = if is then None else Some (record { cause = cause.NoEntry; column = length word + 2 })
+
+-- why a text with a good digest is no entry of this number
+abbrev pub fault_behind : ℕ → Text → List Text → Option LineFault
+fault_behind number text [] = other_number
+fault_behind number text (word ∷ words) = if bytes_eq word (decimal number) then unless_entry word (is_some (done (entry_at words))) else other_number
+
+-- the digest of a line is another, or is that of this text
+abbrev pub fault_in : Chain → Text → Option Text → Option LineFault
+fault_in chain bytes None = Some (record { cause = cause.OtherDigest; column = length bytes - 63 })
+fault_in chain bytes (Some text) = fault_behind (chain.number + 1) text (words_from [] text)
+
+-- a line is too short for a digest
+abbrev pub no_digest : Text → Option LineFault
+no_digest bytes = Some (record { cause = cause.NoDigest; column = length bytes + 1 })
+
+-- why a line isn't that of the next entry, and at which byte, from 1: its digest is missing or another, its number is another, or what
+-- stands behind its number is no entry
+abbrev pub fault_of_line : Chain → Text → Option LineFault
+fault_of_line chain bytes = if nat_lt (length bytes) 65 then no_digest bytes else fault_in chain bytes (line_text chain.digest bytes)

@@ -1,13 +1,14 @@
 //! The lines of a journal, each with the digest of the line before and of its own text.
 
-ghost use Rattle.std.specs.Prelude.{◌≡◌, ◌++◌, ◌∷◌, ◌+◌, ◌<◌, ◌^◌, [], IfOk, OnOk, option_copied, string_bytes};
-ghost use Rattle.journal.specs.Entries.{words_of_list};
-ghost use Rattle.journal.specs.Words.{Bytes, behind_blanks, words_from};
-ghost use Rattle.journal.specs.Lines.{digest_of, line, numbered, after, entry_line, text_of_head, behind_head, text_of_end, line_text, entry_behind_number, entry_of_line};
+ghost use Rattle.std.specs.Prelude.{◌≡◌, ◌++◌, ◌+◌, ◌<◌, ◌^◌, [], IfOk, IfSome, OnOk, is_some, option_map, string_bytes};
+ghost use Rattle.journal.specs.Words.{words_behind, words_from};
+ghost use Rattle.journal.specs.Readings.{done, entry_at};
+ghost use Rattle.journal.specs.Lines.{digest_of, line, numbered, after, entry_line, line_text, entry_behind_number, entry_of_text, entry_of_line, fault_behind, fault_of_line};
 
+use crate::faults::{LineCause, LineFault};
 use crate::outcomes::{entry_at, whole};
 use crate::spelling::write_bytes;
-use crate::splitting::split_word;
+use crate::splitting::{Rest, split_word};
 use crate::writing::write_entry;
 use core_model::Entry;
 use sequences::Sequence;
@@ -37,7 +38,7 @@ pub struct Head {
 
 // The digest of a line (FIPS 180-4, SHA-256).
 #[tactic(auto, unfolding(crate::specs::Lines::digest_of))]
-fn digest_of(last: &[u8], text: &[u8]) -> [u8; 32]
+pub(crate) fn digest_of(last: &[u8], text: &[u8]) -> [u8; 32]
     ensures { result ≡ digest_of last.now text.now }
 {
     let mut hasher = Sha256::new();
@@ -47,7 +48,7 @@ fn digest_of(last: &[u8], text: &[u8]) -> [u8; 32]
 }
 
 // Writes a line of a text without its line feed, and tells its digest.
-fn write_line(out: &mut String, last: &[u8], text: &str) -> Result<[u8; 32], AllocError>
+pub(crate) fn write_line(out: &mut String, last: &[u8], text: &str) -> Result<[u8; 32], AllocError>
     ensures text { OnOk result (string_bytes out.new ≡ string_bytes out.old ++ line last.now text.now) }
     ensures digest { IfOk result (λ digest. digest ≡ digest_of last.now text.now) }
 {
@@ -85,63 +86,25 @@ pub fn write_entry_line(
     Ok(Chain { digest, number })
 }
 
-// Writes the digests of policies, each behind a blank.
-fn write_policies(out: &mut String, policies: &[[u8; 32]]) -> Result<(), AllocError>
-    ensures { OnOk result (string_bytes out.new ≡ string_bytes out.old ++ behind_blanks (words_of_list (λ digest. Bytes digest ∷ []) policies.now)) }
-{
-    write!(out, " {}", policies.len())?;
-    for policy in policies {
-        out.push_str(" ")?;
-        write_bytes(out, policy)?;
-    }
-    Ok(())
-}
-
-// The text of a head.
-fn head_text(alloc: Global, head: &Head) -> Result<String, AllocError>
-    ensures { IfOk result (λ text. string_bytes text ≡ text_of_head head.now) }
-{
-    let mut text = String::new(alloc);
-    write!(text, "journal 1 {} {}", head.capacity, head.before)?;
-    write_policies(&mut text, head.policies.as_slice())?;
-    Ok(text)
-}
-
-/// Writes the first line of a journal without its line feed, and tells where the journal stands behind it.
-pub fn write_head(out: &mut String, alloc: Global, head: &Head) -> Result<Chain, AllocError>
-    ensures text { OnOk result (string_bytes out.new ≡ string_bytes out.old ++ line [] (text_of_head head.now)) }
-    ensures chain { IfOk result (λ chain. chain ≡ behind_head head.now) }
-{
-    let text = head_text(alloc, head)?;
-    let digest = write_line(out, &[], text.as_str())?;
-    Ok(Chain {
-        digest,
-        number: head.before,
-    })
-}
-
-/// Writes the last line of a journal without its line feed: the number of its last entry.
-pub fn write_end(out: &mut String, alloc: Global, chain: &Chain) -> Result<(), AllocError>
-    ensures { OnOk result (string_bytes out.new ≡ string_bytes out.old ++ line chain.now.digest (text_of_end chain.now)) }
-{
-    let text = format!(in alloc; "end {}", chain.number)?;
-    write_line(out, &chain.digest, text.as_str())?;
-    Ok(())
-}
-
-// The text of a line, if its digest is that of the line before and of this text.
-fn line_text<'a>(alloc: Global, last: &[u8], line: &'a [u8]) -> Result<Option<&'a [u8]>, AllocError>
-    ensures { IfOk result (λ read. option_copied read ≡ line_text last.now line.now) }
+// The text of a line and its digest, if that is the digest of the line before and of this text.
+pub(crate) fn line_text<'a>(
+    alloc: Global,
+    last: &[u8],
+    line: &'a [u8],
+) -> Result<Option<(&'a [u8], [u8; 32])>, AllocError>
+    ensures text { IfOk result (λ read. option_map (λ found. found.0.now) read ≡ line_text last.now line.now) }
+    ensures digest { IfOk result (λ read. IfSome read (λ found. found.1 ≡ digest_of last.now found.0.now)) }
 {
     if line.len() < 65 {
         return Ok(None);
     }
     let (text, told) = line.split_at(line.len() - 65);
-    let mut digest = String::new(alloc);
-    digest.push_str(" ")?;
-    write_bytes(&mut digest, &digest_of(last, text))?;
-    if told == digest.as_bytes() {
-        Ok(Some(text))
+    let digest = digest_of(last, text);
+    let mut spelled = String::new(alloc);
+    spelled.push_str(" ")?;
+    write_bytes(&mut spelled, &digest)?;
+    if told == spelled.as_bytes() {
+        Ok(Some((text, digest)))
     } else {
         Ok(None)
     }
@@ -159,18 +122,95 @@ fn entry_behind_number(alloc: Global, number: u64, text: &[u8]) -> Result<Option
     Ok(whole(entry_at(alloc, rest)?))
 }
 
-/// The next entry of a journal that stands so, read from its line without the line feed. None, where the line has
-/// another digest than that of the line before and of its own text, another number, or is the line of no entry.
+// The next entry of a text with this digest, and where the journal stands behind it.
+fn entry_of_text(
+    alloc: Global,
+    chain: &Chain,
+    text: &[u8],
+    digest: [u8; 32],
+) -> Result<Option<(Entry, Chain)>, AllocError>
+    requires small { chain.now.number + 1 < 2 ^ 64 }
+    requires digest { digest ≡ digest_of chain.now.digest text.now }
+    ensures { IfOk result (λ read. read ≡ entry_of_text chain.now text.now) }
+{
+    let number = chain.number + 1;
+    match entry_behind_number(alloc, number, text)? {
+        Some(entry) => Ok(Some((entry, Chain { digest, number }))),
+        None => Ok(None),
+    }
+}
+
+/// The next entry of a journal that stands so, read from its line without the line feed, and where the journal stands
+/// behind it. None, where the line has another digest than that of the line before and of its own text, another number,
+/// or is the line of no entry.
 pub fn read_entry_line(
     alloc: Global,
     chain: &Chain,
     line: &[u8],
-) -> Result<Option<Entry>, AllocError>
+) -> Result<Option<(Entry, Chain)>, AllocError>
     requires { chain.now.number + 1 < 2 ^ 64 }
     ensures { IfOk result (λ read. read ≡ entry_of_line chain.now line.now) }
 {
     match line_text(alloc, &chain.digest, line)? {
-        Some(text) => entry_behind_number(alloc, chain.number + 1, text),
+        Some(found) => {
+            let text = found.0;
+            let digest = found.1;
+            entry_of_text(alloc, chain, text, digest)
+        }
         None => Ok(None),
+    }
+}
+
+// Whether words are those of an entry, and no others are left.
+fn is_entry(alloc: Global, rest: Rest) -> Result<bool, AllocError>
+    ensures { IfOk result (λ is. is ≡ is_some (done (entry_at (words_behind rest.entry)))) }
+{
+    let read = whole(entry_at(alloc, rest)?);
+    Ok(read.is_some())
+}
+
+// Whether a text with a good digest is no entry of this number, and why.
+fn fault_behind(alloc: Global, number: u64, text: &[u8]) -> Result<Option<LineFault>, AllocError>
+    ensures { IfOk result (λ fault. fault ≡ fault_behind number text.now (words_from [] text.now)) }
+{
+    let (word, rest) = split_word(text);
+    let spelled = format!(in alloc; "{number}")?;
+    if word != spelled.as_bytes() {
+        return Ok(Some(LineFault {
+            cause: LineCause::OtherNumber,
+            column: 1,
+        }));
+    }
+    if is_entry(alloc, rest)? {
+        return Ok(None);
+    }
+    Ok(Some(LineFault {
+        cause: LineCause::NoEntry,
+        column: word.len() + 2,
+    }))
+}
+
+/// Why a line isn't that of the next entry of a journal that stands so; None, where it is. Refused for want of memory
+/// alone.
+pub fn entry_line_fault(
+    alloc: Global,
+    chain: &Chain,
+    line: &[u8],
+) -> Result<Option<LineFault>, AllocError>
+    requires { chain.now.number + 1 < 2 ^ 64 }
+    ensures { IfOk result (λ fault. fault ≡ fault_of_line chain.now line.now) }
+{
+    if line.len() < 65 {
+        return Ok(Some(LineFault {
+            cause: LineCause::NoDigest,
+            column: line.len() + 1,
+        }));
+    }
+    match line_text(alloc, &chain.digest, line)? {
+        Some((text, _)) => fault_behind(alloc, chain.number + 1, text),
+        None => Ok(Some(LineFault {
+            cause: LineCause::OtherDigest,
+            column: line.len() - 63,
+        })),
     }
 }

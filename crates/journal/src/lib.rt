@@ -4,6 +4,8 @@
 mod chain;
 mod digits;
 mod events;
+mod faults;
+mod heads;
 mod laws;
 mod outcomes;
 mod reading;
@@ -11,7 +13,12 @@ mod spelling;
 mod splitting;
 mod writing;
 
-pub use chain::{Chain, Head, read_entry_line, write_end, write_entry_line, write_head};
-pub use laws::{journals_are_told_apart, written_entries_are_read, written_lines_are_read};
+pub use chain::{Chain, Head, entry_line_fault, read_entry_line, write_entry_line};
+pub use faults::{HeadFault, LineCause, LineFault};
+pub use heads::{chain_behind, is_end, read_head, write_end, write_head};
+pub use laws::{
+    journals_are_told_apart, unread_lines_have_a_fault, written_entries_are_read,
+    written_heads_and_ends_are_read, written_lines_are_read,
+};
 pub use outcomes::read_entry;
-pub use writing::write_entry;
+pub use writing::{write_entry, write_outcome, write_result};

@@ -4,7 +4,7 @@ ghost use Rattle.std.specs.Prelude.{◌≡◌, ◌++◌, ◌∷◌, [], OnOk, st
 ghost use Rattle.policy.specs.declared.row.RightsRow.{RightsRow};
 ghost use Rattle.core_model.specs.declared.entry.Effect.{Effect};
 ghost use Rattle.journal.specs.Words.{behind_blanks};
-ghost use Rattle.journal.specs.Entries.{words_of_object, words_of_rights_on, words_of_packet, words_of_operation, words_of_call, words_of_grantee, words_of_target, words_of_row, words_of_list, words_of_rows, words_of_event, words_of_address, words_of_place, words_of_error, name_of_cause, words_of_outcome, words_of_effect, words_of_entry, text_of_entry};
+ghost use Rattle.journal.specs.Entries.{words_of_object, words_of_rights_on, words_of_packet, words_of_operation, words_of_call, words_of_grantee, words_of_target, words_of_row, words_of_list, words_of_rows, words_of_event, words_of_address, words_of_place, words_of_error, name_of_cause, words_of_outcome, words_of_effect, words_of_result, words_of_entry, text_of_entry};
 
 use crate::spelling::{write_bytes, write_flags};
 use aql_packet::{ClientId, PacketId, QueueId};
@@ -236,8 +236,8 @@ fn write_failure(out: &mut String, name: &str, error: &QueueError) -> Result<(),
     write_error(out, error)
 }
 
-// Writes what a call came to.
-fn write_outcome(out: &mut String, outcome: &Outcome) -> Result<(), AllocError>
+/// Writes what a call came to, each word behind a blank. Refused for want of memory alone.
+pub fn write_outcome(out: &mut String, outcome: &Outcome) -> Result<(), AllocError>
     ensures { OnOk result (string_bytes out.new ≡ string_bytes out.old ++ behind_blanks (words_of_outcome outcome.now)) }
 {
     match outcome {
@@ -287,12 +287,20 @@ fn write_effects(out: &mut String, effects: &[Effect]) -> Result<(), AllocError>
     Ok(())
 }
 
+/// Writes what the call of an entry came to, and what it changed, each word behind a blank. Refused for want of memory
+/// alone; the text may then have a part of it.
+pub fn write_result(out: &mut String, entry: &Entry) -> Result<(), AllocError>
+    ensures { OnOk result (string_bytes out.new ≡ string_bytes out.old ++ behind_blanks (words_of_result entry.now)) }
+{
+    write_outcome(out, &entry.outcome)?;
+    write_effects(out, entry.effects.as_slice())
+}
+
 /// Writes an entry behind what a text has already: all that was handed to the call, what it came to, and what it
 /// changed, each word behind a blank. Refused for want of memory alone; the text may then have a part of it.
 pub fn write_entry(out: &mut String, entry: &Entry) -> Result<(), AllocError>
     ensures { OnOk result (string_bytes out.new ≡ string_bytes out.old ++ text_of_entry entry.now) }
 {
     write_event(out, &entry.event)?;
-    write_outcome(out, &entry.outcome)?;
-    write_effects(out, entry.effects.as_slice())
+    write_result(out, entry)
 }

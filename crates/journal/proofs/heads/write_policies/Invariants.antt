@@ -2,7 +2,7 @@
 use Rattle.std.proofs.Common.{◌≡◌, ◌++◌, ◌∷◌, [], string_bytes, take, length}
 use Rattle.std.specs.Prelude.{flat_map}
 use Rattle.journal.specs.Words.{Bytes, Number, behind_blanks}
-use Rattle.journal.proofs.chain.write_policies.Given as goal
+use Rattle.journal.proofs.heads.write_policies.Given as goal
 
 abbrev pub invariant-loop-policy : goal.invariant-loop-policy
 invariant-loop-policy l =

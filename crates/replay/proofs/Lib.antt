@@ -1,0 +1,5 @@
+pub mod Alike
+pub mod Bounded
+pub mod Going
+pub mod Replaying
+pub mod Finding
