@@ -15,7 +15,7 @@ from trial import HERE, TOP
 CASES = f"{TOP}/crates/cases/data"
 JOINS = f"{TOP}/crates/joins/out/joins"
 WANTS = f"{TOP}/crates/wants/out/wants"
-TRIALS = ("cases.py", "words.py", "memory.py", "streams.py", "texts.py", "explain.py", "picture.py", "rotation.py", "decode.py", "listing.py", "pages.py", "terminal.py", "docs.py", "instructions.py")
+TRIALS = ("cases.py", "words.py", "memory.py", "streams.py", "texts.py", "explain.py", "picture.py", "rotation.py", "journals.py", "decode.py", "listing.py", "pages.py", "terminal.py", "docs.py", "instructions.py")
 
 
 def told(words):

@@ -5,6 +5,8 @@ use crate::decoding::{MOST_DUMP, decode_digits, decode_slots};
 use crate::explaining::{PolicyFile, check_explaining};
 use crate::further::{Manner, run};
 use crate::listing::{ListForm, list_policy};
+use crate::recording::Recorded;
+use crate::replayed::{replay, run_with_journal};
 use crate::request::{Asked, Request, Unread, read_words};
 use crate::syntax::MOST_NEXT;
 use crate::threads::{AskedLoad, run_threads};
@@ -226,6 +228,27 @@ fn perform_run(rt: &HostRuntime, asked: &Asked<'_>) -> Option<Status> {
     Some(run(rt, policy, asked.further.as_slice(), manner))
 }
 
+// Runs a script with a journal, or replays one.
+fn perform_journal(rt: &HostRuntime, asked: &Asked<'_>) -> Option<Status> {
+    let further = asked.further.as_slice();
+    match asked.request {
+        Request::RunRecording {
+            policy,
+            places,
+            is_strict,
+            journal,
+        } => {
+            let manner = Recorded { places, is_strict };
+            Some(run_with_journal(rt, policy, further, manner, journal))
+        }
+        Request::Replay {
+            policy,
+            tells_state,
+        } => Some(replay(rt, policy, further, tells_state)),
+        _ => None,
+    }
+}
+
 // Does what is asked of a file that isn't run, of a word or of digits, and tells the exit status.
 fn perform_alone(rt: &HostRuntime, asked: &Asked<'_>) -> u8 {
     match asked.request {
@@ -260,6 +283,9 @@ fn perform<R: Threads + Wait + Sync>(rt: &HostRuntime, threads: &R, asked: &Aske
             explains,
         };
         return run_load_of(rt, threads, policy, load).number();
+    }
+    if let Some(status) = perform_journal(rt, asked) {
+        return status.number();
     }
     match perform_run(rt, asked) {
         Some(status) => status.number(),

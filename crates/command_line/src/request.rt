@@ -2,8 +2,9 @@
 
 use crate::listing::ListForm;
 use crate::syntax::{
-    ALWAYS, ASSEMBLE, AUDIT, CHECK, DECODE, DIGITS, EXPLAIN, FILE, FROM, HELP, JSON, KERNEL, LIST,
-    MOST_NEXT, NEXT, PICTURE, POLICY, PRODUCERS, RUN, SLOTS, STRICT, THREADS, TO, WORD, program,
+    ALWAYS, ASSEMBLE, AUDIT, CHECK, DECODE, DIGITS, EXPLAIN, FILE, FROM, HELP, JOURNAL, JSON, KERNEL,
+    LIST, MOST_NEXT, NEXT, PICTURE, POLICY, PRODUCERS, REPLAY, RUN, SLOTS, STATE, STRICT, THREADS,
+    TO, WORD, program,
 };
 use clap::error::ErrorKind;
 use clap::{ArgMatches, Error};
@@ -47,6 +48,19 @@ pub enum Request<'a> {
         policy: &'a str,
         places: usize,
         is_strict: bool,
+    },
+    /// `run POLICY [NEXT..] --journal FILE [--strict] [--audit N]`: to run the script, and to write its history into a file.
+    RunRecording {
+        policy: &'a str,
+        places: usize,
+        is_strict: bool,
+        journal: &'a str,
+    },
+    /// `replay POLICY [NEXT..] [--state]`: to replay the journal on standard input, and to print the state that it leads to,
+    /// if that is asked for.
+    Replay {
+        policy: &'a str,
+        tells_state: bool,
     },
     /// `picture POLICY [NEXT..] [--audit N] [--from N] [--to N]`: to run it the same way, and to draw what the audit tells
     /// in place of the replies, of which the entries from one number to another.
@@ -152,6 +166,14 @@ fn explains_in(asked: &ArgMatches<'_>, unasked: bool) -> bool {
 fn run_request<'a>(policy: &'a str, asked: &ArgMatches<'a>, explains: bool) -> Request<'a> {
     let places = places_in(asked);
     let is_strict = asked.get_flag(STRICT);
+    if let Some(journal) = asked.get_str(JOURNAL) {
+        return Request::RunRecording {
+            policy,
+            places,
+            is_strict,
+            journal,
+        };
+    }
     if explains {
         Request::RunExplaining {
             policy,
@@ -209,6 +231,10 @@ fn policy_request<'a>(
             explains,
         }),
         ASSEMBLE => Some(Request::Assemble { policy, explains }),
+        REPLAY => Some(Request::Replay {
+            policy,
+            tells_state: asked.get_flag(STATE),
+        }),
         THREADS => Some(Request::Threads {
             policy,
             producers: asked.get_one(PRODUCERS)?,
