@@ -16,7 +16,7 @@ CASES = f"{TOP}/crates/cases/data"
 JOINS = f"{TOP}/crates/joins/out/joins"
 WANTS = f"{TOP}/crates/wants/out/wants"
 ARCHIVE = f"{TOP}/crates/hobbydresser_c/out/libhobbydresser_c.a"
-TRIALS = ("cases.py", "words.py", "memory.py", "streams.py", "texts.py", "explain.py", "picture.py", "rotation.py", "decode.py", "listing.py", "pages.py", "forms.py", "terminal.py", "readable.py", "docs.py", "instructions.py")
+TRIALS = ("cases.py", "words.py", "memory.py", "streams.py", "texts.py", "explain.py", "picture.py", "rotation.py", "decode.py", "listing.py", "pages.py", "forms.py", "terminal.py", "readable.py", "journals.py", "docs.py", "instructions.py")
 
 
 def told(words):

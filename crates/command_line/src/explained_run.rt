@@ -385,8 +385,8 @@ fn open(alloc: Global, policy: Policy, places: usize) -> Result<World, Failure> 
     }
 }
 
-// Opens a world over the policy in a text.
-fn open_text(alloc: Global, text: &[u8], places: usize) -> Result<World, Failure> {
+/// Opens a world over the policy in a text.
+pub fn open_text(alloc: Global, text: &[u8], places: usize) -> Result<World, Failure> {
     match read_policy(alloc, text) {
         Ok(policy) => open(alloc, policy, places),
         Err(why) => Err(Failure::of_reading(why)),
@@ -402,8 +402,8 @@ fn read_one(alloc: Global, text: &[u8], later: &mut Vec<Policy>) -> Result<(), R
     }
 }
 
-// Reads the further policies: the place and the failure of the first that has one.
-fn read_later(
+/// Reads the further policies: the place and the failure of the first that has one.
+pub fn read_later(
     alloc: Global,
     texts: &[PolicyText],
     later: &mut Vec<Policy>,

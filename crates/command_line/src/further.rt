@@ -80,8 +80,8 @@ impl Manner {
     }
 }
 
-// Reads files in their order, up to the first that can't be read.
-fn read_files(rt: &HostRuntime, files: &[&str], texts: &mut Vec<PolicyText>) -> io::Result<()> {
+/// Reads files in their order, up to the first that can't be read.
+pub fn read_files(rt: &HostRuntime, files: &[&str], texts: &mut Vec<PolicyText>) -> io::Result<()> {
     for file in files {
         let text = PolicyText::new(read_file(rt, file)?);
         texts.push(text)?;

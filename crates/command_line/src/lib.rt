@@ -18,6 +18,8 @@ mod line_reader;
 mod listing;
 mod meanings;
 mod perform;
+mod recording;
+mod replayed;
 mod request;
 mod session;
 mod syntax;

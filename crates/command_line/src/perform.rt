@@ -5,6 +5,8 @@ use crate::decoding::{MOST_DUMP, decode_digits, decode_slots};
 use crate::explaining::{PolicyFile, check_explaining};
 use crate::further::{Manner, run};
 use crate::listing::{ListForm, list_policy};
+use crate::recording::Recorded;
+use crate::replayed::{replay, run_with_journal};
 use crate::request::{Asked, Request, Unread, read_words};
 use crate::syntax::MOST_NEXT;
 use crate::threads::{AskedLoad, run_threads};
@@ -241,6 +243,27 @@ fn perform_run(rt: &HostRuntime, asked: &Asked<'_>) -> Option<Status> {
     Some(run(rt, policy, asked.further.as_slice(), manner))
 }
 
+// Runs a script with a journal, or replays one.
+fn perform_journal(rt: &HostRuntime, asked: &Asked<'_>) -> Option<Status> {
+    let further = asked.further.as_slice();
+    match asked.request {
+        Request::RunRecording {
+            policy,
+            places,
+            is_strict,
+            journal,
+        } => {
+            let manner = Recorded { places, is_strict };
+            Some(run_with_journal(rt, policy, further, manner, journal))
+        }
+        Request::Replay {
+            policy,
+            tells_state,
+        } => Some(replay(rt, policy, further, tells_state)),
+        _ => None,
+    }
+}
+
 // Does what is asked of a file that isn't run, of a word or of digits, and tells the exit status.
 fn perform_alone(rt: &HostRuntime, asked: &Asked<'_>) -> u8 {
     match asked.request {
@@ -275,6 +298,9 @@ fn perform<R: Threads + Wait + Sync>(rt: &HostRuntime, threads: &R, asked: &Aske
             explains,
         };
         return run_load_of(rt, threads, policy, load).number();
+    }
+    if let Some(status) = perform_journal(rt, asked) {
+        return status.number();
     }
     match perform_run(rt, asked) {
         Some(status) => status.number(),
@@ -315,6 +341,14 @@ fn too_many_policies(rt: &HostRuntime) -> u8 {
     }
 }
 
+// Says that a run by line writes no journal.
+fn journal_by_line(rt: &HostRuntime) -> u8 {
+    match eprintln!(rt; "error: --journal doesn't go with --readable or --json") {
+        Ok(()) => NOT_UNDERSTOOD,
+        Err(why) => unprinted(rt, &why).number(),
+    }
+}
+
 /// Reads the words of a command line, the program's own name first, does what they ask or says how they are to be
 /// written, and tells the exit status: that of the command (`Status::number`), 0 for the help and the version, 2 for
 /// words that aren't understood, 3 where the text that says so can't be written. The second runtime is the one whose
@@ -326,6 +360,7 @@ pub fn obey<R: Threads + Wait + Sync>(rt: &HostRuntime, threads: &R, words: &[St
         Err(Unread::Text(error)) => tell(rt, &error),
         Err(Unread::NoCommand) => NOT_UNDERSTOOD,
         Err(Unread::TooManyPolicies) => too_many_policies(rt),
+        Err(Unread::JournalByLine) => journal_by_line(rt),
         Err(Unread::OutOfMemory) => out_of_memory(rt),
     }
 }

@@ -2,9 +2,9 @@
 
 use crate::listing::ListForm;
 use crate::syntax::{
-    ALWAYS, ASSEMBLE, AUDIT, CHECK, DECODE, DIGITS, EXPLAIN, FILE, FROM, HELP, JSON, KERNEL, LIST,
-    MOST_NEXT, NEXT, PICTURE, POLICY, PRODUCERS, READABLE, RUN, SLOTS, STRICT, THREADS, TO, WORD,
-    program,
+    ALWAYS, ASSEMBLE, AUDIT, CHECK, DECODE, DIGITS, EXPLAIN, FILE, FROM, HELP, JOURNAL, JSON,
+    KERNEL, LIST, MOST_NEXT, NEXT, PICTURE, POLICY, PRODUCERS, READABLE, REPLAY, RUN, SLOTS, STATE,
+    STRICT, THREADS, TO, WORD, program,
 };
 use clap::error::ErrorKind;
 use clap::{ArgMatches, Error};
@@ -65,6 +65,19 @@ pub enum Request<'a> {
         is_strict: bool,
         explains: bool,
         reads: Reads,
+    },
+    /// `run POLICY [NEXT..] --journal FILE [--strict] [--audit N]`: to run the script, and to write its history into a file.
+    RunRecording {
+        policy: &'a str,
+        places: usize,
+        is_strict: bool,
+        journal: &'a str,
+    },
+    /// `replay POLICY [NEXT..] [--state]`: to replay the journal on standard input, and to print the state that it leads to,
+    /// if that is asked for.
+    Replay {
+        policy: &'a str,
+        tells_state: bool,
     },
     /// `picture POLICY [NEXT..] [--audit N] [--from N] [--to N]`: to run it the same way, and to draw what the audit tells
     /// in place of the replies, of which the entries from one number to another.
@@ -127,6 +140,8 @@ pub enum Unread {
     NoCommand,
     /// They name more further policies than a run may have.
     TooManyPolicies,
+    /// They ask for a journal of a run by line, which writes none.
+    JournalByLine,
 }
 
 impl From<Error> for Unread {
@@ -170,6 +185,14 @@ fn explains_in(asked: &ArgMatches<'_>, unasked: bool) -> bool {
 fn run_request<'a>(policy: &'a str, asked: &ArgMatches<'a>, explains: bool) -> Request<'a> {
     let places = places_in(asked);
     let is_strict = asked.get_flag(STRICT);
+    if let Some(journal) = asked.get_str(JOURNAL) {
+        return Request::RunRecording {
+            policy,
+            places,
+            is_strict,
+            journal,
+        };
+    }
     let reads = Reads {
         is_readable: asked.get_flag(READABLE),
         is_json: asked.get_flag(JSON),
@@ -239,6 +262,10 @@ fn policy_request<'a>(
             explains,
         }),
         ASSEMBLE => Some(Request::Assemble { policy, explains }),
+        REPLAY => Some(Request::Replay {
+            policy,
+            tells_state: asked.get_flag(STATE),
+        }),
         THREADS => Some(Request::Threads {
             policy,
             producers: asked.get_one(PRODUCERS)?,
@@ -279,6 +306,11 @@ fn words_of<'a>(
     Ok(words)
 }
 
+// Whether a run is asked for a journal beside readable lines or replies as JSON.
+fn asks_for_journal_by_line(asked: &ArgMatches<'_>) -> bool {
+    asked.get_str(JOURNAL).is_some() && (asked.get_flag(READABLE) || asked.get_flag(JSON))
+}
+
 // What a command with its arguments asks for.
 fn asked_by<'a>(
     alloc: Global,
@@ -287,6 +319,9 @@ fn asked_by<'a>(
     unasked: bool,
 ) -> Result<Asked<'a>, Unread> {
     let request = request_of(command, asked, unasked).ok_or(Unread::NoCommand)?;
+    if command == RUN && asks_for_journal_by_line(asked) {
+        return Err(Unread::JournalByLine);
+    }
     if command == DECODE {
         let further = words_of(alloc, DIGITS, asked)?;
         return Ok(Asked { request, further });

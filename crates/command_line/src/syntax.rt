@@ -23,6 +23,15 @@ pub const RUN: &str = "run";
 /// The option by which a run takes readable lines.
 pub const READABLE: &str = "readable";
 
+/// The option that names the file of a run's journal.
+pub const JOURNAL: &str = "journal";
+
+/// The name of the command that replays a journal.
+pub const REPLAY: &str = "replay";
+
+/// The option by which a replay prints the state that the journal leads to.
+pub const STATE: &str = "state";
+
 /// The name of the first entry that is drawn.
 pub const FROM: &str = "from";
 
@@ -146,6 +155,23 @@ fn strictly<'a>(alloc: Global) -> Arg<'a> {
         .help("Ends with status 1 behind the first line that is refused, denied, faulted or failed")
 }
 
+fn journal_file<'a>(alloc: Global) -> Arg<'a> {
+    Arg::new(alloc, JOURNAL)
+        .long(JOURNAL)
+        .value_name("FILE")
+        .action(ArgAction::Set)
+        .help(
+            "Writes the history into this file as it goes, for `replay`; the audit is rotated then",
+        )
+}
+
+fn final_state<'a>(alloc: Global) -> Arg<'a> {
+    Arg::new(alloc, STATE)
+        .long(STATE)
+        .action(ArgAction::SetTrue)
+        .help("Prints the state behind the last entry, too")
+}
+
 fn explaining<'a>(alloc: Global) -> Arg<'a> {
     Arg::new(alloc, EXPLAIN)
         .long(EXPLAIN)
@@ -225,8 +251,18 @@ fn run_command<'a>(alloc: Global) -> Result<Command<'a>, Error> {
         .arg(strictly(alloc))?
         .arg(readably(alloc))?
         .arg(replying_as_json(alloc))?
+        .arg(journal_file(alloc))?
         .arg(explaining(alloc))?;
     Ok(run)
+}
+
+fn replay_command<'a>(alloc: Global) -> Result<Command<'a>, Error> {
+    let replay = Command::new(alloc, REPLAY)
+        .about("Replays the journal on standard input, and tells whether it is a legal history")
+        .arg(policy_file(alloc))?
+        .arg(further_files(alloc))?
+        .arg(final_state(alloc))?;
+    Ok(replay)
 }
 
 fn picture_command<'a>(alloc: Global) -> Result<Command<'a>, Error> {
@@ -354,7 +390,9 @@ pub fn program<'a>(alloc: Global) -> Result<Command<'a>, Error> {
     let explain = explain_command(alloc)?;
     let decode = decode_command(alloc)?;
     let threads = threads_command(alloc)?;
+    let replay = replay_command(alloc)?;
     let program = with_authoring(alloc)?
+        .subcommand(replay)?
         .subcommand(explain)?
         .subcommand(decode)?
         .subcommand(threads)?;
