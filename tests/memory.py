@@ -170,7 +170,17 @@ class ScriptTrial:
         return None
 
     def from_then_on(self, number):
-        return starves(self.memory.run(self.words, text(self.lines), number, True), self.whole)
+        """The replies are as with memory up to the first line that is refused for want of it. A reply needs none, once there
+        was room for one of its length: so the run goes on, and ends where a line's words or its reply want memory."""
+        ended = self.memory.run(self.words, text(self.lines), number, True)
+        replies = blocks(self.asked, ended.out)
+        if replies is None or (ended.status, ended.err) not in ((0, b""), (3, NO_MEMORY)) or (ended.status == 0) != (len(replies) == len(self.asked)):
+            return f"it ended otherwise: {ended}"
+        at = next((at for at, pair in enumerate(zip(replies, self.replies)) if pair[0] != pair[1]), len(replies))
+        if at < len(replies) and replies[at] != WANT:
+            return f"line {at + 1}, {self.asked[at]}: another reply: {ended}"
+        wrong = next((it for it in range(at, len(replies)) if replies[it] == WANT and self.asked[it].split(" ")[0] in TAKES_NONE), None)
+        return None if wrong is None else f"line {wrong + 1}, {self.asked[wrong]}: refused, though it takes no memory"
 
     def note(self):
         found = f"{self.found['refused']} lines refused and asked again, {self.found['ended']} runs ended, {self.found['as ever']} as ever"
