@@ -5,4 +5,4 @@ use Rattle.client_threads.proofs.lanes.run_each.Goals as goal
 
 pub for_each_mut-requires-clause-accepts : goal.for_each_mut-requires-clause-accepts
 for_each_mut-requires-clause-accepts g c κs within =
-    λ i p lt is. let h : IsLaneOf c.args.broker.now p.now = at_place c.args.broker.now c.args.lanes.now i p.now c.requires.lanes lt is in search rules
+    λ i p lt is. let h : IsLaneOf g.B.Room.board c.args.broker.now p.now = at_place g.B.Room.board c.args.broker.now c.args.lanes.now i p.now c.requires.lanes lt is in search rules

@@ -8,7 +8,7 @@ use Rattle.client_threads.proofs.Readiness.{all_ready}
 use Rattle.client_threads.proofs.settling.settle_all.Goals as goal
 
 pub settle_in_rooms-requires-clause-ready : goal.settle_in_rooms-requires-clause-ready
-settle_in_rooms-requires-clause-ready c =
+settle_in_rooms-requires-clause-ready g c =
     let rings = map seen c.broker.inside.desks.items in
     let ends : All (λ end. IsEndOf rings end) c.args.ends.items = rw (← c.broker.view_is) at c.requires.ends in
     let lanes : All (λ lane. IsLaneOf rings lane) c.args.lanes.items = rw (← c.broker.view_is) at c.requires.lanes in
