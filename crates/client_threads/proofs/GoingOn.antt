@@ -1,5 +1,7 @@
 -- What running does to a lane.
 use Rattle.std.proofs.Common.{◌≡◌, ℕ, List, [], ◌∷◌, ◌++◌, refl, ap, ◌∙◌, sym, subst, rules, append_assoc, arith}
+use lib.ListN.{take}
+use Rattle.std.proofs.Math.Seq.{take-append_seam}
 use Rattle.std.specs.Prelude.{All, slice_index_or, length, ◌<◌}
 use Rattle.std.proofs.lemmas.List.{append-nil}
 use Rattle.atomic_table.specs.Seated.{TableId}
@@ -7,7 +9,7 @@ use Rattle.core_model.specs.declared.served.Served.{Served}
 use Rattle.client_threads.specs.Lanes.{LaneSeen}
 use Rattle.client_threads.specs.Rings.{QueueRing, ring_of}
 use Rattle.client_threads.specs.Running.{EachGoesOn, GoesOn, IsLaneOf, KeepsOn}
-use Rattle.client_threads.specs.inner.Turns.{Looks, StandsIn}
+use Rattle.client_threads.specs.inner.Turns.{HasSeen, Looks, StandsIn}
 
 pub goes_on_none : (lane : LaneSeen) → GoesOn lane lane
 goes_on_none lane = record { queue = refl; table = refl; more = []; served = sym (append-nil lane.served) }
@@ -61,3 +63,10 @@ at_place board rings lanes i lane all lt is = subst (λ (l : LaneSeen). IsLaneOf
 -- lanes that went on are still of the broker
 pub all_still_of : (board : TableId) (rings : List QueueRing) (old new : List LaneSeen) → length new ≡ length old → EachGoesOn board rings old new → All (λ l. IsLaneOf board rings l) new
 all_still_of board rings old new same on = λ k d lt. (on k d (omega (arith, lt, same))).lane
+
+-- what is written back of lanes are these, where none came or went
+pub put_back : (board : TableId) (rings : List QueueRing) (len : ℕ) (old new rest : List LaneSeen) → len ≡ length new → EachGoesOn board rings old new → EachGoesOn board rings old (take len (new ++ rest))
+put_back board rings len old new rest is each = subst (λ (xs : List LaneSeen). EachGoesOn board rings old xs) (sym (ap (λ n. take n (new ++ rest)) is ∙ take-append_seam new rest)) each
+
+pub all_seen : (board : TableId) (rings : List QueueRing) (lanes : List LaneSeen) → All (λ lane. IsLaneOf board rings lane) lanes → All (HasSeen board) lanes
+all_seen board rings lanes all = λ k d lt. let one = all k d lt in record { board_is = one.board_is; stands = one.stands }

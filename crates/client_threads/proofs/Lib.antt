@@ -18,3 +18,4 @@ pub mod Fronts
 pub mod Sections
 pub mod Runs
 pub mod Turning
+pub mod Showing

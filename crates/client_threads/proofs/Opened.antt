@@ -205,6 +205,10 @@ module _ (rings : List QueueRing) (h : History) (client : ClientId) (agent : Age
       let own : made.desk.queue.0 < next_queue after = let n = o.next in omega (arith, n, next) in
       All-push (λ r. r.queue < next_queue after) rings (seen made.desk) (below_as rings (next_queue h) (next_queue after) (omega (arith, next)) below) own
 
+  -- no two rings are of one queue
+  pub entered_apart : (made : Beside) → IsOpenable rings h Asked made.desk.queue → AreApart rings → AreApart (rings ++ seen made.desk ∷ [])
+  entered_apart made o apart = apart_more rings (seen made.desk) apart o.fresh
+
   pub failed_below : (why : Refusal) (after : History) → AreBelow h rings → MeetsOrLacks Asked h after (Err why) → AreBelow after rings
   failed_below why after below m = subst (λ (x : History). AreBelow x rings) (sym (refused_leaves_or_lacks Asked h after why m)) below
 
@@ -222,12 +226,6 @@ entered_opened old new size producers front next queue made ends lane beside fre
       ends_are = entered.ends_are ∙ beside.ends_are ∙ ap (λ (q : QueueId). map (as_end q) (dealt (seen made.desk).ring.table producers)) same;
       lane_is = entered.lane_is ∙ beside.lane_is ∙ ap (λ (q : QueueId). record { queue = q; pass = new_processor_pass (seen made.desk).ring.table; served = []; pending = []; front = front }) same;
     }
-
--- and no two rings are of one queue
-pub apart_entered : (old new : List QueueRing) (size producers : ℕ) (front : PassSeen) (next queue : QueueId) (made : Beside) (ends : List ClientEnd) (lane : LaneSeen)
-    → IsBeside next size producers front made → ring_of next.0 old ≡ None → AreApart old → HasEntered made old new queue ends lane → AreApart new
-apart_entered old new size producers front next queue made ends lane beside fresh apart entered =
-    subst AreApart (sym entered.rings_are) (apart_more old (seen made.desk) apart (ap (λ (q : QueueId). ring_of q.0 old) beside.queue_is ∙ fresh))
 
 -- a queue whose lane sees a further front is opened, with a lane that has seen that
 pub seen_opened : (old new : List QueueRing) (size producers : ℕ) (before after : PassSeen) (queue : QueueId) (ends : List ClientEnd) (lane : LaneSeen)

@@ -75,7 +75,7 @@ settled_of_all all every r ends lanes one same_passes same_lane h =
       ring_is = subst (λ (ps : List ProducerSeen). IsRingSettled r.ring ps h.lane one.ring) same_passes h.ring_is;
     }
 
-module _ (board : TableId) (rings : List QueueRing) (all : List ClientEnd) (every : List LaneSeen) where
+module _ (rings : List QueueRing) (all : List ClientEnd) (every : List LaneSeen) where
   goes_on : (r : QueueRing) (left : List QueueRing) (room : QueueRoom) (rooms : List QueueRoom) (ends ends' : List ClientEnd) (lanes lanes' : List LaneSeen) (settled : List SettledQueue) (one : SettledQueue)
       → Going rings all every (r ∷ left) (room ∷ rooms) ends lanes settled → IsQueueSettled r ends lanes one
       → ((other : ℕ) → other ≢ r.queue → passes_of other ends' ≡ passes_of other ends) → ((other : ℕ) → other ≢ r.queue → lane_at other lanes' ≡ lane_at other lanes)

@@ -11,7 +11,7 @@ use Rattle.core_model.specs.declared.entry.Entry.{Entry}
 use Rattle.core_model.specs.declared.served.Served.{Served}
 use Rattle.access_core.specs.Cores.{Core}
 use Rattle.client_threads.specs.Boards.{Compared}
-use Rattle.client_threads.specs.Sections.{AllFollow, Appends, Follows, IsFirst, IsNext, Stand, gone, last_of, seen_entries, whole}
+use Rattle.client_threads.specs.Sections.{AllFollow, Appends, Follows, IsFirst, IsNext, IsSection, Stand, gone, last_of, seen_entries, whole}
 use Rattle.client_threads.specs.Takes.{takes}
 use Rattle.client_threads.proofs.Differences.{takes-append}
 use Rattle.client_threads.proofs.Fronts.{prefix_self, prefix_trans}
@@ -169,6 +169,23 @@ served_stand opened served queue seen before core more first s p all is =
     subst (Stand (served ++ takes more queue))
     (sym (ap (λ (es : List Entry). takes es queue) (seen_whole opened (before ++ core ∷ []) first ∙ whole_more [] opened before core more is) ∙ takes-append (whole [] opened before) more queue))
     (stand_more served (takes (whole [] opened before) queue) (takes more queue) (seen_stand opened served queue seen before first s p all))
+
+-- ---- a section
+
+-- what is known of a core that is lent and left makes a section
+pub section_of : {Did : Core → Core → Type 0} (opened : Core) (seen new left : List Core) (old core : Core) → IsFirst opened → AllFollow opened left → last_of opened left ≡ old → IsPrefix seen left → IsLegal (beginning old.history) old.history.entries
+    → IsNext old core → Did old core → new ≡ left ++ core ∷ [] → IsSection opened seen new Did
+section_of {Did} opened seen new left old core first all last begins legal next did is = record {
+  before = left;
+  begins = begins;
+  first = first;
+  all = all;
+  legal = subst (λ (k : Core). IsLegal (beginning k.history) k.history.entries) (sym last) legal;
+  core = core;
+  did = subst (λ (k : Core). Did k core) (sym last) did;
+  next = subst (λ (k : Core). IsNext k core) (sym last) next;
+  new_is = is;
+}
 
 -- ---- two sections
 

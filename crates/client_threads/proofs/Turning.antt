@@ -3,7 +3,7 @@ use Rattle.std.proofs.Common.{◌≡◌, ◌⊎◌, ℕ, List, [], ◌∷◌, �
 use Rattle.std.specs.Prelude.{◌≢◌, ◌==◌, Bool, true, false, Option, Some, None, Result, Ok, Err, if◌then◌else◌}
 use Rattle.std.specs.List.{cons_option}
 use Rattle.std.proofs.lemmas.List.{append-nil}
-use Rattle.atomic_table.specs.Seated.{TableId}
+use mathlib.Core.List.{IsPrefix}
 use Rattle.aql_packet.specs.Reading.{barrier_bit}
 use Rattle.aql_packet.specs.declared.ids.PacketId.{PacketId}
 use Rattle.aql_packet.specs.declared.ids.QueueId.{QueueId}
@@ -36,14 +36,16 @@ use Rattle.client_threads.specs.declared.advancing.Advanced.TheVariants as advan
 use Rattle.client_threads.specs.declared.serving.ServeAnswer.{ServeAnswer}
 use Rattle.client_threads.specs.declared.serving.ServeAnswer.TheVariants.{Empty, Launched, Denied, Waiting, Refused}
 use Rattle.client_threads.specs.Advancing.{AdvancesTo, IsAdvanced, IsLastCall, next_call}
+use Rattle.access_core.specs.Cores.{Core}
+use Rattle.client_threads.specs.Boards.{PassSeen}
 use Rattle.client_threads.specs.Lanes.{LaneSeen}
 use Rattle.client_threads.specs.Running.{GoesOn}
-use Rattle.client_threads.specs.Sections.{Appends}
+use Rattle.client_threads.specs.Sections.{AllFollow, Appends, IsFirst, Stand, last_of, seen_entries}
 use Rattle.client_threads.specs.Serving.{IsServed, ServesTo, served_of}
 use Rattle.client_threads.specs.Takes.{taken_by, takes}
-use Rattle.client_threads.specs.inner.Turns.{ServesIn}
+use Rattle.client_threads.specs.inner.Turns.{ServesIn, StandsIn}
 use Rattle.client_threads.proofs.Differences.{takes-append}
-use Rattle.client_threads.proofs.Sections.{none_more, same_number}
+use Rattle.client_threads.proofs.Sections.{none_more, same_number, served_stand}
 
 -- ---- what a call adds
 
@@ -225,3 +227,18 @@ served_goes_on old new before after h = record { queue = h.queue; table = h.tabl
 
 pub served_appends : (old new : LaneSeen) (before after : History) → ServesIn old before new after → Appends before after
 served_appends old new before after h = record { more = h.entries; history = h.history }
+
+-- ---- in a section
+
+-- a lane that served in a section and sees what it left went on, and what it served stands in that
+pub turn_on : (old mid : LaneSeen) (front : PassSeen) (before after : History) → ServesIn old before mid after → GoesOn old (record mid { front = front })
+turn_on old mid front before after h = record { queue = h.queue; table = h.table; more = takes h.entries old.queue.0; served = h.served }
+
+pub turn_stands : (opened : Core) (left : List Core) (before core : Core) (old mid : LaneSeen) (front : PassSeen) → IsFirst opened → AllFollow opened left → last_of opened left ≡ before → IsPrefix old.front.left left → StandsIn old
+    → ServesIn old before.history mid core.history → front.left ≡ left ++ core ∷ [] → StandsIn (record mid { front = front })
+turn_stands opened left before core old mid front first all last begins stands h is =
+    let history : core.history ≡ record (last_of opened left).history { entries = (last_of opened left).history.entries ++ h.entries } = h.history ∙ ap (λ (c : Core). record c.history { entries = c.history.entries ++ h.entries }) (sym last) in
+    let own : Stand (old.served ++ takes h.entries old.queue.0) (takes (seen_entries (left ++ core ∷ [])) old.queue.0) = served_stand opened old.served old.queue.0 old.front.left left core h.entries first stands begins all history in
+    subst (λ (xs : List Served). Stand xs (takes (seen_entries front.left) mid.queue.0)) (sym h.served)
+    (subst (λ (q : QueueId). Stand (old.served ++ takes h.entries old.queue.0) (takes (seen_entries front.left) q.0)) (sym h.queue)
+    (subst (λ (cs : List Core). Stand (old.served ++ takes h.entries old.queue.0) (takes (seen_entries cs) old.queue.0)) (sym is) own))

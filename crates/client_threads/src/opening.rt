@@ -1,6 +1,6 @@
 //! Queues are opened, each with its ring and its doorbell.
 
-ghost use Rattle.std.specs.Prelude.{◌≡◌, ℕ, List, ◌<◌, ◌≤◌, IfOk, IfErr, OnOk, [], map, vec_capacity, vec_len};
+ghost use Rattle.std.specs.Prelude.{◌≡◌, ℕ, List, ◌<◌, ◌≤◌, IfOk, IfErr, OnOk, [], false, map, vec_capacity, vec_len};
 ghost use Rattle.policy.specs.Results.{map_ok};
 ghost use Rattle.core_model.specs.declared.event.Event.{Event};
 ghost use Rattle.core_model.specs.declared.limits.TheConstants.{QUEUES};
@@ -240,7 +240,7 @@ fn make_room(
 }
 
 // Opens a queue in a core, and puts what was made for it behind the other desks.
-#[tactic(auto, using(crate::proofs::Opened::opened_meets, crate::proofs::Opened::entered_below, crate::proofs::Opened::failed_below))]
+#[tactic(auto, using(crate::proofs::Opened::opened_meets, crate::proofs::Opened::failed_below))]
 fn enter_queue(
     alloc: Global,
     core: &mut AccessCore,
@@ -252,10 +252,12 @@ fn enter_queue(
 ) -> Result<Opened, Refusal>
     requires openable { IsOpenable (map seen desks.old.items) core.old.history (Event.Open client agent size) made.desk.queue }
     requires room { vec_len desks.old < vec_capacity desks.old }
+    requires apart { AreApart (map seen desks.old.items) }
     requires below { AreBelow core.old.history (map seen desks.old.items) }
     ensures due { MeetsOrLacks (Event.Open client agent size) core.old.history core.new.history (map_ok (λ o. Outcome.Opened o.0) result) }
     ensures entered { IfOk result (λ o. HasEntered made (map seen desks.old.items) (map seen desks.new.items) o.0 o.1.items o.2) }
     ensures refused { IfErr result (λ _. desks.new.items ≡ desks.old.items) }
+    ensures apart { AreApart (map seen desks.new.items) }
     ensures below { AreBelow core.new.history (map seen desks.new.items) }
 {
     let queue = made.desk.queue;
@@ -270,7 +272,7 @@ fn enter_queue(
 }
 
 // Opens a queue in a core and beside it, with a lane that has seen what a front has.
-#[tactic(auto, using(crate::proofs::Opened::refused_meets, crate::proofs::Opened::lacks, crate::proofs::Opened::entered_opened, crate::proofs::Opened::apart_entered))]
+#[tactic(auto, using(crate::proofs::Opened::refused_meets, crate::proofs::Opened::lacks, crate::proofs::Opened::entered_opened))]
 fn open_beside(
     alloc: Global,
     core: &mut AccessCore,
