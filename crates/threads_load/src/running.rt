@@ -6,7 +6,7 @@ ghost use Rattle.client_threads.specs.Running.{IsEndOf, IsLaneOf};
 ghost use Rattle.client_threads.specs.Sections.{IsSection};
 ghost use Rattle.core_model.specs.Legal.{IsLegalPart};
 ghost use Rattle.core_model.specs.Rotation.{Rotates};
-ghost use Rattle.threads_load.specs.Stages.{EachStaysOf, IsStage, KeepsFor, queues_of};
+ghost use Rattle.threads_load.specs.Stages.{EachStaysOf, IsStage};
 
 use crate::gate::LoadGate;
 use crate::opening::Stage;
@@ -74,7 +74,6 @@ fn produce_all<B: Room + Send + Sync, R: Threads + Sync>(
 }
 
 // Lanes run.
-#[tactic(auto, using(crate::proofs::Handing::same_queues))]
 fn run_all<B: Room + Send + Sync, R: Threads + Wait + Sync>(
     rt: &R,
     alloc: Global,
@@ -83,8 +82,7 @@ fn run_all<B: Room + Send + Sync, R: Threads + Wait + Sync>(
     gate: &LoadGate,
 ) -> Vec<Lane>
     requires { All (λ lane. IsLaneOf B.board broker.now lane) lanes.items }
-    ensures lanes { All (λ lane. IsLaneOf B.board broker.now lane) result.items }
-    ensures queues { queues_of result.items ≡ queues_of lanes.items }
+    ensures { All (λ lane. IsLaneOf B.board broker.now lane) result.items }
 {
     run_lanes(rt, alloc, broker, lanes, gate)
 }
@@ -104,7 +102,6 @@ fn run_both<B: Room + Send + Sync, R: Threads + Wait + Sync>(
     requires lanes { All (λ lane. IsLaneOf B.board broker.now lane) lanes.items }
     ensures ends { All (λ end. IsEndOf broker.now end) result.0.items }
     ensures lanes { All (λ lane. IsLaneOf B.board broker.now lane) result.1.items }
-    ensures queues { queues_of result.1.items ≡ queues_of lanes.items }
 {
     thread::join(
         rt,
@@ -114,7 +111,7 @@ fn run_both<B: Room + Send + Sync, R: Threads + Wait + Sync>(
         { produce_all(rt, broker, plan, share, ends) },
         move || -> Vec<Lane>
             requires { IsSync R.row × All (λ lane. IsLaneOf B.board broker.now lane) lanes.items }
-            ensures { All (λ lane. IsLaneOf B.board broker.entry.now lane) result.items × (queues_of result.items ≡ queues_of lanes.entry.items) }
+            ensures { All (λ lane. IsLaneOf B.board broker.entry.now lane) result.items }
         { run_all(rt, alloc, broker, lanes, gate) },
     )
 }
@@ -136,7 +133,7 @@ fn rotate<B: Room, R: Wait>(
 }
 
 // Does so once a packet is finished.
-#[tactic(auto, using(crate::proofs::Handing::handed_legal, crate::proofs::Handing::section_keeps))]
+#[tactic(auto, using(crate::proofs::Handing::handed_legal))]
 fn rotate_once<B: Room, R: Wait>(
     rt: &R,
     alloc: Global,
@@ -145,7 +142,7 @@ fn rotate_once<B: Room, R: Wait>(
     gate: &LoadGate,
 ) -> (Front, Result<Part, Refusal>)
     requires { front.board ≡ B.board }
-    ensures front { (result.0.board ≡ B.board) × KeepsFor B.opened front.left result.0.left }
+    ensures front { (result.0.board ≡ B.board) }
     ensures part { IfOk result.1 (IsLegalPart B.opened.history.kernels) }
 {
     gate.wait_for_first();
@@ -171,19 +168,18 @@ fn run_beside<B: Room + Send + Sync, R: Threads + Wait + Sync>(
     requires lanes { All (λ lane. IsLaneOf B.board broker.now lane) lanes.items }
     ensures ends { All (λ end. IsEndOf broker.now end) result.0.0.items }
     ensures lanes { All (λ lane. IsLaneOf B.board broker.now lane) result.0.1.items }
-    ensures queues { queues_of result.0.1.items ≡ queues_of lanes.items }
-    ensures front { (result.1.0.board ≡ B.board) × KeepsFor B.opened front.left result.1.0.left }
+    ensures front { (result.1.0.board ≡ B.board) }
     ensures part { IfOk result.1.1 (IsLegalPart B.opened.history.kernels) }
 {
     thread::join(
         rt,
         move || -> (Vec<ClientEnd>, Vec<Lane>)
             requires { IsSync R.row × All (λ end. IsEndOf broker.now end) ends.items × All (λ lane. IsLaneOf B.board broker.now lane) lanes.items }
-            ensures { All (λ end. IsEndOf broker.entry.now end) result.0.items × All (λ lane. IsLaneOf B.board broker.entry.now lane) result.1.items × (queues_of result.1.items ≡ queues_of lanes.entry.items) }
+            ensures { All (λ end. IsEndOf broker.entry.now end) result.0.items × All (λ lane. IsLaneOf B.board broker.entry.now lane) result.1.items }
         { run_both(rt, alloc, broker, plan, share, gate, ends, lanes) },
         move || -> (Front, Result<Part, Refusal>)
             requires { front.board ≡ B.board }
-            ensures { ((result.0.board ≡ B.board) × KeepsFor B.opened front.entry.left result.0.left) × IfOk result.1 (IsLegalPart B.opened.history.kernels) }
+            ensures { (result.0.board ≡ B.board) × IfOk result.1 (IsLegalPart B.opened.history.kernels) }
         { rotate_once(rt, alloc, broker, front, gate) },
     )
 }
@@ -199,9 +195,7 @@ pub fn run_stage<B: Room + Send + Sync, R: Threads + Wait + Sync>(
     gate: &LoadGate,
 ) -> Stage<B>
     requires { IsStage B.board stage }
-    ensures stage { IsStage B.board result }
-    ensures queues { queues_of result.lanes.items ≡ queues_of stage.lanes.items }
-    ensures front { result.front ≡ stage.front }
+    ensures { IsStage B.board result }
 {
     let Stage {
         broker,
@@ -234,8 +228,6 @@ pub fn run_rotated<B: Room + Send + Sync, R: Threads + Wait + Sync>(
 ) -> (Stage<B>, Result<Part, Refusal>)
     requires { IsStage B.board stage }
     ensures stage { IsStage B.board result.0 }
-    ensures queues { queues_of result.0.lanes.items ≡ queues_of stage.lanes.items }
-    ensures kept { KeepsFor B.opened stage.front.left result.0.front.left }
     ensures part { IfOk result.1 (IsLegalPart B.opened.history.kernels) }
 {
     let Stage {
