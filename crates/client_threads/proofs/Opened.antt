@@ -1,9 +1,7 @@
 -- What an opening is due, and what it leaves.
 use Rattle.std.proofs.Common.{◌≡◌, ℕ, suc, zero, ◌+◌, ◌<◌, ◌≤◌, true, false, Bool, List, [], ◌∷◌, ◌++◌, length, length-append, refl, ap, ◌∙◌, sym, subst, arith, ◌⊎◌, inl, inr}
 use Rattle.std.proofs.lemmas.Bool.Decides.{nat_tests}
-use Rattle.std.proofs.lemmas.List.Elements.{All-push}
-use Rattle.std.specs.Prelude.{map, option_map, cond, find, ◌==◌, All, Some, None, Result, Ok, Err, nat_le, if◌then◌else◌, ⊤}
-use mathlib.Core.List.{IsPrefix}
+use Rattle.std.specs.Prelude.{map, Option, Some, None, is_some, Result, Ok, Err, nat_le, if◌then◌else◌, ⊤}
 use Rattle.aql_packet.specs.Ring.{is_ring_size}
 use Rattle.aql_packet.specs.declared.ids.ClientId.{ClientId}
 use Rattle.aql_packet.specs.declared.ids.AgentHandle.{AgentHandle}
@@ -38,15 +36,14 @@ use Rattle.access_core.specs.declared.kernel.Kernel.{Kernel}
 use Rattle.client_threads.specs.Boards.{PassSeen}
 use Rattle.client_threads.specs.Opening.{IsOpened, as_end, judged_size, next_queue}
 use Rattle.client_threads.specs.Rings.{AreApart, QueueRing, ring_of}
-use Rattle.client_threads.specs.Sections.{AllFollow, IsFirst, last_of}
+use Rattle.client_threads.specs.Sections.{IsFirst}
 use Rattle.client_threads.specs.declared.client_end.ClientEnd.{ClientEnd}
 use Rattle.client_threads.specs.declared.opening.Beside.{Beside}
 use Rattle.client_threads.specs.Desks.{seen}
 use Rattle.client_threads.specs.Lanes.{LaneSeen}
-use Rattle.client_threads.specs.inner.Openings.{AreBelow, HasEntered, IsBeside, IsOpenable}
+use Rattle.client_threads.specs.inner.Openings.{HasEntered, IsBeside, IsOpenable}
 use Rattle.client_threads.proofs.Apart.{apart_more}
-use Rattle.client_threads.proofs.Calls.{answered_meets, refused_leaves_or_lacks}
-use Rattle.client_threads.proofs.Runs.{next_grows}
+use Rattle.client_threads.proofs.Calls.{answered_meets}
 
 -- a core that is opened is as one is opened
 pub opens_first : (policy : Declared) (kernels : List Kernel) (capacity : ℕ) (core : Core) → IsOpening core.history policy (map program_of kernels) capacity → IsFirst core
@@ -141,41 +138,25 @@ module _ (h : History) (client : ClientId) (agent : AgentHandle) (size : ℕ) wh
 
 -- ---- beside the rings of the broker
 
-other_number : (n m : ℕ) → n < m → (n == m) ≡ false
-other_number n m lt = grind (arith, nat_tests)
-
--- rings of queues below a number are none of the queue with that number
-none_at : (rings : List QueueRing) (number : ℕ) → All (λ r. r.queue < number) rings → ring_of number rings ≡ None
-none_at [] number below = refl
-none_at (r ∷ rs) number below =
-    ap (λ b. option_map (λ x. x.ring) (cond b (Some r) (find (λ x. x.queue == number) rs))) (other_number r.queue number (below zero r (omega arith)))
-    ∙ none_at rs number (λ k d lt. below (suc k) d (omega (arith, lt)))
-
-below_as : (rings : List QueueRing) (n m : ℕ) → n ≤ m → All (λ r. r.queue < n) rings → All (λ r. r.queue < m) rings
-below_as rings n m le below = λ k d lt. let b = below k d lt in omega (arith, b, le)
-
-pub none_below : (h : History) → AreBelow h []
-none_below h = λ k d lt. absurd (omega (arith, lt))
-
--- sections only raise the number of the next queue
-pub below_last : (opened : Core) (known left : List Core) (core : Core) (rings : List QueueRing) → IsPrefix known left → AllFollow opened left → last_of opened left ≡ core → AreBelow (last_of opened known).history rings → AreBelow core.history rings
-below_last opened known left core rings p all is below =
-    subst (λ (c : Core). AreBelow c.history rings) is (below_as rings (next_queue (last_of opened known).history) (next_queue (last_of opened left).history) (next_grows opened known left p all) below)
+no_ring : {X : Type 0} → (o : Option X) → is_some o ≡ false → o ≡ None
+no_ring None e = refl
+no_ring (Some x) e = absurd (cc)
 
 module _ (rings : List QueueRing) (h : History) (client : ClientId) (agent : AgentHandle) (size : ℕ) where
   abbrev Asked : Event
   Asked = Open client agent size
 
-  pub openable : (queue : QueueId) → AreBelow h rings → due h Asked ≡ enters (outcome.Opened queue) [] → IsOpenable rings h Asked queue
-  openable queue below e =
-      let next = number h client agent size queue e in
-      record { due_is = e; next = next; few = number_few h client agent size queue e; fresh = ap (λ n. ring_of n rings) next ∙ none_at rings (next_queue h) below }
+  pub openable : (queue : QueueId) → due h Asked ≡ enters (outcome.Opened queue) [] → is_some (ring_of queue.0 rings) ≡ false → IsOpenable rings h Asked queue
+  openable queue e none = record { due_is = e; next = number h client agent size queue e; few = number_few h client agent size queue e; fresh = no_ring _ none }
 
   pub refused_meets : (why : Refusal) → due h Asked ≡ refuses why → MeetsOrLacks Asked h h (Err why)
   refused_meets why e = inl (record { reply_is = sym (ap reply_of e); history_is = sym (ap (history_after h Asked) e) })
 
+  pub due_lacks : (queue : QueueId) → due h Asked ≡ enters (outcome.Opened queue) [] → MeetsOrLacks Asked h h (Err refusal.OutOfMemory)
+  due_lacks queue e = inr (record { may = ap (may_lack_memory Asked) e; reply_is = refl; history_is = refl })
+
   pub lacks : (queue : QueueId) → IsOpenable rings h Asked queue → MeetsOrLacks Asked h h (Err refusal.OutOfMemory)
-  lacks queue o = inr (record { may = ap (may_lack_memory Asked) o.due_is; reply_is = refl; history_is = refl })
+  lacks queue o = due_lacks queue o.due_is
 
   -- the core opened the queue that it was to
   opened_same : (queue of : QueueId) (after : History) → IsOpenable rings h Asked queue → MeetsOrLacks Asked h after (Ok (outcome.Opened of)) → of ≡ queue
@@ -187,30 +168,9 @@ module _ (rings : List QueueRing) (h : History) (client : ClientId) (agent : Age
   pub opened_meets : (queue of : QueueId) (after : History) → IsOpenable rings h Asked queue → MeetsOrLacks Asked h after (Ok (outcome.Opened of)) → MeetsOrLacks Asked h after (Ok (outcome.Opened queue))
   opened_meets queue of after o m = subst (λ (q : QueueId). MeetsOrLacks Asked h after (Ok (outcome.Opened q))) (opened_same queue of after o m) m
 
-  opened_after : (queue of : QueueId) (after : History) → IsOpenable rings h Asked queue → MeetsOrLacks Asked h after (Ok (outcome.Opened of)) → after ≡ history_after h Asked (enters (outcome.Opened queue) [])
-  opened_after queue of after o m = (answered_meets Asked h after (outcome.Opened of) m).history_is ∙ ap (history_after h Asked) o.due_is
-
-  -- after it the next queue has the next number
-  next_after : (queue of : QueueId) (after : History) → IsOpenable rings h Asked queue → MeetsOrLacks Asked h after (Ok (outcome.Opened of)) → next_queue after ≡ next_queue h + 1
-  next_after queue of after o m =
-      let entry : Entry = entry_of Asked (outcome.Opened queue) [] in
-      let is = opened_after queue of after o m in
-      let more : length (openings (beginning after) after.entries) ≡ length (openings (beginning h) (h.entries ++ entry ∷ [])) = ap (λ (x : History). length (openings (beginning x) x.entries)) is in
-      let count : length (openings (beginning h) (h.entries ++ entry ∷ [])) ≡ length (openings (beginning h) h.entries) + 1 = ap length (openings-more (beginning h) h.entries entry) ∙ length-append (openings (beginning h) h.entries) (record { client = client; agent = agent } ∷ []) in
-      omega (arith, more, count)
-
-  pub entered_below : (made : Beside) (of : QueueId) (after : History) → IsOpenable rings h Asked made.desk.queue → AreBelow h rings → MeetsOrLacks Asked h after (Ok (outcome.Opened of)) → AreBelow after (rings ++ seen made.desk ∷ [])
-  entered_below made of after o below m =
-      let next = next_after made.desk.queue of after o m in
-      let own : made.desk.queue.0 < next_queue after = let n = o.next in omega (arith, n, next) in
-      All-push (λ r. r.queue < next_queue after) rings (seen made.desk) (below_as rings (next_queue h) (next_queue after) (omega (arith, next)) below) own
-
   -- no two rings are of one queue
   pub entered_apart : (made : Beside) → IsOpenable rings h Asked made.desk.queue → AreApart rings → AreApart (rings ++ seen made.desk ∷ [])
   entered_apart made o apart = apart_more rings (seen made.desk) apart o.fresh
-
-  pub failed_below : (why : Refusal) (after : History) → AreBelow h rings → MeetsOrLacks Asked h after (Err why) → AreBelow after rings
-  failed_below why after below m = subst (λ (x : History). AreBelow x rings) (sym (refused_leaves_or_lacks Asked h after why m)) below
 
 -- what was made and entered is opened
 pub entered_opened : (old new : List QueueRing) (size producers : ℕ) (front : PassSeen) (next queue : QueueId) (made : Beside) (ends : List ClientEnd) (lane : LaneSeen)

@@ -8,15 +8,13 @@ use Rattle.policy.specs.Policy.{numbered}
 use Rattle.aql_packet.specs.declared.ids.QueueId.{QueueId}
 use Rattle.core_model.specs.History.{History, Start, begin, beginning, opening_state}
 use Rattle.core_model.specs.Legal.{IsLegal, IsOpening, IsWhole}
-use Rattle.core_model.specs.Queues.{opening_of, openings, owner, with_some}
+use Rattle.core_model.specs.Queues.{openings, owner}
 use Rattle.core_model.specs.declared.origin.Opening.{Opening}
 use Rattle.core_model.specs.States.{state_after}
 use Rattle.core_model.specs.declared.entry.Entry.{Entry}
 use Rattle.core_model.proofs.Holding.{owner-more}
-use Rattle.core_model.proofs.More.{openings-more}
 use Rattle.core_model.proofs.States.{begin-opening, join-end, join-legal, legal-whole, state-now, whole-legal}
 use Rattle.access_core.specs.Cores.{Core}
-use Rattle.client_threads.specs.Opening.{next_queue}
 use Rattle.client_threads.specs.Sections.{AllFollow, Follows, IsFirst, IsReached, gone, last_of, whole}
 use Rattle.client_threads.proofs.Sections.{none_out, number_same, same_number}
 
@@ -108,54 +106,17 @@ owner_follows : (a b : History) (queue : QueueId) (opening : Opening) → Follow
 owner_follows a b queue opening f is =
     ⊎_elim
     (λ (t : (b.origin ≡ a.origin) × IsPrefix a.entries b.entries).
-        subst (λ (s : Start). owner s b.entries queue ≡ Some opening) (sym (λ i. begin (f.kernels i) (t.0 i)))
-        (subst (λ (es : List Entry). owner (beginning a) es queue ≡ Some opening) t.1.1 (owner_stays (beginning a) a.entries t.1.0 queue opening is)))
+    subst (λ (s : Start). owner s b.entries queue ≡ Some opening) (sym (λ i. begin (f.kernels i) (t.0 i)))
+    (subst (λ (es : List Entry). owner (beginning a) es queue ≡ Some opening) t.1.1 (owner_stays (beginning a) a.entries t.1.0 queue opening is)))
     (λ (t : beginning b ≡ state_after (beginning a) a.entries).
-        subst (λ (s : Start). owner s b.entries queue ≡ Some opening) (sym t)
-        (owner_stays (state_after (beginning a) a.entries) [] b.entries queue opening (ap (λ os. numbered os queue.0) (openings_now (beginning a) a.entries) ∙ is)))
+    subst (λ (s : Start). owner s b.entries queue ≡ Some opening) (sym t)
+    (owner_stays (state_after (beginning a) a.entries) [] b.entries queue opening (ap (λ os. numbered os queue.0) (openings_now (beginning a) a.entries) ∙ is)))
     f.goes
 
 pub owners_stay : (old : Core) (left : List Core) (queue : QueueId) (opening : Opening) → AllFollow old left → owner (beginning old.history) old.history.entries queue ≡ Some opening
     → owner (beginning (last_of old left).history) (last_of old left).history.entries queue ≡ Some opening
 owners_stay old [] queue opening all is = is
 owners_stay old (c ∷ cs) queue opening all is = owners_stay c cs queue opening all.1 (owner_follows old.history c.history queue opening all.0.follows is)
-
-with_longer : (os : List Opening) (o : Option Opening) → length os ≤ length (with_some os o)
-with_longer os None = omega arith
-with_longer os (Some o) = let count = length-append os (o ∷ []) in omega (arith, count)
-
-pub openings_longer : (start : Start) (es more : List Entry) → length (openings start es) ≤ length (openings start (es ++ more))
-openings_longer start es [] = subst (λ (now : List Entry). length (openings start es) ≤ length (openings start now)) (sym (append-nil es)) (omega arith)
-openings_longer start es (e ∷ more) =
-    let one : length (openings start es) ≤ length (openings start (es ++ e ∷ [])) = subst (λ os. length (openings start es) ≤ length os) (sym (openings-more start es e)) (with_longer (openings start es) (opening_of e.event)) in
-    let rest : length (openings start (es ++ e ∷ [])) ≤ length (openings start (es ++ e ∷ more)) = subst (λ (now : List Entry). length (openings start (es ++ e ∷ [])) ≤ length (openings start now)) (append_assoc es (e ∷ []) more) (openings_longer start (es ++ e ∷ []) more) in
-    omega (arith, one, rest)
-
-next_follows : (a b : History) → Follows a b → next_queue a ≤ next_queue b
-next_follows a b f =
-    ⊎_elim
-    (λ (t : (b.origin ≡ a.origin) × IsPrefix a.entries b.entries).
-        let more : length (openings (beginning a) a.entries) ≤ length (openings (beginning a) (a.entries ++ t.1.0)) = openings_longer (beginning a) a.entries t.1.0 in
-        let same : length (openings (beginning a) (a.entries ++ t.1.0)) ≡ length (openings (beginning b) b.entries) = λ i. length (openings (begin (sym f.kernels i) (sym t.0 i)) (t.1.1 i)) in
-        omega (arith, more, same))
-    (λ (t : beginning b ≡ state_after (beginning a) a.entries).
-        let more : length (openings (state_after (beginning a) a.entries) []) ≤ length (openings (state_after (beginning a) a.entries) b.entries) = openings_longer (state_after (beginning a) a.entries) [] b.entries in
-        let here : length (openings (state_after (beginning a) a.entries) []) ≡ length (openings (beginning a) a.entries) = ap length (openings_now (beginning a) a.entries) in
-        let same : length (openings (state_after (beginning a) a.entries) b.entries) ≡ length (openings (beginning b) b.entries) = ap (λ (s : Start). length (openings s b.entries)) (sym t) in
-        omega (arith, more, here, same))
-    f.goes
-
-next_last : (opened : Core) (left : List Core) → AllFollow opened left → next_queue opened.history ≤ next_queue (last_of opened left).history
-next_last opened [] all = omega arith
-next_last opened (c ∷ cs) all = let one = next_follows opened.history c.history all.0.follows in let rest = next_last c cs all.1 in omega (arith, one, rest)
-
--- what is opened next has no smaller number than what was to be opened next
-pub next_grows : (opened : Core) (known left : List Core) → IsPrefix known left → AllFollow opened left → next_queue (last_of opened known).history ≤ next_queue (last_of opened left).history
-next_grows opened [] left p all = next_last opened left all
-next_grows opened (x ∷ xs) [] p all = absurd (cc (p.1))
-next_grows opened (x ∷ xs) (y ∷ ys) p all =
-    let heads : x ≡ y = cc (p.1) in
-    subst (λ (z : Core). next_queue (last_of z xs).history ≤ next_queue (last_of y ys).history) (sym heads) (next_grows y xs ys (p.0, cc (p.1)) all.1)
 
 abbrev Owns : Core → QueueId → Opening → Type 0
 Owns core queue opening = owner (beginning core.history) core.history.entries queue ≡ Some opening

@@ -39,15 +39,11 @@ pub struct Broker<B: Room> {
     pub(crate) held: Mutex<Held<B>>,
     pub(crate) board: Board,
     pub(crate) desks: Vec<Desk>,
-    // What had been left of the core when the last queue was opened.
-    pub(crate) known: Front,
 }
 
 impl<B: Room> Model for Broker<B> {
     ghost use Rattle.std.specs.Prelude.{◌≡◌, List, map};
     ghost use Rattle.client_threads.specs.Rings.{AreApart, QueueRing};
-    ghost use Rattle.client_threads.specs.Sections.{last_of};
-    ghost use Rattle.client_threads.specs.inner.Openings.{AreBelow};
 
     ghost Value = { List QueueRing };
 
@@ -55,7 +51,7 @@ impl<B: Room> Model for Broker<B> {
 
     ghost view = { λ b. map seen b.desks.items };
 
-    ghost invariant = { λ b. AreApart (map seen b.desks.items) × (b.board ≡ B.board) × (b.known.board ≡ B.board) × AreBelow (last_of B.opened b.known.left).history (map seen b.desks.items) };
+    ghost invariant = { λ b. AreApart (map seen b.desks.items) × (b.board ≡ B.board) };
 }
 
 /// A broker that has no name yet, and no ring. A contract sees its board and its core.
@@ -112,7 +108,6 @@ impl UnnamedBroker {
             mut keeper,
             alloc,
         } = self;
-        let known = board.front(&mut keeper);
         let front = board.front(&mut keeper);
         let held = Held {
             core,
@@ -123,7 +118,6 @@ impl UnnamedBroker {
             held: Mutex::new(held),
             board,
             desks: Vec::new(alloc),
-            known,
         };
         (broker, front)
     }

@@ -1,21 +1,20 @@
 //! Queues are opened, each with its ring and its doorbell.
 
-ghost use Rattle.std.specs.Prelude.{◌≡◌, ℕ, List, ◌<◌, ◌≤◌, IfOk, IfErr, OnOk, [], false, map, vec_capacity, vec_len};
+ghost use Rattle.std.specs.Prelude.{◌≡◌, ℕ, List, ◌<◌, ◌≤◌, IfOk, IfErr, OnOk, Err, [], false, is_some, map, vec_capacity, vec_len};
 ghost use Rattle.policy.specs.Results.{map_ok};
 ghost use Rattle.core_model.specs.declared.event.Event.{Event};
 ghost use Rattle.core_model.specs.declared.limits.TheConstants.{QUEUES};
 ghost use Rattle.core_model.specs.declared.outcome.Outcome.{Outcome};
-ghost use Rattle.core_model.specs.Legal.{MeetsOrLacks, due};
-ghost use Rattle.core_model.specs.Owed.{refuses};
+ghost use Rattle.core_model.specs.Legal.{MeetsOrLacks};
 ghost use Rattle.client_threads.specs.Desks.{seen};
 ghost use Rattle.client_threads.specs.Opening.{IsOpened, as_end, judged_size, opening_event};
 ghost use Rattle.client_threads.specs.Boards.{PassSeen};
-ghost use Rattle.client_threads.specs.Rings.{AreApart, QueueRing};
-ghost use Rattle.client_threads.specs.Sections.{IsSection, last_of};
-ghost use Rattle.client_threads.specs.inner.Openings.{AreBelow, HasEntered, IsBeside, IsOpenable};
+ghost use Rattle.client_threads.specs.Rings.{AreApart, QueueRing, ring_of};
+ghost use Rattle.client_threads.specs.Sections.{IsSection};
+ghost use Rattle.client_threads.specs.inner.Openings.{HasEntered, IsBeside, IsOpenable};
 
 use crate::board::{Board, Front};
-use crate::broker::{Broker, Desk};
+use crate::broker::{Broker, Desk, find_desk};
 use crate::client_end::ClientEnd;
 use crate::lane::Lane;
 use crate::room::{Held, Room, leave};
@@ -66,14 +65,9 @@ impl<B: Room> Broker<B> {
             size,
             producers,
         };
-        let Broker {
-            held,
-            board,
-            desks,
-            known,
-        } = self;
+        let Broker { held, board, desks } = self;
         let held = held.get_mut();
-        held.open_queue(alloc, board, desks, known, front, asked)
+        held.open_queue(alloc, board, desks, front, asked)
     }
 }
 
@@ -84,32 +78,26 @@ impl<B: Room> Held<B> {
         alloc: Global,
         board: &Board,
         desks: &mut Vec<Desk>,
-        known: &mut Front,
         front: &mut Front,
         asked: Asked,
     ) -> Result<Opened, Refusal>
-        requires board { (board.now ≡ B.board) × (known.old.board ≡ B.board) × (front.old.board ≡ B.board) }
+        requires board { (board.now ≡ B.board) × (front.old.board ≡ B.board) }
         requires apart { AreApart (map seen desks.old.items) }
-        requires below { AreBelow (last_of B.opened known.old.left).history (map seen desks.old.items) }
-        ensures board { (known.new.board ≡ B.board) × (front.new.board ≡ B.board) }
+        ensures board { front.new.board ≡ B.board }
         ensures section { IsSection B.opened front.old.left front.new.left (λ before after.
             MeetsOrLacks (opening_event asked.client asked.agent asked.size asked.producers) before.history after.history (map_ok (λ o. Outcome.Opened o.0) result)) }
         ensures opened { IfOk result (λ o. IsOpened (map seen desks.old.items) asked.size asked.producers front.new o.0 o.1.items o.2 (map seen desks.new.items)) }
         ensures refused { IfErr result (λ _. map seen desks.new.items ≡ map seen desks.old.items) }
         ensures apart { AreApart (map seen desks.new.items) }
-        ensures below { AreBelow (last_of B.opened known.new.left).history (map seen desks.new.items) }
     {
-        let shown = board.copy(known);
-        board.check(&mut self.keeper, shown);
         let begun = board.copy(front);
         board.check(&mut self.keeper, begun);
         self.core.audit();
         let lent = board.copy(front);
         let opened = open_beside(alloc, &mut self.core, desks, lent, asked);
         self.core.audit();
-        *known = leave(board, &mut self.keeper, &self.core);
-        *front = board.copy(known);
-        let last = board.copy(known);
+        *front = leave(board, &mut self.keeper, &self.core);
+        let last = board.copy(front);
         with_front(opened, last)
     }
 }
@@ -141,8 +129,17 @@ fn judged_size(size: u64, producers: u64) -> u64
     }
 }
 
-// The number that a queue will have that is opened next, or why it isn't.
-#[tactic(auto, using(crate::proofs::Opened::openable))]
+// Whether a queue has a ring.
+#[tactic(auto, using(crate::proofs::RingOfDesks::has_ring))]
+fn has_ring(desks: &[Desk], queue: QueueId) -> bool
+    ensures { result ≡ is_some (ring_of queue.0 (map seen desks.now)) }
+{
+    find_desk(desks, queue).is_some()
+}
+
+// The number that a queue will have that is opened next, or why it isn't. A ring of that number, which no queue can have
+// that isn't opened, is told as want of memory.
+#[tactic(auto, using(crate::proofs::Opened::openable, crate::proofs::Opened::refused_meets, crate::proofs::Opened::due_lacks))]
 fn may_open(
     core: &AccessCore,
     desks: &[Desk],
@@ -150,11 +147,19 @@ fn may_open(
     agent: AgentHandle,
     size: u64,
 ) -> Result<QueueId, Refusal>
-    requires below { AreBelow core.now.history (map seen desks.now) }
     ensures may { IfOk result (IsOpenable (map seen desks.now) core.now.history (Event.Open client agent size)) }
-    ensures why { IfErr result (λ why. due core.now.history (Event.Open client agent size) ≡ refuses why) }
+    ensures why { IfErr result (λ why. MeetsOrLacks (Event.Open client agent size) core.now.history core.now.history (Err why)) }
 {
-    core.may_open(client, agent, size)
+    match core.may_open(client, agent, size) {
+        Err(why) => Err(why),
+        Ok(queue) => {
+            if has_ring(desks, queue) {
+                Err(Refusal::OutOfMemory)
+            } else {
+                Ok(queue)
+            }
+        }
+    }
 }
 
 // The ends of a queue, from the passes to its ring.
@@ -240,7 +245,7 @@ fn make_room(
 }
 
 // Opens a queue in a core, and puts what was made for it behind the other desks.
-#[tactic(auto, using(crate::proofs::Opened::opened_meets, crate::proofs::Opened::failed_below))]
+#[tactic(auto, using(crate::proofs::Opened::opened_meets))]
 fn enter_queue(
     alloc: Global,
     core: &mut AccessCore,
@@ -253,12 +258,10 @@ fn enter_queue(
     requires openable { IsOpenable (map seen desks.old.items) core.old.history (Event.Open client agent size) made.desk.queue }
     requires room { vec_len desks.old < vec_capacity desks.old }
     requires apart { AreApart (map seen desks.old.items) }
-    requires below { AreBelow core.old.history (map seen desks.old.items) }
     ensures due { MeetsOrLacks (Event.Open client agent size) core.old.history core.new.history (map_ok (λ o. Outcome.Opened o.0) result) }
     ensures entered { IfOk result (λ o. HasEntered made (map seen desks.old.items) (map seen desks.new.items) o.0 o.1.items o.2) }
     ensures refused { IfErr result (λ _. desks.new.items ≡ desks.old.items) }
     ensures apart { AreApart (map seen desks.new.items) }
-    ensures below { AreBelow core.new.history (map seen desks.new.items) }
 {
     let queue = made.desk.queue;
     match core.open_allowed(alloc, client, agent, size, queue) {
@@ -272,7 +275,7 @@ fn enter_queue(
 }
 
 // Opens a queue in a core and beside it, with a lane that has seen what a front has.
-#[tactic(auto, using(crate::proofs::Opened::refused_meets, crate::proofs::Opened::lacks, crate::proofs::Opened::entered_opened))]
+#[tactic(auto, using(crate::proofs::Opened::lacks, crate::proofs::Opened::entered_opened))]
 fn open_beside(
     alloc: Global,
     core: &mut AccessCore,
@@ -281,12 +284,10 @@ fn open_beside(
     asked: Asked,
 ) -> Result<Opened, Refusal>
     requires apart { AreApart (map seen desks.old.items) }
-    requires below { AreBelow core.old.history (map seen desks.old.items) }
     ensures due { MeetsOrLacks (opening_event asked.client asked.agent asked.size asked.producers) core.old.history core.new.history (map_ok (λ o. Outcome.Opened o.0) result) }
     ensures opened { IfOk result (λ o. IsOpened (map seen desks.old.items) asked.size asked.producers front o.0 o.1.items o.2 (map seen desks.new.items)) }
     ensures refused { IfErr result (λ _. map seen desks.new.items ≡ map seen desks.old.items) }
     ensures apart { AreApart (map seen desks.new.items) }
-    ensures below { AreBelow core.new.history (map seen desks.new.items) }
 {
     let Asked {
         client,

@@ -23,8 +23,8 @@ use client_threads::{
 use core_model::{Part, Refusal};
 use policy::Policy;
 use std::alloc::Global;
-use std::slice;
 use std::marker::Brand;
+use std::slice;
 use std::sync::Wait;
 use std::thread::Threads;
 

@@ -80,7 +80,12 @@ fn publish_under<B: Room>(
 }
 
 // Reserves an id and publishes a packet under it. Answers whether it was published.
-fn publish_one<B: Room>(broker: &Broker<B>, end: &mut ClientEnd, bytes: &[u8; 64], tries_left: &mut u64) -> bool
+fn publish_one<B: Room>(
+    broker: &Broker<B>,
+    end: &mut ClientEnd,
+    bytes: &[u8; 64],
+    tries_left: &mut u64,
+) -> bool
     requires { IsEndOf broker.now end.old }
     ensures { IsEndOf broker.now end.new }
 {
@@ -110,7 +115,12 @@ fn planned_of(plan: &[PlannedQueue], queue: QueueId) -> Option<PlannedQueue> {
 }
 
 /// Publishes a producer's packets on the queue of its end, until it gives up.
-pub fn produce<B: Room>(broker: &Broker<B>, plan: &[PlannedQueue], share: Share, end: &mut ClientEnd)
+pub fn produce<B: Room>(
+    broker: &Broker<B>,
+    plan: &[PlannedQueue],
+    share: Share,
+    end: &mut ClientEnd,
+)
     requires { IsEndOf broker.now end.old }
     ensures { StaysOf broker.now end.old end.new }
 {

@@ -237,15 +237,7 @@ pub fn run_rotated<B: Room + Send + Sync, R: Threads + Wait + Sync>(
         lanes,
     } = stage;
     let ((ends, lanes), (front, part)) = run_beside(
-        rt,
-        alloc,
-        &broker,
-        plan,
-        share,
-        gate,
-        front,
-        ends,
-        lanes,
+        rt, alloc, &broker, plan, share, gate, front, ends, lanes,
     );
     let stage = Stage {
         broker,

@@ -34,7 +34,12 @@ fn hear_all<R: Wait>(rt: &R, bell: &Doorbell, heard: &AtomicU64) -> bool {
 }
 
 // Publishes each packet once the one before was heard.
-fn publish_heard<B: Room>(broker: &Broker<B>, end: &mut ClientEnd, bell: &Doorbell, heard: &AtomicU64)
+fn publish_heard<B: Room>(
+    broker: &Broker<B>,
+    end: &mut ClientEnd,
+    bell: &Doorbell,
+    heard: &AtomicU64,
+)
     requires { IsEndOf broker.now end.old }
     ensures { IsEndOf broker.now end.new }
 {
@@ -47,7 +52,12 @@ fn publish_heard<B: Room>(broker: &Broker<B>, end: &mut ClientEnd, bell: &Doorbe
 }
 
 // Whether a bell tells another thread the id of each packet of an end.
-fn tells<B: Room + Send + Sync, R: Threads + Wait + Sync>(rt: &R, broker: &Broker<B>, end: ClientEnd, bell: &Doorbell) -> bool
+fn tells<B: Room + Send + Sync, R: Threads + Wait + Sync>(
+    rt: &R,
+    broker: &Broker<B>,
+    end: ClientEnd,
+    bell: &Doorbell,
+) -> bool
     requires { IsEndOf broker.now end }
 {
     let mut end = end;
@@ -61,7 +71,11 @@ fn tells<B: Room + Send + Sync, R: Threads + Wait + Sync>(rt: &R, broker: &Broke
 }
 
 // Whether the bell of an end's queue does.
-fn own_bell_tells<B: Room + Send + Sync, R: Threads + Wait + Sync>(rt: &R, broker: &Broker<B>, end: ClientEnd) -> bool
+fn own_bell_tells<B: Room + Send + Sync, R: Threads + Wait + Sync>(
+    rt: &R,
+    broker: &Broker<B>,
+    end: ClientEnd,
+) -> bool
     requires { IsEndOf broker.now end }
 {
     match broker.doorbell(end.queue()) {
@@ -71,7 +85,10 @@ fn own_bell_tells<B: Room + Send + Sync, R: Threads + Wait + Sync>(rt: &R, broke
 }
 
 // Whether the bell of a stage's last queue does. The stage comes back without that queue's end.
-fn last_bell_tells<B: Room + Send + Sync, R: Threads + Wait + Sync>(rt: &R, stage: Stage<B>) -> Option<(Stage<B>, bool)>
+fn last_bell_tells<B: Room + Send + Sync, R: Threads + Wait + Sync>(
+    rt: &R,
+    stage: Stage<B>,
+) -> Option<(Stage<B>, bool)>
     requires { IsStage B.board stage }
     ensures { IfSome result (λ told. IsStage B.board told.0) }
 {
@@ -81,7 +98,10 @@ fn last_bell_tells<B: Room + Send + Sync, R: Threads + Wait + Sync>(rt: &R, stag
 }
 
 // Whether the bells of a stage's two queues do, the second's first.
-fn both_bells_tell<B: Room + Send + Sync, R: Threads + Wait + Sync>(rt: &R, stage: Stage<B>) -> Option<(bool, bool)>
+fn both_bells_tell<B: Room + Send + Sync, R: Threads + Wait + Sync>(
+    rt: &R,
+    stage: Stage<B>,
+) -> Option<(bool, bool)>
     requires { IsStage B.board stage }
 {
     let (stage, second) = last_bell_tells(rt, stage)?;

@@ -162,10 +162,7 @@ fn take_in<B: Room>(alloc: Global, stage: &mut Stage<B>) -> bool
 }
 
 // Where a broker differs whose core took a packet that no lane served.
-fn named_taken_alone<B: Room>(
-    alloc: Global,
-    unnamed: UnnamedBroker,
-) -> Option<(QueueId, PacketId)>
+fn named_taken_alone<B: Room>(alloc: Global, unnamed: UnnamedBroker) -> Option<(QueueId, PacketId)>
     requires { (unnamed.board ≡ B.board) × (unnamed.core ≡ B.opened) }
 {
     let mut stage = stage::<B>(alloc, unnamed, 3, 1)?;

@@ -176,7 +176,11 @@ fn are_whole(lanes: &[Lane]) -> bool {
 }
 
 // The core, if the broker settles with these parts.
-pub(crate) fn settled_core<B: Room>(alloc: Global, stage: Stage<B>, parts: &[Part]) -> Option<AccessCore>
+pub(crate) fn settled_core<B: Room>(
+    alloc: Global,
+    stage: Stage<B>,
+    parts: &[Part],
+) -> Option<AccessCore>
     requires { IsStage B.board stage }
 {
     let Stage {

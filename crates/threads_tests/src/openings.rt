@@ -94,12 +94,24 @@ fn broker(alloc: Global) -> Option<UnnamedBroker> {
 }
 
 // Opens a queue.
-fn open<B: Room>(alloc: Global, broker: &mut Broker<B>, front: &mut Front, asked: Asked) -> Result<Opened, Refusal>
+fn open<B: Room>(
+    alloc: Global,
+    broker: &mut Broker<B>,
+    front: &mut Front,
+    asked: Asked,
+) -> Result<Opened, Refusal>
     requires { front.old.board ≡ B.board }
     ensures { front.new.board ≡ B.board }
 {
     let Asked(client, agent, size, producers) = asked;
-    broker.open_queue(alloc, front, ClientId(client), AgentHandle(agent), size, producers)
+    broker.open_queue(
+        alloc,
+        front,
+        ClientId(client),
+        AgentHandle(agent),
+        size,
+        producers,
+    )
 }
 
 // The number of a queue that opens, or why it doesn't.
@@ -163,7 +175,13 @@ fn standing_of<B: Room>(broker: &mut Broker<B>, front: &mut Front) -> Standing
 }
 
 // Whether an opening is refused for this reason, and all is as before.
-fn is_refused<B: Room>(alloc: Global, broker: &mut Broker<B>, front: &mut Front, asked: Asked, why: Refusal) -> bool
+fn is_refused<B: Room>(
+    alloc: Global,
+    broker: &mut Broker<B>,
+    front: &mut Front,
+    asked: Asked,
+    why: Refusal,
+) -> bool
     requires { front.old.board ≡ B.board }
     ensures { front.new.board ≡ B.board }
 {
@@ -172,7 +190,12 @@ fn is_refused<B: Room>(alloc: Global, broker: &mut Broker<B>, front: &mut Front,
 }
 
 // Whether the next queue opens under this number, with an entry, a ring and a doorbell.
-fn opens_next<B: Room>(alloc: Global, broker: &mut Broker<B>, front: &mut Front, number: u64) -> bool
+fn opens_next<B: Room>(
+    alloc: Global,
+    broker: &mut Broker<B>,
+    front: &mut Front,
+    number: u64,
+) -> bool
     requires { front.old.board ≡ B.board }
     ensures { front.new.board ≡ B.board }
 {
@@ -182,18 +205,27 @@ fn opens_next<B: Room>(alloc: Global, broker: &mut Broker<B>, front: &mut Front,
         rings: number,
         doorbells: number,
     };
-    number_of(open(alloc, broker, front, GOOD)) == Ok(QueueId(number)) && standing_of(broker, front) == after
+    number_of(open(alloc, broker, front, GOOD)) == Ok(QueueId(number))
+        && standing_of(broker, front) == after
 }
 
 // Whether openings are refused for this reason, and behind each the next queue opens.
-fn are_refused<B: Room>(alloc: Global, broker: &mut Broker<B>, front: &mut Front, rows: &[Asked], why: Refusal) -> bool
+fn are_refused<B: Room>(
+    alloc: Global,
+    broker: &mut Broker<B>,
+    front: &mut Front,
+    rows: &[Asked],
+    why: Refusal,
+) -> bool
     requires { front.old.board ≡ B.board }
     ensures { front.new.board ≡ B.board }
 {
     let mut number: u64 = 0;
     for asked in rows {
         number = number.saturating_add(1);
-        if !is_refused(alloc, broker, front, *asked, why) || !opens_next(alloc, broker, front, number) {
+        if !is_refused(alloc, broker, front, *asked, why)
+            || !opens_next(alloc, broker, front, number)
+        {
             return false;
         }
     }
@@ -327,7 +359,12 @@ fn is_whole<B: Room>(broker: &Broker<B>, opened: &Opened, producers: u64) -> boo
 }
 
 // Whether an opening makes this client's queue on this agent, of this size and for these producers.
-fn opens_as_asked<B: Room>(alloc: Global, broker: &mut Broker<B>, front: &mut Front, asked: Asked) -> bool
+fn opens_as_asked<B: Room>(
+    alloc: Global,
+    broker: &mut Broker<B>,
+    front: &mut Front,
+    asked: Asked,
+) -> bool
     requires { front.old.board ≡ B.board }
     ensures { front.new.board ≡ B.board }
 {
@@ -338,7 +375,12 @@ fn opens_as_asked<B: Room>(alloc: Global, broker: &mut Broker<B>, front: &mut Fr
 }
 
 // Whether all of these openings do.
-fn open_as_asked<B: Room>(alloc: Global, broker: &mut Broker<B>, front: &mut Front, rows: &[Asked]) -> bool
+fn open_as_asked<B: Room>(
+    alloc: Global,
+    broker: &mut Broker<B>,
+    front: &mut Front,
+    rows: &[Asked],
+) -> bool
     requires { front.old.board ≡ B.board }
     ensures { front.new.board ≡ B.board }
 {

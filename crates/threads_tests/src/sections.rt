@@ -41,14 +41,10 @@ fn stay_inside<B: Room, R: Wait>(
     requires { front.board ≡ B.board }
 {
     let mut front = front;
-    broker.with_core(
-        rt,
-        &mut front,
-        |_core| {
-            inside.store(1, Ordering::SeqCst);
-            reaches(published, PACKETS)
-        },
-    )
+    broker.with_core(rt, &mut front, |_core| {
+        inside.store(1, Ordering::SeqCst);
+        reaches(published, PACKETS)
+    })
 }
 
 // Publishes all packets once another thread is inside the core.
@@ -183,7 +179,9 @@ fn sees_sections<B: Room + Send + Sync, R: Threads + Wait + Sync>(
 {
     let mut front = front;
     let other = broker.again(&mut front);
-    let written = broker.with_core(rt, &mut front, |core| write(alloc, core)).is_ok();
+    let written = broker
+        .with_core(rt, &mut front, |core| write(alloc, core))
+        .is_ok();
     let (read, _) = thread::join(
         rt,
         move || -> bool

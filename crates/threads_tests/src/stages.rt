@@ -115,7 +115,12 @@ pub fn reaches(word: &AtomicU64, wanted: u64) -> bool {
 }
 
 /// Publishes a packet under a ticket, trying again while its slot is busy. Answers whether it was published.
-pub fn publish_under<B: Room>(broker: &Broker<B>, end: &mut ClientEnd, ticket: Ticket, bytes: &[u8; 64]) -> bool
+pub fn publish_under<B: Room>(
+    broker: &Broker<B>,
+    end: &mut ClientEnd,
+    ticket: Ticket,
+    bytes: &[u8; 64],
+) -> bool
     requires end { IsEndOf broker.now end.old }
     requires opened { IsOpen ticket.id.0 end.old.pass }
     ensures { IsEndOf broker.now end.new }

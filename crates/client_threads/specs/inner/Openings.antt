@@ -1,5 +1,5 @@
 -- What the steps of an opening say.
-use Rattle.std.specs.Prelude.{◌≡◌, ◌<◌, ◌≤◌, ℕ, true, List, [], ◌∷◌, ◌++◌, map, All, None}
+use Rattle.std.specs.Prelude.{◌≡◌, ◌≤◌, ℕ, true, List, [], ◌∷◌, ◌++◌, map, None}
 use Rattle.aql_packet.specs.declared.ids.QueueId.{QueueId}
 use Rattle.core_model.specs.declared.event.Event.{Event}
 use Rattle.core_model.specs.declared.limits.TheConstants.{QUEUES}
@@ -16,10 +16,6 @@ use Rattle.client_threads.specs.Desks.{seen}
 use Rattle.client_threads.specs.Lanes.{LaneSeen}
 use Rattle.client_threads.specs.Opening.{as_end, next_queue}
 use Rattle.client_threads.specs.Rings.{QueueRing, ring_of}
-
--- each ring is of a queue that a history has opened
-abbrev pub AreBelow : History → List QueueRing → Type 0
-AreBelow history rings = All (λ r. r.queue < next_queue history) rings
 
 -- an opening makes this queue, which is the next and has no ring
 pub record IsOpenable (rings : List QueueRing) (history : History) (event : Event) (queue : QueueId) : Type 0 where

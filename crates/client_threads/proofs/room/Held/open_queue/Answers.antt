@@ -1,29 +1,20 @@
 use Rattle.std.proofs.Common.{◌≡◌, ◌∙◌, ◌++◌, ◌∷◌, [], List, map, sym, ap, subst}
 use Rattle.std.specs.Prelude.{IfOk}
-use mathlib.Core.List.{IsPrefix}
 use Rattle.access_core.specs.Cores.{Core}
 use Rattle.client_threads.specs.Boards.{PassSeen}
 use Rattle.client_threads.specs.Desks.{seen}
 use Rattle.client_threads.specs.Opening.{IsOpened}
 use Rattle.client_threads.specs.Sections.{AllFollow, Follows, IsNext, last_of}
-use Rattle.client_threads.specs.inner.Openings.{AreBelow}
-use Rattle.client_threads.proofs.Opened.{below_last}
 use Rattle.client_threads.proofs.Sections.{all_snoc, appends_follow, last_snoc}
 use Rattle.client_threads.proofs.Turning.{call_appends}
 use Rattle.client_threads.proofs.room.Held.open_queue.Goals as goal
-
-pub open_beside-opened-requires-clause-below : goal.open_beside-opened-requires-clause-below
-open_beside-opened-requires-clause-below g c =
-    let left = c.self.inside.keeper.left in
-    let known : IsPrefix c.args.known.now.left left = subst (λ (t : PassSeen). IsPrefix t.left left) c.copy-shown.ensures.1 c.check.ensures.begins in
-    below_last g.B.Room.opened c.args.known.now.left left c.self.inside.core (map seen c.args.desks.now.items) known c.self.invariant.1 c.self.invariant.2 c.requires.below
 
 pub invariant_of-self : goal.invariant_of-self
 invariant_of-self g c =
     let opened = g.B.Room.opened in
     let left = c.self.inside.keeper.left in
     let new = c.open_beside-opened.new.core in
-    let full = c.leave.ensures.keeper ∙ ap (λ (p : PassSeen). record { board = p.board; left = p.left ++ new ∷ [] }) (c.check-2.ensures.kept ∙ c.check.ensures.kept) in
+    let full = c.leave.ensures.keeper ∙ ap (λ (p : PassSeen). record { board = p.board; left = p.left ++ new ∷ [] }) c.check.ensures.kept in
     let inv = c.self.invariant in
     let follows : Follows c.self.inside.core.history new.history = appends_follow _ _ (call_appends _ _ _ _ c.open_beside-opened.ensures.due) in
     let next : IsNext c.self.inside.core new = record { follows = follows; legal = c.audit-2.ensures.legal } in (
@@ -35,17 +26,8 @@ invariant_of-self g c =
 
 pub returns-clause-opened : goal.returns-clause-opened
 returns-clause-opened g c =
-    let same : c.copy-last.result ≡ c.copy.result = c.copy-last.ensures.1 ∙ (c.copy.ensures.0 ∙ sym c.copy.ensures.1) in
+    let same : c.copy-last.result ≡ c.copy-last.new.front = c.copy-last.ensures.1 ∙ sym c.copy-last.ensures.0 in
     let old = map seen c.args.desks.now.items in
     let new = map seen c.open_beside-opened.new.desks.items in
     subst (λ (f : PassSeen). IfOk c.with_front.result (λ o. IsOpened old c.args.asked.size c.args.asked.producers f o.0 o.1.items o.2 new)) same
     (c.with_front.ensures.opened old new c.args.asked.size c.args.asked.producers c.copy-lent.result c.open_beside-opened.ensures.opened)
-
-pub returns-clause-below : goal.returns-clause-below
-returns-clause-below g c =
-    let opened = g.B.Room.opened in
-    let left = c.self.inside.keeper.left in
-    let new = c.open_beside-opened.new.core in
-    let full = c.leave.ensures.keeper ∙ ap (λ (p : PassSeen). record { board = p.board; left = p.left ++ new ∷ [] }) (c.check-2.ensures.kept ∙ c.check.ensures.kept) in
-    let at : last_of opened c.copy-last.new.front.left ≡ new = ap (λ (p : PassSeen). last_of opened p.left) (c.copy-last.ensures.0 ∙ (c.copy.ensures.0 ∙ (c.leave.ensures.front ∙ full))) ∙ last_snoc opened left new in
-    subst (λ (k : Core). AreBelow k.history (map seen c.open_beside-opened.new.desks.items)) (sym at) c.open_beside-opened.ensures.below
