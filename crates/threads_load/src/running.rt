@@ -1,7 +1,7 @@
 //! Producers and lanes run, each on a thread of its own.
 
 ghost use Rattle.std.specs.Prelude.{◌≡◌, ◌<◌, All, IfOk, length};
-ghost use Rattle.std.specs.Thread.{IsSync};
+ghost use Rattle.std.specs.Thread.{IsSend, IsSync};
 ghost use Rattle.client_threads.specs.Running.{IsEndOf, IsLaneOf};
 ghost use Rattle.client_threads.specs.Sections.{IsSection};
 ghost use Rattle.core_model.specs.Legal.{IsLegalPart};
@@ -106,11 +106,11 @@ fn run_both<B: Room + Send + Sync, R: Threads + Wait + Sync>(
     thread::join(
         rt,
         move || -> Vec<ClientEnd>
-            requires { IsSync R.row × All (λ end. IsEndOf broker.now end) ends.items }
+            requires { IsSend B.row × IsSync B.row × IsSync R.row × All (λ end. IsEndOf broker.now end) ends.items }
             ensures { All (λ end. IsEndOf broker.entry.now end) result.items }
         { produce_all(rt, broker, plan, share, ends) },
         move || -> Vec<Lane>
-            requires { IsSync R.row × All (λ lane. IsLaneOf B.board broker.now lane) lanes.items }
+            requires { IsSend B.row × IsSync B.row × IsSync R.row × All (λ lane. IsLaneOf B.board broker.now lane) lanes.items }
             ensures { All (λ lane. IsLaneOf B.board broker.entry.now lane) result.items }
         { run_all(rt, alloc, broker, lanes, gate) },
     )
@@ -174,7 +174,7 @@ fn run_beside<B: Room + Send + Sync, R: Threads + Wait + Sync>(
     thread::join(
         rt,
         move || -> (Vec<ClientEnd>, Vec<Lane>)
-            requires { IsSync R.row × All (λ end. IsEndOf broker.now end) ends.items × All (λ lane. IsLaneOf B.board broker.now lane) lanes.items }
+            requires { IsSend B.row × IsSync B.row × IsSync R.row × All (λ end. IsEndOf broker.now end) ends.items × All (λ lane. IsLaneOf B.board broker.now lane) lanes.items }
             ensures { All (λ end. IsEndOf broker.entry.now end) result.0.items × All (λ lane. IsLaneOf B.board broker.entry.now lane) result.1.items }
         { run_both(rt, alloc, broker, plan, share, gate, ends, lanes) },
         move || -> (Front, Result<Part, Refusal>)

@@ -1,7 +1,7 @@
 //! Sixteen producers on four queues, and 100,000 packets.
 
 ghost use Rattle.std.specs.Prelude.{◌≡◌, ◌<◌, All, length};
-ghost use Rattle.std.specs.Thread.{IsSync};
+ghost use Rattle.std.specs.Thread.{IsSend, IsSync};
 ghost use Rattle.client_threads.specs.Running.{IsEndOf, IsLaneOf};
 ghost use Rattle.threads_load.specs.Stages.{EachStaysOf, IsStage};
 
@@ -98,11 +98,11 @@ fn run_both<B: Room + Send + Sync, R: Threads + Wait + Sync>(
     thread::join(
         rt,
         move || -> Vec<ClientEnd>
-            requires { IsSync R.row × All (λ end. IsEndOf broker.now end) ends.items }
+            requires { IsSend B.row × IsSync B.row × IsSync R.row × All (λ end. IsEndOf broker.now end) ends.items }
             ensures { All (λ end. IsEndOf broker.entry.now end) result.items }
         { publish_from_all(rt, broker, gate, ends) },
         move || -> Vec<Lane>
-            requires { IsSync R.row × All (λ lane. IsLaneOf B.board broker.now lane) lanes.items }
+            requires { IsSend B.row × IsSync B.row × IsSync R.row × All (λ lane. IsLaneOf B.board broker.now lane) lanes.items }
             ensures { All (λ lane. IsLaneOf B.board broker.entry.now lane) result.items }
         { run_all(rt, alloc, broker, gate, lanes) },
     )

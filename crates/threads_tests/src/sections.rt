@@ -1,7 +1,6 @@
 //! What happens while a thread is inside the core, and what one section leaves to the next.
 
 ghost use Rattle.std.specs.Prelude.{◌≡◌};
-ghost use Rattle.std.specs.Thread.{IsSync};
 ghost use Rattle.client_threads.specs.Running.{IsEndOf};
 ghost use Rattle.client_threads.specs.Sections.{Follows};
 ghost use Rattle.threads_load.specs.Stages.{IsStage};
@@ -156,12 +155,7 @@ fn ends_with_write(core: &mut AccessCore) -> bool
 }
 
 // Whether another thread reads what was written.
-fn reads_after<B: Room + Send + Sync, R: Threads + Wait + Sync>(
-    rt: &R,
-    alloc: Global,
-    broker: &Broker<B>,
-    front: Front,
-) -> bool
+fn reads_after<B: Room, R: Wait>(rt: &R, alloc: Global, broker: &Broker<B>, front: Front) -> bool
     requires { front.board ≡ B.board }
 {
     let mut front = front;
@@ -182,13 +176,7 @@ fn sees_sections<B: Room + Send + Sync, R: Threads + Wait + Sync>(
     let written = broker
         .with_core(rt, &mut front, |core| write(alloc, core))
         .is_ok();
-    let (read, _) = thread::join(
-        rt,
-        move || -> bool
-            requires { IsSync R.row × (other.board ≡ B.board) }
-        { reads_after(rt, alloc, broker, other) },
-        || (),
-    );
+    let (read, _) = thread::join(rt, || reads_after(rt, alloc, broker, other), || ());
     written && read && broker.with_core(rt, &mut front, |core| ends_with_write(core))
 }
 
