@@ -1,12 +1,17 @@
 -- What a settlement says of the load's ending.
 use Rattle.std.proofs.Common.{◌≡◌, ℕ, List, [], ◌∷◌, ◌++◌, refl, sym, subst, Result, Ok, Err, Vec, Global}
-use Rattle.std.specs.Prelude.{IfOk}
+use Rattle.std.specs.Prelude.{IfOk, map}
+use Rattle.policy.specs.Policy.{Declared}
+use Rattle.access_core.specs.Opening.{program_of}
+use Rattle.access_core.specs.declared.kernel.Kernel.{Kernel}
+use Rattle.threads_load.specs.Plans.{planned}
+use Rattle.threads_load.specs.declared.load.TheConstants.{PLACES}
 use Rattle.aql_packet.specs.declared.ids.PacketId.{PacketId}
 use Rattle.aql_packet.specs.declared.ids.QueueId.{QueueId}
 use Rattle.std.proofs.lemmas.List.{append-nil}
 use Rattle.access_core.specs.Cores.{Core}
 use Rattle.core_model.specs.History.{Part, beginning}
-use Rattle.core_model.specs.Legal.{IsLegalPart}
+use Rattle.core_model.specs.Legal.{IsLegalPart, IsOpening}
 use Rattle.core_model.specs.declared.entry.Entry.{Entry}
 use Rattle.client_threads.specs.Lanes.{LaneSeen}
 use Rattle.client_threads.specs.Rings.{QueueRing}
@@ -22,7 +27,7 @@ use Rattle.threads_load.specs.declared.plan.PlannedQueue.{PlannedQueue}
 use Rattle.threads_load.specs.Reports.{text_of_report}
 use Rattle.threads_load.specs.declared.report.Ending.{Ending}
 use Rattle.threads_load.specs.declared.report.Ending.TheVariants as ending
-use Rattle.threads_load.specs.Loads.{EndsAs, EndsBy, EndsLoad, EndsWith, IsAgreed}
+use Rattle.threads_load.specs.Loads.{EndsAs, EndsBy, EndsLoad, EndsWith, IsAgreed, TellsLoad, TellsPlan}
 
 agreed_ends : (entries : List Entry) (lanes : List LaneSeen) (ended : Ending) → IsAgreed ended → AllAgree entries lanes → EndsAs entries lanes ended
 agreed_ends entries lanes ending.Settled is h = h
@@ -63,3 +68,8 @@ tells_plan opened plan ended bytes report (Err why) text ends told is = tt
 tells_plan opened plan ended bytes report (Ok load) text ends told is =
     let own : bytes (text load) ≡ text_of_report (beginning ended.core.history) ended.part.entries ended.core.history.entries plan ended.ending = subst (λ r. IfOk r (λ x. bytes x ≡ text_of_report (beginning ended.core.history) ended.part.entries ended.core.history.entries plan ended.ending)) is.0 told in
     (ended.part, ended.core, subst (λ e. EndsWith opened ended.part ended.core e) (sym is.1) ends, subst (λ e. bytes (text load) ≡ text_of_report (beginning ended.core.history) ended.part.entries ended.core.history.entries plan e) (sym is.1) own)
+
+pub tells_load : {E : Type 0} (policy : Declared) (kernels : List Kernel) (plan : List PlannedQueue) (opened : Core) (result : Result Load E) → IsOpening opened.history policy (map program_of kernels) PLACES → plan ≡ planned policy
+    → IfOk result (TellsPlan opened plan) → IfOk result (TellsLoad policy kernels)
+tells_load policy kernels plan opened (Ok load) opens is told = (opened, opens, subst (λ (p : List PlannedQueue). TellsPlan opened p load) is told)
+tells_load policy kernels plan opened (Err why) opens is told = tt

@@ -2,5 +2,5 @@ pub mod Belonging
 pub mod Endings
 pub mod Ranges
 pub mod Sums
-pub mod Granting
+pub mod Adding
 pub mod Handing

@@ -9,7 +9,7 @@ use core_model::Refusal;
 use policy::{Kind, Object};
 
 // Grants a client all rights on an object that the core's policy allows, if it allows any.
-#[tactic(auto, using(crate::proofs::Granting::grant_appends, crate::proofs::Granting::none_appends))]
+#[tactic(auto, using(crate::proofs::Adding::grant_appends, crate::proofs::Adding::none_appends))]
 fn grant_on(core: &mut AccessCore, client: ClientId, object: Object) -> Result<(), Refusal>
     ensures { Appends core.old.history core.new.history }
 {
@@ -21,7 +21,7 @@ fn grant_on(core: &mut AccessCore, client: ClientId, object: Object) -> Result<(
 }
 
 // Grants a client all that is allowed on the objects of a kind.
-#[tactic(auto, using(crate::proofs::Granting::none_appends, crate::proofs::Granting::more_appends))]
+#[tactic(auto, using(crate::proofs::Adding::none_appends, crate::proofs::Adding::more_appends))]
 fn grant_kind(core: &mut AccessCore, client: ClientId, kind: Kind) -> Result<(), Refusal>
     ensures { Appends core.old.history core.new.history }
 {
@@ -32,7 +32,7 @@ fn grant_kind(core: &mut AccessCore, client: ClientId, kind: Kind) -> Result<(),
 }
 
 // Grants a client all that is allowed.
-#[tactic(auto, using(crate::proofs::Granting::none_appends, crate::proofs::Granting::more_appends))]
+#[tactic(auto, using(crate::proofs::Adding::none_appends, crate::proofs::Adding::more_appends))]
 fn grant_client(core: &mut AccessCore, client: ClientId) -> Result<(), Refusal>
     ensures { Appends core.old.history core.new.history }
 {
@@ -43,7 +43,7 @@ fn grant_client(core: &mut AccessCore, client: ClientId) -> Result<(), Refusal>
 }
 
 /// Grants each client all rights that the core's policy allows it, with one grant an object.
-#[tactic(auto, using(crate::proofs::Granting::none_appends, crate::proofs::Granting::more_appends))]
+#[tactic(auto, using(crate::proofs::Adding::none_appends, crate::proofs::Adding::more_appends))]
 pub fn grant_all(core: &mut AccessCore) -> Result<(), Refusal>
     ensures { Appends core.old.history core.new.history }
 {

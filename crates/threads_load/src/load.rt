@@ -123,7 +123,6 @@ fn settle<B: Room>(
 }
 
 // Settles it, and tells how the load ended.
-#[tactic(auto, using(crate::proofs::Endings::ends_load))]
 fn finish<B: Room>(
     alloc: Global,
     stage: Stage<B>,

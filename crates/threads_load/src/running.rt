@@ -133,7 +133,6 @@ fn rotate<B: Room, R: Wait>(
 }
 
 // Does so once a packet is finished.
-#[tactic(auto, using(crate::proofs::Handing::handed_legal))]
 fn rotate_once<B: Room, R: Wait>(
     rt: &R,
     alloc: Global,
