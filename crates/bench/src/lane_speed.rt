@@ -1,15 +1,19 @@
 //! The measurements of lanes: packets from `publish` to `finish`, over a core under its lock.
 
+ghost use Rattle.std.specs.Prelude.{◌≡◌};
 ghost use Rattle.threads_load.specs.Stages.{IsStage};
 
 use crate::fault::Fault;
-use client_threads::{Settlement, settle_all};
+use client_threads::{Room, Settlement, UnnamedBroker, settle_all};
 use policy::{Policy, ReadPolicyError, read_policy};
 use std::alloc::Global;
+use std::marker::Brand;
 use std::sync::Wait;
 use std::thread::Threads;
 use std::time::{Clock, Duration, Instant};
-use threads_load::{LoadGate, PlannedQueue, Stage, open_broker, open_stage, plan_load, run_stage};
+use threads_load::{
+    LoadGate, PlannedQueue, Stage, name_broker, open_broker, open_stage, plan_load, run_stage,
+};
 
 /// How many packets each producer publishes at the most: the audit has places for three entries of each.
 pub const MOST_LANE_PACKETS: u64 = 5_000;
@@ -46,17 +50,43 @@ fn plan_of(alloc: Global, policy: &Policy, lanes: usize) -> Result<Vec<PlannedQu
 }
 
 // Whether a broker settles, with all packets of its lanes finished.
-fn is_settled(alloc: Global, stage: Stage, gate: &LoadGate) -> bool
-    requires { IsStage stage }
+fn is_settled<B: Room>(alloc: Global, stage: Stage<B>, gate: &LoadGate) -> bool
+    requires { IsStage B.board stage }
 {
     let Stage {
         broker,
+        front,
         ends,
         lanes,
     } = stage;
-    match settle_all(alloc, broker, &[], ends, lanes) {
+    let mut front = front;
+    match settle_all(alloc, broker, &mut front, &[], ends, lanes) {
         Ok(Settlement::Settled { .. }) => !gate.is_unsettled(),
         _ => false,
+    }
+}
+
+// Names a broker, opens the queues of a plan, and runs them.
+fn run_named<B: Room + Send + Sync, R: Threads + Wait + Clock + Sync>(
+    rt: &R,
+    alloc: Global,
+    unnamed: UnnamedBroker,
+    plan: &[PlannedQueue],
+    producers: u64,
+    packets: u64,
+) -> Result<Duration, Fault>
+    requires { (unnamed.board ≡ B.board) × (unnamed.core ≡ B.opened) }
+{
+    let (broker, front) = name_broker::<B>(unnamed)?;
+    let stage = open_stage(alloc, broker, front, plan, producers)?;
+    let gate = LoadGate::new(alloc, plan.len(), packets.saturating_mul(producers))?;
+    let start = Instant::now(rt)?;
+    let stage = run_stage(rt, alloc, stage, plan, packets, &gate);
+    let time = start.elapsed(rt)?;
+    if is_settled(alloc, stage, &gate) {
+        Ok(time)
+    } else {
+        Err(Fault::Unsettled)
     }
 }
 
@@ -71,15 +101,6 @@ pub fn lanes<R: Threads + Wait + Clock + Sync>(
 ) -> Result<Duration, Fault> {
     let policy = read(alloc)?;
     let plan = plan_of(alloc, &policy, lanes)?;
-    let broker = open_broker(rt, alloc, policy, Vec::new(alloc), PLACES)?;
-    let stage = open_stage(alloc, broker, plan.as_slice(), producers)?;
-    let gate = LoadGate::new(alloc, lanes, packets.saturating_mul(producers))?;
-    let start = Instant::now(rt)?;
-    let stage = run_stage(rt, alloc, stage, plan.as_slice(), packets, &gate);
-    let time = start.elapsed(rt)?;
-    if is_settled(alloc, stage, &gate) {
-        Ok(time)
-    } else {
-        Err(Fault::Unsettled)
-    }
+    let unnamed = open_broker(alloc, policy, Vec::new(alloc), PLACES)?;
+    run_named::<Brand, R>(rt, alloc, unnamed, plan.as_slice(), producers, packets)
 }

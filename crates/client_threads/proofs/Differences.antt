@@ -67,7 +67,7 @@ all_alike entries queue i served left end h =
 
 -- ---- lists of entries in turn
 
-takes-append : (xs ys : List Entry) (queue : ℕ) → takes (xs ++ ys) queue ≡ takes xs queue ++ takes ys queue
+pub takes-append : (xs ys : List Entry) (queue : ℕ) → takes (xs ++ ys) queue ≡ takes xs queue ++ takes ys queue
 takes-append xs ys queue = filter_map-append (λ entry. taken_by queue entry.event) xs ys
 
 pub same_behind : (xs ys : List Entry) (queue : ℕ) (served mid left : List Served) → served ≡ takes xs queue ++ mid → mid ≡ takes ys queue ++ left → served ≡ takes (xs ++ ys) queue ++ left

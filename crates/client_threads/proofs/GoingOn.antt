@@ -1,23 +1,15 @@
 -- What running does to a lane.
 use Rattle.std.proofs.Common.{◌≡◌, ℕ, List, [], ◌∷◌, ◌++◌, refl, ap, ◌∙◌, sym, subst, rules, append_assoc, arith}
+use lib.ListN.{take}
+use Rattle.std.proofs.Math.Seq.{take-append_seam}
 use Rattle.std.specs.Prelude.{All, slice_index_or, length, ◌<◌}
 use Rattle.std.proofs.lemmas.List.{append-nil}
-use Rattle.ring.specs.Passes.{RingSeen, ProcessorSeen}
-use Rattle.core_model.specs.History.{History}
-use Rattle.ring.specs.declared.processor.Shown.{Shown}
-use Rattle.core_model.specs.declared.outcome.Taken.{Taken}
-use Rattle.aql_packet.specs.declared.ids.PacketId.{PacketId}
+use Rattle.atomic_table.specs.Seated.{TableId}
 use Rattle.core_model.specs.declared.served.Served.{Served}
-use Rattle.client_threads.specs.declared.serving.ServeAnswer.{ServeAnswer}
-use Rattle.client_threads.specs.declared.serving.ServeAnswer.TheVariants.{Empty, Launched, Denied, Waiting, Refused}
-use Rattle.client_threads.specs.declared.advancing.Advanced.{Advanced}
-use Rattle.client_threads.specs.declared.advancing.Advanced.TheVariants as advanced
 use Rattle.client_threads.specs.Lanes.{LaneSeen}
-use Rattle.client_threads.specs.Rings.{QueueRing, IsOf, ring_of}
-use Rattle.client_threads.specs.Serving.{ServesTo, IsServed, IsLeft, IsEmpty, served_of}
-use Rattle.client_threads.specs.Advancing.{AdvancesTo, IsAdvanced}
-use Rattle.client_threads.specs.Running.{EachGoesOn, GoesOn, IsLaneOf}
-use Rattle.client_threads.specs.inner.Turns.{Looks}
+use Rattle.client_threads.specs.Rings.{QueueRing, ring_of}
+use Rattle.client_threads.specs.Running.{EachGoesOn, GoesOn, IsLaneOf, KeepsOn}
+use Rattle.client_threads.specs.inner.Turns.{HasSeen, Looks, StandsIn}
 
 pub goes_on_none : (lane : LaneSeen) → GoesOn lane lane
 goes_on_none lane = record { queue = refl; table = refl; more = []; served = sym (append-nil lane.served) }
@@ -31,10 +23,6 @@ goes_on_both one two three a b =
       served = b.served ∙ ap (λ xs. xs ++ b.more) a.served ∙ append_assoc one.served a.more b.more;
     }
 
--- a lane that went on is still of the broker's ring
-pub still_of : (rings : List QueueRing) (old new : LaneSeen) → IsLaneOf rings old → GoesOn old new → IsLaneOf rings new
-still_of rings old new h on = record { is = (h.is.0, ap (λ q. ring_of q.0 rings) on.queue ∙ h.is.1, on.table ∙ h.is.2) }
-
 -- a lane of which the pass alone changed
 passes_on : (old new : LaneSeen) → new.pass.table ≡ old.pass.table → new ≡ record old { pass = new.pass } → GoesOn old new
 passes_on old new table is = record { queue = ap (λ l. l.queue) is; table = table; more = []; served = ap (λ l. l.served) is ∙ sym (append-nil old.served) }
@@ -42,35 +30,43 @@ passes_on old new table is = record { queue = ap (λ l. l.queue) is; table = tab
 pub looked_on : (old new : LaneSeen) → Looks old new → GoesOn old new
 looked_on old new looks = passes_on old new looks.table looks.lane
 
+-- a lane that went on, with such a front, is still of the broker
+pub keeps_on : (board : TableId) (rings : List QueueRing) (old new : LaneSeen) → IsLaneOf board rings old → GoesOn old new → new.front.board ≡ board → StandsIn new → KeepsOn board rings old new
+keeps_on board rings old new h on board_is stands = record {
+  on = on;
+  lane = record { is = (h.is.0, ap (λ q. ring_of q.0 rings) on.queue ∙ h.is.1, on.table ∙ h.is.2); board_is = board_is; stands = stands };
+}
+
+looked_stands : (old new : LaneSeen) → Looks old new → StandsIn old → StandsIn new
+looked_stands old new looks stands = subst StandsIn (sym looks.lane) stands
+
+pub looked_keeps_on : (board : TableId) (rings : List QueueRing) (old new : LaneSeen) → IsLaneOf board rings old → Looks old new → KeepsOn board rings old new
+looked_keeps_on board rings old new h looks =
+    keeps_on board rings old new h (looked_on old new looks) (ap (λ l. l.front.board) looks.lane ∙ h.board_is) (looked_stands old new looks h.stands)
+
+pub looked_of : (board : TableId) (rings : List QueueRing) (old new : LaneSeen) → IsLaneOf board rings old → Looks old new → IsLaneOf board rings new
+looked_of board rings old new h looks = (looked_keeps_on board rings old new h looks).lane
+
+pub keeps_on_none : (board : TableId) (rings : List QueueRing) (lane : LaneSeen) → IsLaneOf board rings lane → KeepsOn board rings lane lane
+keeps_on_none board rings lane h = record { on = goes_on_none lane; lane = h }
+
+pub keeps_on_both : (board : TableId) (rings : List QueueRing) (one two three : LaneSeen) → KeepsOn board rings one two → KeepsOn board rings two three → KeepsOn board rings one three
+keeps_on_both board rings one two three a b = record { on = goes_on_both one two three a.on b.on; lane = b.lane }
+
 -- a lane that looked and then went on went on
-pub looked_then_on : (old mid new : LaneSeen) → Looks old mid → GoesOn mid new → GoesOn old new
-looked_then_on old mid new looks on = goes_on_both old mid new (looked_on old mid looks) on
+pub looked_then_on : (board : TableId) (rings : List QueueRing) (old mid new : LaneSeen) → Looks old mid → KeepsOn board rings mid new → KeepsOn board rings old new
+looked_then_on board rings old mid new looks b = record { on = goes_on_both old mid new (looked_on old mid looks) b.on; lane = b.lane }
 
-served_on : (ring : RingSeen) (old new : LaneSeen) (before after : History) (shown : Shown) (became : Taken) (pending : List PacketId) → IsServed ring old before shown became pending new after → GoesOn old new
-served_on ring old new before after shown became pending h = record { queue = ap (λ l. l.queue) h.lane; table = h.retired.0 ∙ h.peeked.2.0; more = served_of shown ∷ []; served = ap (λ l. l.served) h.lane }
+pub at_place : (board : TableId) (rings : List QueueRing) (lanes : List LaneSeen) (i : ℕ) (lane : LaneSeen) → All (λ l. IsLaneOf board rings l) lanes → i < length lanes → lane ≡ slice_index_or lanes i lane → IsLaneOf board rings lane
+at_place board rings lanes i lane all lt is = subst (λ (l : LaneSeen). IsLaneOf board rings l) (sym is) (all i lane lt)
 
-pub serves_goes_on : (ring : RingSeen) (old : LaneSeen) (before : History) (answer : ServeAnswer) (new : LaneSeen) (after : History) → ServesTo ring old before answer new after → GoesOn old new
-serves_goes_on ring old before Empty new after h = passes_on old new h.peeked.2.0 h.lane
-serves_goes_on ring old before (Launched id) new after h = served_on ring old new before after _ _ _ h.2
-serves_goes_on ring old before (Denied error) new after h = served_on ring old new before after _ _ _ h.1
-serves_goes_on ring old before (Waiting id cause) new after h = passes_on old new h.peeked.2.0 h.lane
-serves_goes_on ring old before (Refused id why) new after h = passes_on old new h.peeked.2.0 h.lane
+-- lanes that went on are still of the broker
+pub all_still_of : (board : TableId) (rings : List QueueRing) (old new : List LaneSeen) → length new ≡ length old → EachGoesOn board rings old new → All (λ l. IsLaneOf board rings l) new
+all_still_of board rings old new same on = λ k d lt. (on k d (omega (arith, lt, same))).lane
 
-advanced_on : (old new : LaneSeen) (before after : History) (result : Advanced) → IsAdvanced old before result new after → GoesOn old new
-advanced_on old new before after result h = record { queue = ap (λ l. l.queue) h.lane; table = ap (λ l. l.pass.table) h.lane; more = []; served = ap (λ l. l.served) h.lane ∙ sym (append-nil old.served) }
+-- what is written back of lanes are these, where none came or went
+pub put_back : (board : TableId) (rings : List QueueRing) (len : ℕ) (old new rest : List LaneSeen) → len ≡ length new → EachGoesOn board rings old new → EachGoesOn board rings old (take len (new ++ rest))
+put_back board rings len old new rest is each = subst (λ (xs : List LaneSeen). EachGoesOn board rings old xs) (sym (ap (λ n. take n (new ++ rest)) is ∙ take-append_seam new rest)) each
 
-pub advances_goes_on : (old : LaneSeen) (before : History) (answer : Advanced) (new : LaneSeen) (after : History) → AdvancesTo old before answer new after → GoesOn old new
-advances_goes_on old before advanced.Idle new after h = subst (λ (l : LaneSeen). GoesOn old l) (sym h.lane) (goes_on_none old)
-advances_goes_on old before (advanced.Ran id) new after h = advanced_on old new before after (advanced.Ran id) h
-advances_goes_on old before (advanced.Polled id found) new after h = advanced_on old new before after (advanced.Polled id found) h
-advances_goes_on old before (advanced.Finished id) new after h = advanced_on old new before after (advanced.Finished id) h
-advances_goes_on old before (advanced.Faulted error) new after h = advanced_on old new before after (advanced.Faulted error) h
-advances_goes_on old before (advanced.Refused id why) new after h = advanced_on old new before after (advanced.Refused id why) h
-
-pub at_place : (rings : List QueueRing) (lanes : List LaneSeen) (i : ℕ) (lane : LaneSeen) → All (λ l. IsLaneOf rings l) lanes → i < length lanes → lane ≡ slice_index_or lanes i lane → IsLaneOf rings lane
-at_place rings lanes i lane all lt is = subst (λ (l : LaneSeen). IsLaneOf rings l) (sym is) (all i lane lt)
-
--- lanes that went on are still of the broker's rings
-pub all_still_of : (rings : List QueueRing) (old new : List LaneSeen) → length new ≡ length old → All (λ l. IsLaneOf rings l) old → EachGoesOn old new → All (λ l. IsLaneOf rings l) new
-all_still_of rings old new same all on = λ k d lt.
-    still_of rings (slice_index_or old k d) (slice_index_or new k d) (all k d (omega (arith, lt, same))) (on k d (omega (arith, lt, same)))
+pub all_seen : (board : TableId) (rings : List QueueRing) (lanes : List LaneSeen) → All (λ lane. IsLaneOf board rings lane) lanes → All (HasSeen board) lanes
+all_seen board rings lanes all = λ k d lt. let one = all k d lt in record { board_is = one.board_is; stands = one.stands }

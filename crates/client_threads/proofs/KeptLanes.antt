@@ -35,7 +35,7 @@ map_length (s ∷ ss) = ap suc (map_length ss)
 pub served_keeps : (ring : RingSeen) (old : LaneSeen) (mid new : ProcessorSeen) (shown : Shown) (index : ℕ) (pending : List PacketId)
     → IsLane old → HasPeeked ring old.pass (peeked.Shown shown) mid → mid.part.retired ≡ old.pass.part.retired
     → ProcessorGains ring mid (retiring index) new → new.part.retired ≡ mid.part.retired ++ words_of shown.bytes ∷ [] → All (λ id. id.0 < length old.served + 1) pending
-    → IsLane (record { queue = old.queue; pass = new; served = old.served ++ served_of shown ∷ []; pending = pending })
+    → IsLane (record { queue = old.queue; pass = new; served = old.served ++ served_of shown ∷ []; pending = pending; front = old.front })
 served_keeps ring old mid new shown index pending kept looked leaves retired adds below =
     let count : length old.served ≡ length old.pass.part.retired = sym (map_length old.served) ∙ ap length kept.retired in
     let id : shown.id.0 ≡ length old.pass.part.retired = looked.1 in
@@ -50,7 +50,7 @@ served_keeps ring old mid new shown index pending kept looked leaves retired add
 
 pub is_served : (ring : RingSeen) (old : LaneSeen) (before after : History) (shown : Shown) (became : Taken) (pending : List PacketId) (mid pass : ProcessorSeen)
     → HasPeeked ring old.pass (peeked.Shown shown) mid → MeetsOrLacks (take_of old shown) before after (Ok (outcome.Taken became)) → ProcessorGains ring mid (retiring (length mid.part.retired)) pass
-    → IsServed ring old before shown became pending (record { queue = old.queue; pass = pass; served = old.served ++ served_of shown ∷ []; pending = pending }) after
+    → IsServed ring old before shown became pending (record { queue = old.queue; pass = pass; served = old.served ++ served_of shown ∷ []; pending = pending; front = old.front }) after
 is_served ring old before after shown became pending mid pass looked met retired =
     record { mid = mid; peeked = looked; taken = answered_meets (take_of old shown) before after (outcome.Taken became) met; retired = retired; lane = refl }
 
@@ -71,6 +71,6 @@ looked_rests ring old new (peeked.Shown shown) h = ap (λ p. (as_processor p).ra
 
 -- a lane that only looked keeps what a lane keeps
 pub looked_keeps : (ring : RingSeen) (old : LaneSeen) (mid : ProcessorSeen) (found : Peeked) → IsLane old → HasPeeked ring old.pass found mid → mid.part.retired ≡ old.pass.part.retired
-    → IsLane (record { queue = old.queue; pass = mid; served = old.served; pending = old.pending })
+    → IsLane (record { queue = old.queue; pass = mid; served = old.served; pending = old.pending; front = old.front })
 looked_keeps ring old mid found kept looked leaves =
     record { few = kept.few; numbered = kept.numbered; retired = kept.retired ∙ sym leaves; pending = kept.pending; resting = looked_rests ring old.pass mid found looked ∙ kept.resting }

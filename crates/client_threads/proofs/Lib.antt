@@ -12,4 +12,10 @@ pub mod Ends
 pub mod Readiness
 pub mod EndsOf
 pub mod Looking
-pub mod Room
+pub mod Reserving
+pub mod Boards
+pub mod Fronts
+pub mod Sections
+pub mod Runs
+pub mod Turning
+pub mod Showing

@@ -148,9 +148,9 @@ passes_belong rings r (e ∷ es) its h = by_test (e.queue.0 == r.queue) refl (pa
     by_test b is tail = subst (λ c. All P (cons_option (if c then Some e.pass else None) (passes_of r.queue es))) (sym is) (picked b is tail)
 
 -- and so does its lane
-lane_belongs : (rings : List QueueRing) (r : QueueRing) (lanes : List LaneSeen) → IsRingOf rings r.queue r.ring → All (λ lane. IsLaneOf rings lane) lanes → is_some (lane_at r.queue lanes) ≡ true → IsSomeOf r.ring.table (lane_at r.queue lanes)
-lane_belongs rings r [] its h some = absurd (cc)
-lane_belongs rings r (l ∷ ls) its h some = by_test (l.queue.0 == r.queue) refl (lane_belongs rings r ls its (all_tail (λ lane. IsLaneOf rings lane) l ls h))
+lane_belongs : (board : TableId) (rings : List QueueRing) (r : QueueRing) (lanes : List LaneSeen) → IsRingOf rings r.queue r.ring → All (λ lane. IsLaneOf board rings lane) lanes → is_some (lane_at r.queue lanes) ≡ true → IsSomeOf r.ring.table (lane_at r.queue lanes)
+lane_belongs board rings r [] its h some = absurd (cc)
+lane_belongs board rings r (l ∷ ls) its h some = by_test (l.queue.0 == r.queue) refl (lane_belongs board rings r ls its (all_tail (λ lane. IsLaneOf board rings lane) l ls h))
   where
     Rest : Type 0
     Rest = is_some (lane_at r.queue ls) ≡ true → IsSomeOf r.ring.table (lane_at r.queue ls)
@@ -188,7 +188,7 @@ both true true e = (refl, refl)
 both true false e = absurd (cc)
 both false b e = absurd (cc)
 
-module _ (rings : List QueueRing) (all : List ClientEnd) (every : List LaneSeen) (ends : All (λ end. IsEndOf rings end) all) (lanes : All (λ lane. IsLaneOf rings lane) every) where
+module _ (board : TableId) (rings : List QueueRing) (all : List ClientEnd) (every : List LaneSeen) (ends : All (λ end. IsEndOf rings end) all) (lanes : All (λ lane. IsLaneOf board rings lane) every) where
   ready_by : (left : List QueueRing) (rooms : List QueueRoom) → AreOwn rings left → AreRoomy all left rooms → list_all (has_its_passes all every) left ≡ true → AreReady all every left rooms all every
   ready_by [] [] own roomy complete = tt
   ready_by [] (room ∷ rooms) own roomy complete = absurd roomy
@@ -199,7 +199,7 @@ module _ (rings : List QueueRing) (all : List ClientEnd) (every : List LaneSeen)
         record {
           room_is = roomy.0;
           belong = passes_belong rings r all own.0 ends;
-          lane = lane_belongs rings r every own.0 lanes its.1;
+          lane = lane_belongs board rings r every own.0 lanes its.1;
           same_passes = refl;
           same_lane = refl;
         },

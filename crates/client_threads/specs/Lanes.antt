@@ -6,13 +6,15 @@ use Rattle.core_model.specs.Limits.{most_queues}
 use Rattle.ring.specs.Bytes.{words_of}
 use Rattle.ring.specs.Passes.{ProcessorSeen}
 use Rattle.core_model.specs.declared.served.Served.{Served}
+use Rattle.client_threads.specs.Boards.{PassSeen}
 
--- a lane: its queue, its pass, what it served, and which of it is pending
+-- a lane: its queue, its pass, what it served, which of it is pending, and the states of the core that it has seen
 pub record LaneSeen : Type 0 where
   pub queue : QueueId
   pub pass : ProcessorSeen
   pub served : List Served
   pub pending : List PacketId
+  pub front : PassSeen
 
 -- served packets stand under their ids, in order from one on
 abbrev pub AreNumbered : ℕ → List Served → Type 0

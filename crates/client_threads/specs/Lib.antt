@@ -1,4 +1,6 @@
 pub mod Rings
+pub mod Boards
+pub mod Sections
 pub mod Desks
 pub mod Lanes
 pub mod Opening

@@ -1,6 +1,7 @@
 -- What a broker comes to once all its ends and lanes have come back (own).
-use Rattle.std.specs.Prelude.{◌≡◌, ℕ, ◌==◌, ◌<◌, ◌≤◌, ◌&&◌, Bool, true, false, List, [], ◌∷◌, ◌++◌, length, slice_index, slice_index_or, Option, Some, None, is_some, if◌then◌else◌, ⊤}
+use Rattle.std.specs.Prelude.{◌≡◌, ℕ, ◌==◌, ◌<◌, ◌≤◌, ◌&&◌, Bool, true, false, List, [], ◌∷◌, ◌++◌, length, slice_index, slice_index_or, All, Option, Some, None, is_some, if◌then◌else◌, ⊤}
 use Rattle.std.specs.List.{filter_map, list_all}
+use mathlib.Core.List.{IsPrefix}
 use Rattle.core_model.specs.History.{Part, beginning}
 use Rattle.core_model.specs.Rotation.{LeadTo, entries_in}
 use Rattle.core_model.specs.Legal.{IsLegal}
@@ -22,7 +23,8 @@ use Rattle.client_threads.specs.declared.settling.Settlement.{Settlement}
 use Rattle.client_threads.specs.declared.settling.Settlement.TheVariants as settlement
 use Rattle.client_threads.specs.Lanes.{LaneSeen}
 use Rattle.client_threads.specs.Rings.{QueueRing}
-use Rattle.client_threads.specs.Takes.{AllAgree, IsLeastMismatch, lane_at}
+use Rattle.client_threads.specs.Sections.{AllFollow, IsFirst, IsReached, Stand, last_of, whole}
+use Rattle.client_threads.specs.Takes.{AllAgree, IsLeastMismatch, lane_at, takes}
 
 -- the pass of an end of a queue
 abbrev pub pass_of : ℕ → ClientEnd → Option ProducerSeen
@@ -89,10 +91,33 @@ number_of_fault fault.OutOfMemory = 0
 number_of_fault fault.MissingPass = 3
 number_of_fault fault.NotNext = 4
 
--- why a broker isn't settled, in this order: a pass is missing; all are there, and the parts don't lead to the audit of its core, of
--- which no more is known than that it is some legal one; they do, and memory was wanted and not to be had (own)
-abbrev pub IsUnsettledFor : List QueueRing → List Part → List ClientEnd → List LaneSeen → SettleAllFault → Type 0
-IsUnsettledFor rings parts ends lanes fault.MissingPass = has_all_passes rings ends lanes ≡ false
-IsUnsettledFor rings parts ends lanes fault.NotNext =
-    (has_all_passes rings ends lanes ≡ true) × ((core : Core) × IsLegal (beginning core.history) core.history.entries × (LeadTo parts core.history.origin → ⊥))
-IsUnsettledFor rings parts ends lanes fault.OutOfMemory = (has_all_passes rings ends lanes ≡ true) × ((core : Core) × IsLedTo parts core)
+-- the core that a broker came to
+abbrev pub core_of : Settlement → Core
+core_of (settlement.Settled core settled) = core
+core_of (settlement.Mismatch core queue id) = core
+
+-- what a lane has seen of a core is a beginning of the states in which it was left, and what the lane served stands, in order, among all
+-- that was taken of its queue since the opening, handed out or not
+pub record IsShown (opened : Core) (left : List Core) (lane : LaneSeen) : Type 0 where
+  pub begins : IsPrefix lane.front.left left
+  pub stands : Stand lane.served (takes (whole [] opened left) lane.queue.0)
+
+-- a broker ended with this core: the one that it was opened with, as the last section left it, with what was seen of it before; and it
+-- is shown to all lanes
+pub record IsEnd (opened : Core) (seen : List Core) (lanes : List LaneSeen) (core : Core) : Type 0 where
+  pub left : List Core
+  pub first : IsFirst opened
+  pub all : AllFollow opened left
+  pub last : last_of opened left ≡ core
+  pub begins : IsPrefix seen left
+  pub shown : All (IsShown opened left) lanes
+
+-- why a broker isn't settled, in this order: a pass is missing; all are there, and the parts don't lead to the audit of its core, which was
+-- reached from the one that was opened; they do, and memory was wanted and not to be had (own)
+abbrev pub IsUnsettledFor : Core → List QueueRing → List Part → List ClientEnd → List LaneSeen → SettleAllFault → Type 0
+IsUnsettledFor opened rings parts ends lanes fault.MissingPass = has_all_passes rings ends lanes ≡ false
+IsUnsettledFor opened rings parts ends lanes fault.NotNext =
+    (has_all_passes rings ends lanes ≡ true)
+    × ((core : Core) × IsReached opened core × IsLegal (beginning core.history) core.history.entries × (LeadTo parts core.history.origin → ⊥))
+IsUnsettledFor opened rings parts ends lanes fault.OutOfMemory =
+    (has_all_passes rings ends lanes ≡ true) × ((core : Core) × IsReached opened core × IsLedTo parts core)

@@ -1,4 +1,5 @@
 pub mod Kept
+pub mod Nothing
 pub mod Openings
 pub mod Partings
 pub mod Rooms

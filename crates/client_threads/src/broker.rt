@@ -1,17 +1,18 @@
 //! The broker: one core under its lock, and a ring with its doorbell for each queue.
 
-ghost use Rattle.std.specs.Prelude.{◌≡◌, [], IfOk};
+ghost use Rattle.std.specs.Prelude.{◌≡◌, []};
 ghost use Rattle.std.specs.Option.{option_copied};
 ghost use Rattle.std.specs.List.{find};
 ghost use Rattle.std.specs.Fn.{FnOnceReturnsAtMut};
 ghost use Rattle.atomic_table.specs.Seated.{TableId};
-ghost use Rattle.core_model.specs.History.{beginning};
-ghost use Rattle.core_model.specs.Legal.{IsLegal};
-ghost use Rattle.access_core.specs.Cores.{Core};
+ghost use Rattle.client_threads.specs.Boards.{Compared};
 ghost use Rattle.client_threads.specs.Desks.{is_desk_of};
 ghost use Rattle.client_threads.specs.Opening.{OpensBroker};
 ghost use Rattle.client_threads.specs.Rings.{IsOf, IsRingOf, ring_of};
+ghost use Rattle.client_threads.specs.Sections.{Continues, IsSection};
 
+use crate::board::{Board, Front, Keeper};
+use crate::room::{Held, Room};
 use access_core::{AccessCore, Kernel, OpenFault};
 use aql_packet::QueueId;
 use crossbeam_utils::CachePadded;
@@ -19,8 +20,8 @@ use doorbell::Doorbell;
 use policy::Policy;
 use ring::Ring;
 use std::alloc::Global;
-use std::marker::Model;
-use std::sync::{Mutex, MutexGuard, Wait};
+use std::marker::{Model, PhantomData};
+use std::sync::{Mutex, Wait};
 
 // What the broker has of a queue.
 #[derive(Drop)]
@@ -30,17 +31,18 @@ pub(crate) struct Desk {
     pub(crate) doorbell: Doorbell,
 }
 
-/// The broker: the core under its lock, and beside it a ring and a doorbell for each queue, on which
-/// threads step without that lock. A contract sees the rings, each under the number of its queue. Of the
-/// core under the lock it knows what the core's type keeps: its audit is a legal history.
+/// The broker: the core under its lock, and beside it a ring and a doorbell for each queue, on which threads step without
+/// that lock. A contract sees the rings, each under the number of its queue. The core under the lock goes on from the one
+/// that the broker was opened with, which its type names, and stands as the last section left it.
 #[derive(Drop)]
-pub struct Broker {
-    pub(crate) core: Mutex<AccessCore>,
+pub struct Broker<B: Room> {
+    pub(crate) held: Mutex<Held<B>>,
+    pub(crate) board: Board,
     pub(crate) desks: Vec<Desk>,
 }
 
-impl Model for Broker {
-    ghost use Rattle.std.specs.Prelude.{List, map};
+impl<B: Room> Model for Broker<B> {
+    ghost use Rattle.std.specs.Prelude.{◌≡◌, List, map};
     ghost use Rattle.client_threads.specs.Rings.{AreApart, QueueRing};
 
     ghost Value = { List QueueRing };
@@ -49,7 +51,76 @@ impl Model for Broker {
 
     ghost view = { λ b. map seen b.desks.items };
 
-    ghost invariant = { λ b. AreApart (map seen b.desks.items) };
+    ghost invariant = { λ b. AreApart (map seen b.desks.items) × (b.board ≡ B.board) };
+}
+
+/// A broker that has no name yet, and no ring. A contract sees its board and its core.
+#[derive(Drop)]
+pub struct UnnamedBroker {
+    core: AccessCore,
+    board: Board,
+    keeper: Keeper,
+    alloc: Global,
+}
+
+impl Model for UnnamedBroker {
+    ghost use Rattle.std.specs.Prelude.{◌≡◌, []};
+    ghost use Rattle.client_threads.specs.Opening.{UnnamedSeen};
+    ghost use Rattle.client_threads.specs.Sections.{IsFirst};
+
+    ghost Value = { UnnamedSeen };
+
+    ghost view = { λ b. record { board = b.board; core = b.core } };
+
+    ghost invariant = { λ b. (b.keeper.board ≡ b.board) × (b.keeper.left ≡ []) × IsFirst b.core };
+}
+
+impl UnnamedBroker {
+    /// A broker whose core is opened over a policy, as `AccessCore::open` opens it and refuses to.
+    #[tactic(auto, using(crate::proofs::Opened::opens_first))]
+    pub fn open(
+        alloc: Global,
+        policy: Policy,
+        kernels: Vec<Kernel>,
+        capacity: usize,
+    ) -> Result<UnnamedBroker, OpenFault>
+        ensures { OpensBroker policy kernels.items capacity result }
+    {
+        let core = AccessCore::open(alloc, policy, kernels, capacity)?;
+        let (board, keeper) = Board::new(alloc)?;
+        Ok(UnnamedBroker {
+            core,
+            board,
+            keeper,
+            alloc,
+        })
+    }
+
+    /// The broker under a name, which its type has from now on, and the front that has seen nothing.
+    pub fn named<B: Room>(self) -> (Broker<B>, Front)
+        requires { (self.board ≡ B.board) × (self.core ≡ B.opened) }
+        ensures rings { result.0 ≡ [] }
+        ensures front { (result.1.board ≡ B.board) × (result.1.left ≡ []) }
+    {
+        let UnnamedBroker {
+            core,
+            board,
+            mut keeper,
+            alloc,
+        } = self;
+        let front = board.front(&mut keeper);
+        let held = Held {
+            core,
+            keeper,
+            room: PhantomData,
+        };
+        let broker = Broker {
+            held: Mutex::new(held),
+            board,
+            desks: Vec::new(alloc),
+        };
+        (broker, front)
+    }
 }
 
 // What there is of a queue.
@@ -59,24 +130,7 @@ pub(crate) fn find_desk(desks: &[Desk], queue: QueueId) -> Option<&Desk>
     desks.iter().find(|desk| desk.queue.0 == queue.0)
 }
 
-impl Broker {
-    /// A broker whose core is opened over a policy, as `AccessCore::open` opens it and refuses to. It has
-    /// no ring yet.
-    pub fn open(
-        alloc: Global,
-        policy: Policy,
-        kernels: Vec<Kernel>,
-        capacity: usize,
-    ) -> Result<Broker, OpenFault>
-        ensures opens { OpensBroker policy kernels.items capacity result }
-    {
-        let core = AccessCore::open(alloc, policy, kernels, capacity)?;
-        Ok(Broker {
-            core: Mutex::new(core),
-            desks: Vec::new(alloc),
-        })
-    }
-
+impl<B: Room> Broker<B> {
     /// The ring of a queue, if the broker has one: of each queue that `open_queue` opened.
     #[tactic(auto, using(crate::proofs::RingOfDesks::ring_of_desks))]
     pub fn ring(&self, queue: QueueId) -> Option<&Ring>
@@ -105,21 +159,60 @@ impl Broker {
         }
     }
 
-    /// Takes the core's lock, for which it may wait, calls `f` on the core, and answers what `f` answers.
-    /// The core has a legal history, whatever other threads did; `f` keeps it so, since every call of the
-    /// core does.
-    pub fn with_core<R: Wait, X, F: FnOnce(&mut AccessCore) -> X>(&self, rt: &R, f: F) -> X
-        requires { F.IsAlwaysCallable f }
-        ensures { (old new : Core) × IsLegal (beginning old.history) old.history.entries × FnOnceReturnsAtMut F.FnOnce f old result new }
+    /// Takes the core's lock, for which it may wait, calls `f` on the core, and answers what `f` answers. The core is the
+    /// one that the broker was opened with, as the last section left it, whichever thread made that; `f` goes on from it,
+    /// as each call of the core does: it exchanges no core. What the front had seen stands before, and it has seen this
+    /// section then.
+    pub fn with_core<R: Wait, X, F: FnOnce(&mut AccessCore) -> X>(
+        &self,
+        rt: &R,
+        front: &mut Front,
+        f: F,
+    ) -> X
+        requires front { front.old.board ≡ B.board }
+        requires can { F.IsAlwaysCallable f }
+        requires continues { Continues (FnOnceReturnsAtMut F.FnOnce f) }
+        ensures front { front.new.board ≡ B.board }
+        ensures section { IsSection B.opened front.old.left front.new.left (λ old new. FnOnceReturnsAtMut F.FnOnce f old result new) }
     {
-        let mut guard = self.core.lock(rt);
-        let core = &mut *guard;
-        core.audit();
-        f(core)
+        let mut guard = self.held.lock(rt);
+        let held = &mut *guard;
+        held.section(&self.board, front, f)
     }
 
-    // Takes the core's lock.
-    pub(crate) fn lock<R: Wait>(&self, rt: &R) -> MutexGuard<'_, AccessCore> {
-        self.core.lock(rt)
+    /// The same where no thread shares the broker: it doesn't wait.
+    pub fn with_core_alone<X, F: FnOnce(&mut AccessCore) -> X>(
+        &mut self,
+        front: &mut Front,
+        f: F,
+    ) -> X
+        requires front { front.old.board ≡ B.board }
+        requires can { F.IsAlwaysCallable f }
+        requires continues { Continues (FnOnceReturnsAtMut F.FnOnce f) }
+        ensures front { front.new.board ≡ B.board }
+        ensures section { IsSection B.opened front.old.left front.new.left (λ old new. FnOnceReturnsAtMut F.FnOnce f old result new) }
+        ensures rings { self.new ≡ self.old }
+    {
+        let Broker { held, board, .. } = self;
+        let held = held.get_mut();
+        held.section(board, front, f)
+    }
+
+    /// Another front that has seen the same.
+    pub fn again(&self, front: &mut Front) -> Front
+        requires { front.old.board ≡ B.board }
+        ensures { (front.new ≡ front.old) × (result ≡ front.old) }
+    {
+        self.board.copy(front)
+    }
+
+    /// What two fronts have seen is compared: the one begins the other.
+    pub fn compare(&self, front: &mut Front, other: &mut Front)
+        requires { (front.old.board ≡ B.board) × (other.old.board ≡ B.board) }
+        ensures kept { (front.new ≡ front.old) × (other.new ≡ other.old) }
+        ensures one { Compared front.old.left other.old.left }
+    {
+        let copy = self.board.copy(other);
+        self.board.compare(front, copy);
     }
 }

@@ -10,6 +10,7 @@ ghost use Rattle.client_threads.specs.Rings.{IsRingOf};
 ghost use Rattle.client_threads.specs.Running.{IsEndOf};
 
 use crate::broker::Broker;
+use crate::room::Room;
 use aql_packet::QueueId;
 use ring::{ProducerPass, Publication, Spent, Ticket};
 
@@ -32,7 +33,7 @@ impl ClientEnd {
     /// Reserves the next id, as its pass does on the broker's ring: one addition to the write index, or none
     /// where 2^40 are reserved.
     #[tactic(auto, using(crate::proofs::EndsOf::stays_of))]
-    pub fn reserve(&mut self, broker: &Broker) -> Result<Ticket, Spent>
+    pub fn reserve<B: Room>(&mut self, broker: &Broker<B>) -> Result<Ticket, Spent>
         requires end { IsEndOf broker.now self.old }
         ensures queue { self.new.queue ≡ self.old.queue }
         ensures steps { IfOk result (λ ticket. (ring : RingSeen) → IsRingOf broker.now self.old.queue.0 ring → ProducerGains ring self.old.pass (read Access.Reserve ticket.id.0 ∷ []) self.new.pass) }
@@ -48,7 +49,12 @@ impl ClientEnd {
     /// Publishes a packet under an open ticket of its own, as its pass does on the broker's ring. Where it is
     /// published, the queue's doorbell rings with its id.
     #[tactic(auto, using(crate::proofs::EndsOf::published_of))]
-    pub fn publish(&mut self, broker: &Broker, ticket: Ticket, bytes: &[u8; 64]) -> Publication
+    pub fn publish<B: Room>(
+        &mut self,
+        broker: &Broker<B>,
+        ticket: Ticket,
+        bytes: &[u8; 64],
+    ) -> Publication
         requires end { IsEndOf broker.now self.old }
         requires opened { IsOpen ticket.id.0 self.old.pass }
         ensures queue { self.new.queue ≡ self.old.queue }
@@ -67,7 +73,7 @@ impl ClientEnd {
 }
 
 // Rings the doorbell of a queue, if the broker has one.
-fn ring_doorbell(broker: &Broker, queue: QueueId, id: u64) {
+fn ring_doorbell<B: Room>(broker: &Broker<B>, queue: QueueId, id: u64) {
     if let Some(doorbell) = broker.doorbell(queue) {
         doorbell.ring(id);
     }

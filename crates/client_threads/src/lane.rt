@@ -3,19 +3,22 @@
 ghost use Rattle.std.specs.Prelude.{◌≡◌};
 ghost use Rattle.client_threads.specs.Lanes.{IsLane};
 
+use crate::board::{Board, Front};
 use aql_packet::{PacketId, QueueId};
 use core_model::Served;
 use ring::ProcessorPass;
 use std::marker::Model;
 
-/// What serves a queue: its processor's pass, the packets that it served, and which of them are launched
-/// and not done. A contract sees all four, and that what the lane served is what its pass retired.
+/// What serves a queue: its processor's pass, the packets that it served, which of them are launched and not done, and the
+/// front that has seen the core as the lane's last turn left it. A contract sees all five, and that what the lane served is
+/// what its pass retired.
 #[derive(Drop)]
 pub struct Lane {
     pub(crate) queue: QueueId,
     pub(crate) pass: ProcessorPass,
     pub(crate) served: Vec<Served>,
     pub(crate) pending: Vec<PacketId>,
+    pub(crate) front: Front,
 }
 
 impl Model for Lane {
@@ -58,5 +61,20 @@ impl Lane {
         ensures { result ≡ self.now.queue.0 }
     {
         self.queue.0 as u32
+    }
+
+    // Another front that has seen the same.
+    pub(crate) fn copy_front(&mut self, board: &Board) -> Front
+        requires { self.old.front.board ≡ board.now }
+        ensures { (self.new ≡ self.old) × (result ≡ self.old.front) }
+    {
+        board.copy(&mut self.front)
+    }
+
+    // It has seen what a front has from now on.
+    pub(crate) fn see(&mut self, front: Front)
+        ensures { self.new ≡ record self.old { front = front } }
+    {
+        self.front = front;
     }
 }

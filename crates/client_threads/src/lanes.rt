@@ -1,12 +1,14 @@
 //! Lanes run, each on a thread of its own.
 
 ghost use Rattle.std.specs.Prelude.{◌≡◌, ◌<◌, length, All};
-ghost use Rattle.client_threads.specs.Running.{EachGoesOn, GoesOn, IsLaneOf};
-ghost use Rattle.client_threads.specs.inner.Turns.{Looks};
+ghost use Rattle.client_threads.specs.Running.{EachGoesOn, GoesOn, IsLaneOf, KeepsOn};
+ghost use Rattle.client_threads.specs.inner.Turns.{Looks, ServesIn, StandsIn};
 
 use crate::advancing::{Advanced, advance_one};
+use crate::board::Board;
 use crate::broker::Broker;
 use crate::lane::Lane;
+use crate::room::{Held, Room, leave};
 use crate::serving::{ServeAnswer, serve_one};
 use access_core::AccessCore;
 use ring::{Peeked, Ring};
@@ -34,7 +36,7 @@ pub trait Gate {
     fn leave(&self, lane: u32, turn: u64, done: LaneAnswer);
 }
 
-// Whether a lane's ring shows a packet. All stays but what its pass knows.
+// Whether a lane's ring shows a packet.
 fn has_next(lane: &mut Lane, ring: &Ring) -> bool
     requires { lane.old.pass.table ≡ ring.now.table }
     ensures { Looks lane.old lane.new }
@@ -55,35 +57,55 @@ fn is_idle(lane: &mut Lane, ring: &Ring) -> bool
 }
 
 // A lane hands the next packet of its queue to the core.
-#[tactic(auto, using(crate::proofs::GoingOn::serves_goes_on))]
+#[tactic(auto, using(crate::proofs::Turning::serves_in))]
 fn serve(alloc: Global, lane: &mut Lane, core: &mut AccessCore, ring: &Ring) -> ServeAnswer
     requires { lane.old.pass.table ≡ ring.now.table }
-    ensures { GoesOn lane.old lane.new }
+    ensures { ServesIn lane.old core.old.history lane.new core.new.history }
 {
     serve_one(alloc, lane, core, ring)
 }
 
 // It advances its first pending packet.
-#[tactic(auto, using(crate::proofs::GoingOn::advances_goes_on))]
+#[tactic(auto, using(crate::proofs::Turning::advances_in))]
 fn advance(alloc: Global, lane: &mut Lane, core: &mut AccessCore) -> Advanced
-    ensures { GoesOn lane.old lane.new }
+    ensures { ServesIn lane.old core.old.history lane.new core.new.history }
 {
     advance_one(alloc, lane, core)
 }
 
-// What a lane does in a turn under the lock.
-#[tactic(auto, using(crate::proofs::GoingOn::goes_on_both))]
+// What a lane does under the lock, in one section.
+#[tactic(auto, using(crate::proofs::Turning::serves_both))]
 fn do_turn(alloc: Global, lane: &mut Lane, core: &mut AccessCore, ring: &Ring) -> LaneAnswer
     requires { lane.old.pass.table ≡ ring.now.table }
-    ensures { GoesOn lane.old lane.new }
+    ensures { ServesIn lane.old core.old.history lane.new core.new.history }
 {
     let served = serve(alloc, lane, core, ring);
     let advanced = advance(alloc, lane, core);
     LaneAnswer { served, advanced }
 }
 
-impl Broker {
-    // One turn of a lane that has something to do, in one section under the lock.
+impl<B: Room> Held<B> {
+    // One turn of a lane, in a section of the core, which the lane has seen then.
+    fn turn(&mut self, alloc: Global, board: &Board, lane: &mut Lane, ring: &Ring) -> LaneAnswer
+        requires board { (board.now ≡ B.board) × (lane.old.front.board ≡ B.board) }
+        requires ring { lane.old.pass.table ≡ ring.now.table }
+        requires stands { StandsIn lane.old }
+        ensures on { GoesOn lane.old lane.new }
+        ensures board { lane.new.front.board ≡ B.board }
+        ensures stands { StandsIn lane.new }
+    {
+        let seen = lane.copy_front(board);
+        board.check(&mut self.keeper, seen);
+        self.core.audit();
+        let done = do_turn(alloc, lane, &mut self.core, ring);
+        self.core.audit();
+        lane.see(leave(board, &mut self.keeper, &self.core));
+        done
+    }
+}
+
+impl<B: Room> Broker<B> {
+    // One turn of a lane that has something to do.
     fn turn_locked<R: Wait>(
         &self,
         rt: &R,
@@ -91,19 +113,20 @@ impl Broker {
         lane: &mut Lane,
         ring: &Ring,
     ) -> LaneAnswer
-        requires { lane.old.pass.table ≡ ring.now.table }
-        ensures { GoesOn lane.old lane.new }
+        requires ring { lane.old.pass.table ≡ ring.now.table }
+        requires lane { IsLaneOf B.board self.now lane.old }
+        ensures { KeepsOn B.board self.now lane.old lane.new }
     {
-        let mut guard = self.lock(rt);
-        let core = &mut *guard;
-        do_turn(alloc, lane, core, ring)
+        let mut guard = self.held.lock(rt);
+        let held = &mut *guard;
+        held.turn(alloc, &self.board, lane, ring)
     }
 
     // One turn of a lane. Where it has nothing to do, it doesn't ask for the lock.
-    #[tactic(auto, using(crate::proofs::GoingOn::looked_on, crate::proofs::GoingOn::looked_then_on))]
+    #[tactic(auto, using(crate::proofs::GoingOn::looked_of, crate::proofs::GoingOn::looked_keeps_on, crate::proofs::GoingOn::looked_then_on))]
     fn turn<R: Wait>(&self, rt: &R, alloc: Global, lane: &mut Lane) -> LaneAnswer
-        requires { IsLaneOf self.now lane.old }
-        ensures { GoesOn lane.old lane.new }
+        requires { IsLaneOf B.board self.now lane.old }
+        ensures { KeepsOn B.board self.now lane.old lane.new }
     {
         let ring = self.ring_of(lane.queue());
         if is_idle(lane, ring) {
@@ -117,10 +140,16 @@ impl Broker {
 }
 
 // Turns of a lane, from 1 on, until the gate doesn't let it in.
-#[tactic(auto, using(crate::proofs::GoingOn::goes_on_none, crate::proofs::GoingOn::goes_on_both, crate::proofs::GoingOn::still_of))]
-fn run_lane<R: Wait, G: Gate>(rt: &R, alloc: Global, broker: &Broker, lane: &mut Lane, gate: &G)
-    requires { IsLaneOf broker.now lane.old }
-    ensures { GoesOn lane.old lane.new }
+#[tactic(auto, using(crate::proofs::GoingOn::keeps_on_none, crate::proofs::GoingOn::keeps_on_both))]
+fn run_lane<B: Room, R: Wait, G: Gate>(
+    rt: &R,
+    alloc: Global,
+    broker: &Broker<B>,
+    lane: &mut Lane,
+    gate: &G,
+)
+    requires { IsLaneOf B.board broker.now lane.old }
+    ensures { KeepsOn B.board broker.now lane.old lane.new }
 {
     let number = lane.number();
     for before in 0..u64::MAX {
@@ -134,16 +163,16 @@ fn run_lane<R: Wait, G: Gate>(rt: &R, alloc: Global, broker: &Broker, lane: &mut
 }
 
 // Runs lanes, each on a thread of its own where one can be made, until each has ended.
-fn run_each<R: Threads + Wait + Sync, G: Gate + Sync>(
+fn run_each<B: Room + Send + Sync, R: Threads + Wait + Sync, G: Gate + Sync>(
     rt: &R,
     alloc: Global,
-    broker: &Broker,
+    broker: &Broker<B>,
     lanes: &mut [Lane],
     gate: &G,
 )
     requires some { 0 < length lanes.old }
-    requires lanes { All (λ lane. IsLaneOf broker.now lane) lanes.old }
-    ensures { EachGoesOn lanes.old lanes.new }
+    requires lanes { All (λ lane. IsLaneOf B.board broker.now lane) lanes.old }
+    ensures { EachGoesOn B.board broker.now lanes.old lanes.new }
 {
     let threads = lanes.len();
     thread::for_each_mut(
@@ -155,16 +184,16 @@ fn run_each<R: Threads + Wait + Sync, G: Gate + Sync>(
 }
 
 // Runs any number of lanes so.
-fn run_any<R: Threads + Wait + Sync, G: Gate + Sync>(
+fn run_any<B: Room + Send + Sync, R: Threads + Wait + Sync, G: Gate + Sync>(
     rt: &R,
     alloc: Global,
-    broker: &Broker,
+    broker: &Broker<B>,
     lanes: Vec<Lane>,
     gate: &G,
 ) -> Vec<Lane>
-    requires { All (λ lane. IsLaneOf broker.now lane) lanes.items }
+    requires { All (λ lane. IsLaneOf B.board broker.now lane) lanes.items }
     ensures count { length result.items ≡ length lanes.items }
-    ensures each { EachGoesOn lanes.items result.items }
+    ensures each { EachGoesOn B.board broker.now lanes.items result.items }
 {
     let mut lanes = lanes;
     if lanes.len() > 0 {
@@ -174,24 +203,24 @@ fn run_any<R: Threads + Wait + Sync, G: Gate + Sync>(
 }
 
 /// Runs lanes, each on a thread of its own, until the gate has ended each of them or it made 2^64 - 1 turns.
-/// In a turn the gate is asked whether the lane enters; then the next packet of its queue is handed to the
-/// core and its first pending packet is advanced, in one section under the core's lock, for which it doesn't ask
-/// where its ring shows no packet and none is pending; then the gate is told. Where no thread can be made, lanes
-/// run one after another. It takes no memory of its own.
-/// The lanes come back in the order in which they were handed in, each of its queue and ring, and what each
-/// served begins with what it had served.
+/// In a turn the gate is asked whether the lane enters; then the next packet of its queue is handed to the core and its
+/// first pending packet is advanced, in one section under the core's lock, for which it doesn't ask where its ring shows no
+/// packet and none is pending; then the gate is told. Where no thread can be made, lanes run one after another. It takes no
+/// memory of its own. The lanes come back in the order in which they were handed in, each of its queue and ring; what each
+/// served begins with what it had served, and stands, in order, among what the core took by the states that the lane has
+/// seen.
 #[tactic(auto, using(crate::proofs::GoingOn::all_still_of))]
-pub fn run_lanes<R: Threads + Wait + Sync, G: Gate + Sync>(
+pub fn run_lanes<B: Room + Send + Sync, R: Threads + Wait + Sync, G: Gate + Sync>(
     rt: &R,
     alloc: Global,
-    broker: &Broker,
+    broker: &Broker<B>,
     lanes: Vec<Lane>,
     gate: &G,
 ) -> Vec<Lane>
-    requires { All (λ lane. IsLaneOf broker.now lane) lanes.items }
+    requires { All (λ lane. IsLaneOf B.board broker.now lane) lanes.items }
     ensures count { length result.items ≡ length lanes.items }
-    ensures each { EachGoesOn lanes.items result.items }
-    ensures lanes { All (λ lane. IsLaneOf broker.now lane) result.items }
+    ensures each { EachGoesOn B.board broker.now lanes.items result.items }
+    ensures lanes { All (λ lane. IsLaneOf B.board broker.now lane) result.items }
 {
     run_any(rt, alloc, broker, lanes, gate)
 }

@@ -6,6 +6,7 @@
 #![tactic(auto)]
 
 mod advancing;
+mod board;
 mod broker;
 mod client_end;
 mod lane;
@@ -13,16 +14,22 @@ mod lanes;
 mod laws;
 mod mismatch;
 mod opening;
+mod room;
 mod serving;
 mod settling;
 
 pub use advancing::{Advanced, advance_one};
-pub use broker::Broker;
+pub use board::Front;
+pub use broker::{Broker, UnnamedBroker};
 pub use client_end::ClientEnd;
 pub use core_model::Served;
 pub use lane::Lane;
 pub use lanes::{Gate, LaneAnswer, run_lanes};
-pub use laws::opened_queues_belong;
+pub use laws::{
+    opened_queues_belong, queues_keep_their_openings, runs_are_whole_histories,
+    sections_stand_in_order,
+};
 pub use opening::Opened;
+pub use room::Room;
 pub use serving::{ServeAnswer, serve_one};
 pub use settling::{SettleAllFault, SettledQueue, Settlement, UnsettledBroker, settle_all};

@@ -1,23 +1,23 @@
 //! Queues are opened, each with its ring and its doorbell.
 
-ghost use Rattle.std.specs.Prelude.{◌≡◌, ◌+◌, ◌<◌, ◌≤◌, ◌^◌, IfOk, IfErr, OnOk, [], false, length, map, vec_capacity, vec_len};
+ghost use Rattle.std.specs.Prelude.{◌≡◌, ℕ, List, ◌<◌, ◌≤◌, IfOk, IfErr, OnOk, Err, [], false, is_some, map, vec_capacity, vec_len};
 ghost use Rattle.policy.specs.Results.{map_ok};
 ghost use Rattle.core_model.specs.declared.event.Event.{Event};
 ghost use Rattle.core_model.specs.declared.limits.TheConstants.{QUEUES};
 ghost use Rattle.core_model.specs.declared.outcome.Outcome.{Outcome};
-ghost use Rattle.core_model.specs.declared.refusal.Refusal.{Refusal};
-ghost use Rattle.core_model.specs.History.{History, beginning};
-ghost use Rattle.core_model.specs.Legal.{IsLegal, due};
-ghost use Rattle.core_model.specs.Owed.{enters, refuses};
-ghost use Rattle.core_model.specs.Queues.{openings};
+ghost use Rattle.core_model.specs.Legal.{MeetsOrLacks};
 ghost use Rattle.client_threads.specs.Desks.{seen};
-ghost use Rattle.client_threads.specs.Opening.{IsOpened, MeetsOrLacksOpening, as_end, due_opening, judged_size, next_queue};
-ghost use Rattle.client_threads.specs.Rings.{AreApart};
-ghost use Rattle.client_threads.specs.inner.Openings.{HasEntered, IsBeside, IsOpenable, has_ring_of};
+ghost use Rattle.client_threads.specs.Opening.{IsOpened, as_end, judged_size, opening_event};
+ghost use Rattle.client_threads.specs.Boards.{PassSeen};
+ghost use Rattle.client_threads.specs.Rings.{AreApart, QueueRing, ring_of};
+ghost use Rattle.client_threads.specs.Sections.{IsSection};
+ghost use Rattle.client_threads.specs.inner.Openings.{HasEntered, IsBeside, IsOpenable};
 
+use crate::board::{Board, Front};
 use crate::broker::{Broker, Desk, find_desk};
 use crate::client_end::ClientEnd;
 use crate::lane::Lane;
+use crate::room::{Held, Room, leave};
 use access_core::AccessCore;
 use aql_packet::{AgentHandle, ClientId, QueueId};
 use core_model::Refusal;
@@ -30,28 +30,91 @@ use std::alloc::{AllocError, Global};
 /// A queue that was opened: its number, an end for each of its producers, and its lane.
 pub type Opened = (QueueId, Vec<ClientEnd>, Lane);
 
-impl Broker {
-    /// Opens a queue for a client, whose packets an agent runs, with a ring of `size` slots for so many
-    /// producers. Refused as `AccessCore::open_queue` refuses it, wrong producers being a wrong size; and
-    /// where the broker has a ring already for the next queue, since a call of `with_core` left another
-    /// core under the lock, there are too many. After a refusal all is as before. It doesn't wait.
+/// Whose queue is to be opened on which agent, with a ring of how many slots for how many producers.
+#[derive(Clone, Copy)]
+pub(crate) struct Asked {
+    pub(crate) client: ClientId,
+    pub(crate) agent: AgentHandle,
+    pub(crate) size: u64,
+    pub(crate) producers: u64,
+}
+
+impl<B: Room> Broker<B> {
+    /// Opens a queue for a client, whose packets an agent runs, with a ring of `size` slots for so many producers. It is
+    /// refused just as this broker's core refuses it, wrong producers being a wrong size. After a refusal all is as before.
+    /// The opening is a section of the core, which the front and the lane have seen then. It doesn't wait.
     pub fn open_queue(
         &mut self,
         alloc: Global,
+        front: &mut Front,
         client: ClientId,
         agent: AgentHandle,
         size: u64,
         producers: u64,
     ) -> Result<Opened, Refusal>
-        ensures due { (before after : History) × IsLegal (beginning before) before.entries
-            × MeetsOrLacksOpening self.old (Event.Open client agent (judged_size size producers)) before after (map_ok (λ o. o.0) result) }
-        ensures opened { IfOk result (λ o. IsOpened self.old size producers o.0 o.1.items o.2 self.new) }
+        requires front { front.old.board ≡ B.board }
+        ensures front { front.new.board ≡ B.board }
+        ensures section { IsSection B.opened front.old.left front.new.left (λ before after.
+            MeetsOrLacks (opening_event client agent size producers) before.history after.history (map_ok (λ o. Outcome.Opened o.0) result)) }
+        ensures opened { IfOk result (λ o. IsOpened self.old size producers front.new o.0 o.1.items o.2 self.new) }
         ensures refused { IfErr result (λ _. self.new ≡ self.old) }
     {
-        let Broker { core, desks } = self;
-        let core = core.get_mut();
-        core.audit();
-        open_beside(alloc, core, desks, client, agent, size, producers)
+        let asked = Asked {
+            client,
+            agent,
+            size,
+            producers,
+        };
+        let Broker { held, board, desks } = self;
+        let held = held.get_mut();
+        held.open_queue(alloc, board, desks, front, asked)
+    }
+}
+
+impl<B: Room> Held<B> {
+    // Opens a queue in a section of its own.
+    fn open_queue(
+        &mut self,
+        alloc: Global,
+        board: &Board,
+        desks: &mut Vec<Desk>,
+        front: &mut Front,
+        asked: Asked,
+    ) -> Result<Opened, Refusal>
+        requires board { (board.now ≡ B.board) × (front.old.board ≡ B.board) }
+        requires apart { AreApart (map seen desks.old.items) }
+        ensures board { front.new.board ≡ B.board }
+        ensures section { IsSection B.opened front.old.left front.new.left (λ before after.
+            MeetsOrLacks (opening_event asked.client asked.agent asked.size asked.producers) before.history after.history (map_ok (λ o. Outcome.Opened o.0) result)) }
+        ensures opened { IfOk result (λ o. IsOpened (map seen desks.old.items) asked.size asked.producers front.new o.0 o.1.items o.2 (map seen desks.new.items)) }
+        ensures refused { IfErr result (λ _. map seen desks.new.items ≡ map seen desks.old.items) }
+        ensures apart { AreApart (map seen desks.new.items) }
+    {
+        let begun = board.copy(front);
+        board.check(&mut self.keeper, begun);
+        self.core.audit();
+        let lent = board.copy(front);
+        let opened = open_beside(alloc, &mut self.core, desks, lent, asked);
+        self.core.audit();
+        *front = leave(board, &mut self.keeper, &self.core);
+        let last = board.copy(front);
+        with_front(opened, last)
+    }
+}
+
+// A queue that was opened, whose lane has seen what a front has.
+fn with_front(opened: Result<Opened, Refusal>, front: Front) -> Result<Opened, Refusal>
+    ensures number { map_ok (λ o. Outcome.Opened o.0) result ≡ map_ok (λ o. Outcome.Opened o.0) opened }
+    ensures opened { (old new : List QueueRing) (size producers : ℕ) (before : PassSeen) →
+        IfOk opened (λ o. IsOpened old size producers before o.0 o.1.items o.2 new) → IfOk result (λ o. IsOpened old size producers front o.0 o.1.items o.2 new) }
+{
+    match opened {
+        Ok((queue, ends, lane)) => {
+            let mut lane = lane;
+            lane.see(front);
+            Ok((queue, ends, lane))
+        }
+        Err(why) => Err(why),
     }
 }
 
@@ -66,24 +129,17 @@ fn judged_size(size: u64, producers: u64) -> u64
     }
 }
 
-// The number of the next queue, of which there are few.
-fn next_queue(core: &AccessCore) -> QueueId
-    requires { length (openings (beginning core.now.history) core.now.history.entries) < 2 ^ 32 }
-    ensures { result.0 ≡ next_queue core.now.history }
-{
-    QueueId(core.table_sizes().queues as u64 + 1)
-}
-
-// Whether there is a ring of a queue.
+// Whether a queue has a ring.
 #[tactic(auto, using(crate::proofs::RingOfDesks::has_ring))]
 fn has_ring(desks: &[Desk], queue: QueueId) -> bool
-    ensures { result ≡ has_ring_of queue.0 (map seen desks.now) }
+    ensures { result ≡ is_some (ring_of queue.0 (map seen desks.now)) }
 {
     find_desk(desks, queue).is_some()
 }
 
-// The number that a queue will have that is opened next, or why it isn't.
-#[tactic(auto, using(crate::proofs::Opened::taken_number, crate::proofs::Opened::openable, crate::proofs::Opened::full_and_taken, crate::proofs::Opened::full_alone, crate::proofs::Opened::refused_before, crate::proofs::Opened::few_where_full))]
+// The number that a queue will have that is opened next, or why it isn't. A ring of that number, which no queue can have
+// that isn't opened, is told as want of memory.
+#[tactic(auto, using(crate::proofs::Opened::openable, crate::proofs::Opened::refused_meets, crate::proofs::Opened::due_lacks))]
 fn may_open(
     core: &AccessCore,
     desks: &[Desk],
@@ -92,24 +148,17 @@ fn may_open(
     size: u64,
 ) -> Result<QueueId, Refusal>
     ensures may { IfOk result (IsOpenable (map seen desks.now) core.now.history (Event.Open client agent size)) }
-    ensures why { IfErr result (λ why. due_opening (map seen desks.now) core.now.history (Event.Open client agent size) ≡ refuses why) }
+    ensures why { IfErr result (λ why. MeetsOrLacks (Event.Open client agent size) core.now.history core.now.history (Err why)) }
 {
     match core.may_open(client, agent, size) {
+        Err(why) => Err(why),
         Ok(queue) => {
             if has_ring(desks, queue) {
-                Err(Refusal::TooMany)
+                Err(Refusal::OutOfMemory)
             } else {
                 Ok(queue)
             }
         }
-        Err(Refusal::AuditFull) => {
-            if has_ring(desks, next_queue(core)) {
-                Err(Refusal::TooMany)
-            } else {
-                Err(Refusal::AuditFull)
-            }
-        }
-        Err(why) => Err(why),
     }
 }
 
@@ -129,16 +178,17 @@ fn ends_of(
 }
 
 // A lane of a queue that opens.
-fn lane_of(alloc: Global, queue: QueueId, pass: ProcessorPass) -> Lane
+fn lane_of(alloc: Global, queue: QueueId, pass: ProcessorPass, front: Front) -> Lane
     requires pass { (pass.part.retired ≡ []) × (pass.part.raising ≡ false) }
     requires few { queue.0 ≤ QUEUES }
-    ensures { result ≡ record { queue = queue; pass = pass; served = []; pending = [] } }
+    ensures { result ≡ record { queue = queue; pass = pass; served = []; pending = []; front = front } }
 {
     Lane {
         queue,
         pass,
         served: Vec::new(alloc),
         pending: Vec::new(alloc),
+        front,
     }
 }
 
@@ -156,16 +206,17 @@ fn make_beside(
     queue: QueueId,
     size: u64,
     producers: u64,
+    front: Front,
 ) -> Result<Beside, AllocError>
     requires few { queue.0 ≤ QUEUES }
-    ensures { IfOk result (IsBeside queue size producers) }
+    ensures { IfOk result (IsBeside queue size producers front) }
 {
     let Ok((ring, passes, processor)) = Ring::new(alloc, size, producers) else {
         return Err(AllocError);
     };
     let doorbell = Doorbell::new(alloc)?;
     let ends = ends_of(alloc, queue, passes)?;
-    let lane = lane_of(alloc, queue, processor);
+    let lane = lane_of(alloc, queue, processor, front);
     let ring = CachePadded::new(ring);
     let desk = Desk {
         queue,
@@ -182,18 +233,19 @@ fn make_room(
     queue: QueueId,
     size: u64,
     producers: u64,
+    front: Front,
 ) -> Result<Beside, AllocError>
     requires few { queue.0 ≤ QUEUES }
-    ensures made { IfOk result (IsBeside queue size producers) }
+    ensures made { IfOk result (IsBeside queue size producers front) }
     ensures room { OnOk result (vec_len desks.new < vec_capacity desks.new) }
     ensures desks { desks.new.items ≡ desks.old.items }
 {
     desks.reserve(1)?;
-    make_beside(alloc, queue, size, producers)
+    make_beside(alloc, queue, size, producers, front)
 }
 
 // Opens a queue in a core, and puts what was made for it behind the other desks.
-#[tactic(auto, using(crate::proofs::Opened::failed_meets, crate::proofs::Opened::opened_meets))]
+#[tactic(auto, using(crate::proofs::Opened::opened_meets))]
 fn enter_queue(
     alloc: Global,
     core: &mut AccessCore,
@@ -205,9 +257,11 @@ fn enter_queue(
 ) -> Result<Opened, Refusal>
     requires openable { IsOpenable (map seen desks.old.items) core.old.history (Event.Open client agent size) made.desk.queue }
     requires room { vec_len desks.old < vec_capacity desks.old }
-    ensures due { MeetsOrLacksOpening (map seen desks.old.items) (Event.Open client agent size) core.old.history core.new.history (map_ok (λ o. o.0) result) }
+    requires apart { AreApart (map seen desks.old.items) }
+    ensures due { MeetsOrLacks (Event.Open client agent size) core.old.history core.new.history (map_ok (λ o. Outcome.Opened o.0) result) }
     ensures entered { IfOk result (λ o. HasEntered made (map seen desks.old.items) (map seen desks.new.items) o.0 o.1.items o.2) }
     ensures refused { IfErr result (λ _. desks.new.items ≡ desks.old.items) }
+    ensures apart { AreApart (map seen desks.new.items) }
 {
     let queue = made.desk.queue;
     match core.open_allowed(alloc, client, agent, size, queue) {
@@ -220,27 +274,31 @@ fn enter_queue(
     }
 }
 
-// Opens a queue in a core and beside it.
-#[tactic(auto, using(crate::proofs::Opened::refused_meets, crate::proofs::Opened::lacks, crate::proofs::Opened::entered_opened, crate::proofs::Opened::apart_entered))]
+// Opens a queue in a core and beside it, with a lane that has seen what a front has.
+#[tactic(auto, using(crate::proofs::Opened::lacks, crate::proofs::Opened::entered_opened))]
 fn open_beside(
     alloc: Global,
     core: &mut AccessCore,
     desks: &mut Vec<Desk>,
-    client: ClientId,
-    agent: AgentHandle,
-    size: u64,
-    producers: u64,
+    front: Front,
+    asked: Asked,
 ) -> Result<Opened, Refusal>
     requires apart { AreApart (map seen desks.old.items) }
-    ensures due { MeetsOrLacksOpening (map seen desks.old.items) (Event.Open client agent (judged_size size producers)) core.old.history core.new.history (map_ok (λ o. o.0) result) }
-    ensures opened { IfOk result (λ o. IsOpened (map seen desks.old.items) size producers o.0 o.1.items o.2 (map seen desks.new.items)) }
+    ensures due { MeetsOrLacks (opening_event asked.client asked.agent asked.size asked.producers) core.old.history core.new.history (map_ok (λ o. Outcome.Opened o.0) result) }
+    ensures opened { IfOk result (λ o. IsOpened (map seen desks.old.items) asked.size asked.producers front o.0 o.1.items o.2 (map seen desks.new.items)) }
     ensures refused { IfErr result (λ _. map seen desks.new.items ≡ map seen desks.old.items) }
     ensures apart { AreApart (map seen desks.new.items) }
 {
+    let Asked {
+        client,
+        agent,
+        size,
+        producers,
+    } = asked;
     let judged = judged_size(size, producers);
     match may_open(core, desks.as_slice(), client, agent, judged) {
         Err(why) => Err(why),
-        Ok(next) => match make_room(alloc, desks, next, judged, producers) {
+        Ok(next) => match make_room(alloc, desks, next, judged, producers, front) {
             Err(_) => Err(Refusal::OutOfMemory),
             Ok(made) => enter_queue(alloc, core, desks, client, agent, judged, made),
         },

@@ -8,16 +8,20 @@ ghost use Rattle.client_threads.specs.Rings.{AreApart};
 ghost use Rattle.client_threads.specs.Running.{IsEndOf, IsLaneOf};
 ghost use Rattle.client_threads.specs.Lanes.{LaneSeen};
 ghost use Rattle.client_threads.specs.Takes.{lane_at};
-ghost use Rattle.client_threads.specs.Settling.{AreSettled, IsLedTo, IsQueueSettled, IsRingSettled, IsSettlement, IsUnsettledFor, has_all_passes, has_its_passes, passes_of};
+ghost use Rattle.client_threads.specs.Sections.{IsReached};
+ghost use Rattle.client_threads.specs.Settling.{AreSettled, IsEnd, IsLedTo, IsQueueSettled, IsRingSettled, IsSettlement, IsShown, IsUnsettledFor, core_of, has_all_passes, has_its_passes, passes_of};
+ghost use Rattle.client_threads.specs.inner.Turns.{HasSeen};
 ghost use Rattle.client_threads.specs.inner.Rooms.{AreReady, AreRoomy, IsRoomFor, IsSomeOf};
 ghost use Rattle.core_model.specs.History.{beginning};
 ghost use Rattle.core_model.specs.Legal.{IsLegal};
 ghost use Rattle.core_model.specs.Rotation.{LeadTo};
 
+use crate::board::{Board, Front};
 use crate::broker::{Broker, Desk};
 use crate::client_end::ClientEnd;
 use crate::lane::Lane;
 use crate::mismatch::{find_lane, find_mismatch};
+use crate::room::{Held, Room};
 use access_core::AccessCore;
 use aql_packet::{PacketId, QueueId};
 use core_model::{Part, lead_to};
@@ -80,9 +84,9 @@ impl SettleAllFault {
 
 /// A broker that was not settled, with all that was handed in.
 #[derive(Drop)]
-pub struct UnsettledBroker {
+pub struct UnsettledBroker<B: Room> {
     pub fault: SettleAllFault,
-    pub broker: Broker,
+    pub broker: Broker<B>,
     pub ends: Vec<ClientEnd>,
     pub lanes: Vec<Lane>,
 }
@@ -327,19 +331,22 @@ fn get_rooms(
 }
 
 // A broker that isn't settled, with its core under its lock again.
-fn unsettled(
+fn unsettled<B: Room>(
     fault: SettleAllFault,
-    core: AccessCore,
+    held: Held<B>,
+    board: Board,
     desks: Vec<Desk>,
     ends: Vec<ClientEnd>,
     lanes: Vec<Lane>,
-) -> UnsettledBroker
-    requires { AreApart (map seen desks.items) }
+) -> UnsettledBroker<B>
+    requires apart { AreApart (map seen desks.items) }
+    requires board { board ≡ B.board }
     ensures fault { result.fault ≡ fault }
     ensures back { (result.broker ≡ map seen desks.items) × (result.ends.items ≡ ends.items) × (result.lanes.items ≡ lanes.items) }
 {
     let broker = Broker {
-        core: Mutex::new(core),
+        held: Mutex::new(held),
+        board,
         desks,
     };
     UnsettledBroker {
@@ -347,6 +354,62 @@ fn unsettled(
         broker,
         ends,
         lanes,
+    }
+}
+
+impl<B: Room> Held<B> {
+    // The core, which was reached from the one that was opened.
+    fn core(&self) -> &AccessCore
+        ensures core { result.now ≡ self.now.core }
+        ensures reached { IsReached B.opened self.now.core }
+    {
+        &self.core
+    }
+
+    // The core alone.
+    fn into_core(self) -> AccessCore
+        ensures { result ≡ self.core }
+    {
+        let Held {
+            core,
+            keeper: _,
+            room: _,
+        } = self;
+        core
+    }
+
+    // What a lane served stands among what the core took, in order.
+    fn show(&mut self, board: &Board, lane: &mut Lane)
+        requires { (board.now ≡ B.board) × HasSeen B.board lane.old }
+        ensures same { (self.new ≡ self.old) × (lane.new ≡ lane.old) }
+        ensures shown { IsShown B.opened self.old.left lane.old }
+    {
+        let front = lane.copy_front(board);
+        board.check(&mut self.keeper, front);
+    }
+
+    // So it does of all lanes.
+    fn show_all(&mut self, board: &Board, lanes: &mut Vec<Lane>)
+        requires board { board.now ≡ B.board }
+        requires seen { All (HasSeen B.board) lanes.old.items }
+        ensures same { (self.new ≡ self.old) × (lanes.new.items ≡ lanes.old.items) }
+        ensures shown { All (IsShown B.opened self.old.left) lanes.old.items }
+    {
+        for place in 0..lanes.len() {
+            self.show(board, &mut lanes[place]);
+        }
+    }
+
+    // What a front has seen stands before, and so does of all lanes what they served.
+    fn end(&mut self, board: &Board, front: &mut Front, lanes: &mut Vec<Lane>)
+        requires board { (board.now ≡ B.board) × (front.old.board ≡ B.board) }
+        requires seen { All (HasSeen B.board) lanes.old.items }
+        ensures same { (self.new ≡ self.old) × (front.new ≡ front.old) × (lanes.new.items ≡ lanes.old.items) }
+        ensures end { IsEnd B.opened front.old.left lanes.old.items self.old.core }
+    {
+        let seen = board.copy(front);
+        board.check(&mut self.keeper, seen);
+        self.show_all(board, lanes);
     }
 }
 
@@ -364,7 +427,8 @@ fn settle_in_rooms(
     requires ready { AreReady ends.items lanes.items (map seen desks.items) rooms.0.items ends.items lanes.items }
     requires none { rooms.1.items ≡ [] }
     requires room { length desks.items ≤ vec_capacity rooms.1 }
-    ensures { IsSettlement (map seen desks.items) parts.now ends.items lanes.items result }
+    ensures settled { IsSettlement (map seen desks.items) parts.now ends.items lanes.items result }
+    ensures core { core_of result ≡ core }
 {
     if let Some((queue, id)) = find_mismatch(parts, core.audit(), lanes.as_slice()) {
         return Settlement::Mismatch { core, queue, id };
@@ -374,44 +438,77 @@ fn settle_in_rooms(
     Settlement::Settled { core, rings }
 }
 
+// Settles a broker just so, whose lanes are shown to have seen its core.
+fn settle_shown<B: Room>(
+    held: Held<B>,
+    board: &Board,
+    front: &mut Front,
+    parts: &[Part],
+    desks: Vec<Desk>,
+    rooms: (Vec<QueueRoom>, Vec<SettledQueue>),
+    ends: Vec<ClientEnd>,
+    lanes: Vec<Lane>,
+) -> Settlement
+    requires led { IsLedTo parts.now held.core }
+    requires board { (board.now ≡ B.board) × (front.old.board ≡ B.board) }
+    requires seen { All (HasSeen B.board) lanes.items }
+    requires apart { AreApart (map seen desks.items) }
+    requires ready { AreReady ends.items lanes.items (map seen desks.items) rooms.0.items ends.items lanes.items }
+    requires none { rooms.1.items ≡ [] }
+    requires room { length desks.items ≤ vec_capacity rooms.1 }
+    ensures front { front.new ≡ front.old }
+    ensures end { IsEnd B.opened front.old.left lanes.items (core_of result) }
+    ensures settled { IsSettlement (map seen desks.items) parts.now ends.items lanes.items result }
+{
+    let mut held = held;
+    let mut lanes = lanes;
+    held.end(board, front, &mut lanes);
+    settle_in_rooms(held.into_core(), parts, desks, rooms, ends, lanes)
+}
+
 /// Settles a broker once its threads have ended, all its ends and lanes have come back, and with all parts that
-/// were handed out of its core, in order. Where these parts and the audit have of each queue just the packets
-/// that its lane served, ids and bytes, in order, each ring is settled: they are the packets that were published
-/// under the ids below its read index, and every other published packet stands whole in its slot. Else it names
-/// the least queue and the least id at which they differ. Refused in this order: a pass is missing; the first
-/// part doesn't begin with nothing before it, a later one doesn't begin where the one before it ends, or the
-/// audit doesn't begin where the last ends (without parts: the audit has entries before it); memory isn't to be
-/// had. All then comes back as it was.
+/// were handed out of its core, in order. The core is the one that the broker was opened with, as the last section
+/// left it: what the front has seen stands before, and what each lane served stands, in order, among all that it took. Where these parts and the audit have
+/// of each queue just the packets that its lane served, ids and bytes, in order, each ring is settled: they are the
+/// packets that were published under the ids below its read index, and every other published packet stands whole in
+/// its slot. Else it names the least queue and the least id at which they differ. Refused in this order: a pass is
+/// missing; the first part doesn't begin with nothing before it, a later one doesn't begin where the one before it
+/// ends, or the audit doesn't begin where the last ends (without parts: the audit has entries before it); memory
+/// isn't to be had. All then comes back as it was.
 #[tactic(auto, using(crate::proofs::Readiness::all_ready))]
-pub fn settle_all(
+pub fn settle_all<B: Room>(
     alloc: Global,
-    broker: Broker,
+    broker: Broker<B>,
+    front: &mut Front,
     parts: &[Part],
     ends: Vec<ClientEnd>,
     lanes: Vec<Lane>,
-) -> Result<Settlement, UnsettledBroker>
+) -> Result<Settlement, UnsettledBroker<B>>
+    requires front { front.old.board ≡ B.board }
     requires ends { All (λ end. IsEndOf broker end) ends.items }
-    requires lanes { All (λ lane. IsLaneOf broker lane) lanes.items }
+    requires lanes { All (λ lane. IsLaneOf B.board broker lane) lanes.items }
+    ensures front { front.new ≡ front.old }
+    ensures end { IfOk result (λ settlement. IsEnd B.opened front.old.left lanes.items (core_of settlement)) }
     ensures settled { IfOk result (IsSettlement broker parts.now ends.items lanes.items) }
     ensures all { IfOk result (λ _. has_all_passes broker ends.items lanes.items ≡ true) }
-    ensures fault { IfErr result (λ u. IsUnsettledFor broker parts.now ends.items lanes.items u.fault) }
+    ensures fault { IfErr result (λ u. IsUnsettledFor B.opened broker parts.now ends.items lanes.items u.fault) }
     ensures back { IfErr result (λ u. (u.broker ≡ broker) × (u.ends.items ≡ ends.items) × (u.lanes.items ≡ lanes.items)) }
 {
-    let Broker { core, desks } = broker;
-    let core = core.into_inner();
+    let Broker { held, board, desks } = broker;
+    let held = held.into_inner();
     if !has_all_passes(desks.as_slice(), ends.as_slice(), lanes.as_slice()) {
         let why = SettleAllFault::MissingPass;
-        return Err(unsettled(why, core, desks, ends, lanes));
+        return Err(unsettled(why, held, board, desks, ends, lanes));
     }
-    if !leads(parts, &core) {
+    if !leads(parts, held.core()) {
         let why = SettleAllFault::NotNext;
-        return Err(unsettled(why, core, desks, ends, lanes));
+        return Err(unsettled(why, held, board, desks, ends, lanes));
     }
     match get_rooms(alloc, desks.as_slice(), ends.as_slice()) {
         Err(_) => {
             let why = SettleAllFault::OutOfMemory;
-            Err(unsettled(why, core, desks, ends, lanes))
+            Err(unsettled(why, held, board, desks, ends, lanes))
         }
-        Ok(rooms) => Ok(settle_in_rooms(core, parts, desks, rooms, ends, lanes)),
+        Ok(rooms) => Ok(settle_shown(held, &board, front, parts, desks, rooms, ends, lanes)),
     }
 }

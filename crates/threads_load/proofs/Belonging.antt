@@ -4,8 +4,10 @@ use lib.ListN.{take}
 use Rattle.std.proofs.Math.Seq.{take-append_seam}
 use Rattle.std.specs.Prelude.{All, cond, ◌<◌, length, slice_index_or}
 use Rattle.std.proofs.lemmas.List.Elements.{All-append, All-push}
+use Rattle.atomic_table.specs.Seated.{TableId}
 use Rattle.aql_packet.specs.declared.ids.QueueId.{QueueId}
 use Rattle.client_threads.specs.declared.client_end.ClientEnd.{ClientEnd}
+use Rattle.client_threads.specs.Boards.{PassSeen}
 use Rattle.client_threads.specs.Lanes.{LaneSeen}
 use Rattle.client_threads.specs.Opening.{IsOpened}
 use Rattle.client_threads.specs.Rings.{QueueRing}
@@ -13,21 +15,22 @@ use Rattle.client_threads.specs.Running.{IsEndOf, IsLaneOf}
 use Rattle.client_threads.proofs.Belonging.{ends_are_of, kept, lane_is_of}
 use Rattle.threads_load.specs.Stages.{EachStaysOf}
 
-pub new_ends : (old new : List QueueRing) (size producers : ℕ) (queue : QueueId) (ends : List ClientEnd) (lane : LaneSeen)
-    → IsOpened old size producers queue ends lane new → All (λ end. IsEndOf new end) ends
-new_ends old new size producers queue ends lane h = ends_are_of old new size producers queue ends lane h
+pub new_ends : (old new : List QueueRing) (size producers : ℕ) (front : PassSeen) (queue : QueueId) (ends : List ClientEnd) (lane : LaneSeen)
+    → IsOpened old size producers front queue ends lane new → All (λ end. IsEndOf new end) ends
+new_ends old new size producers front queue ends lane h = ends_are_of old new size producers front queue ends lane h
 
-pub new_lane : (old new : List QueueRing) (size producers : ℕ) (queue : QueueId) (ends : List ClientEnd) (lane : LaneSeen)
-    → IsOpened old size producers queue ends lane new → IsLaneOf new lane
-new_lane old new size producers queue ends lane h = lane_is_of old new size producers queue ends lane h
+pub new_lane : (board : TableId) (old new : List QueueRing) (size producers : ℕ) (front : PassSeen) (queue : QueueId) (ends : List ClientEnd) (lane : LaneSeen)
+    → IsOpened old size producers front queue ends lane new → front.board ≡ board → IsLaneOf board new lane
+new_lane board old new size producers front queue ends lane h same = subst (λ (b : TableId). IsLaneOf b new lane) same (lane_is_of old new size producers front queue ends lane h)
 
-pub kept_ends : (old new : List QueueRing) (size producers : ℕ) (queue : QueueId) (ends : List ClientEnd) (lane : LaneSeen) (before : List ClientEnd)
-    → IsOpened old size producers queue ends lane new → All (λ end. IsEndOf old end) before → All (λ end. IsEndOf new end) before
-kept_ends old new size producers queue ends lane before h all k d lt = record { is = kept old new size producers queue ends lane h _ _ (all k d lt).is }
+pub kept_ends : (old new : List QueueRing) (size producers : ℕ) (front : PassSeen) (queue : QueueId) (ends : List ClientEnd) (lane : LaneSeen) (before : List ClientEnd)
+    → IsOpened old size producers front queue ends lane new → All (λ end. IsEndOf old end) before → All (λ end. IsEndOf new end) before
+kept_ends old new size producers front queue ends lane before h all k d lt = record { is = kept old new size producers front queue ends lane h _ _ (all k d lt).is }
 
-pub kept_lanes : (old new : List QueueRing) (size producers : ℕ) (queue : QueueId) (ends : List ClientEnd) (lane : LaneSeen) (before : List LaneSeen)
-    → IsOpened old size producers queue ends lane new → All (λ lane. IsLaneOf old lane) before → All (λ lane. IsLaneOf new lane) before
-kept_lanes old new size producers queue ends lane before h all k d lt = record { is = kept old new size producers queue ends lane h _ _ (all k d lt).is }
+pub kept_lanes : (board : TableId) (old new : List QueueRing) (size producers : ℕ) (front : PassSeen) (queue : QueueId) (ends : List ClientEnd) (lane : LaneSeen) (before : List LaneSeen)
+    → IsOpened old size producers front queue ends lane new → All (λ lane. IsLaneOf board old lane) before → All (λ lane. IsLaneOf board new lane) before
+kept_lanes board old new size producers front queue ends lane before h all k d lt =
+    let one = all k d lt in record { is = kept old new size producers front queue ends lane h _ _ one.is; board_is = one.board_is; stands = one.stands }
 
 -- ends behind others, or the others alone, where there was no memory
 pub more_ends : (rings : List QueueRing) (made : Bool) (others more ends : List ClientEnd) → All (λ end. IsEndOf rings end) others → All (λ end. IsEndOf rings end) more
@@ -36,10 +39,10 @@ more_ends rings true others more ends h k is = subst (λ xs. All (λ end. IsEndO
 more_ends rings false others more ends h k is = subst (λ xs. All (λ end. IsEndOf rings end) xs) (sym is) h
 
 -- a lane behind others, or these alone
-pub one_lane_more : (rings : List QueueRing) (made : Bool) (others lanes : List LaneSeen) (lane : LaneSeen) → All (λ l. IsLaneOf rings l) others → IsLaneOf rings lane
-    → lanes ≡ cond made (others ++ lane ∷ []) others → All (λ l. IsLaneOf rings l) lanes
-one_lane_more rings true others lanes lane h k is = subst (λ xs. All (λ l. IsLaneOf rings l) xs) (sym is) (All-push (λ l. IsLaneOf rings l) others lane h k)
-one_lane_more rings false others lanes lane h k is = subst (λ xs. All (λ l. IsLaneOf rings l) xs) (sym is) h
+pub one_lane_more : (board : TableId) (rings : List QueueRing) (made : Bool) (others lanes : List LaneSeen) (lane : LaneSeen) → All (λ l. IsLaneOf board rings l) others → IsLaneOf board rings lane
+    → lanes ≡ cond made (others ++ lane ∷ []) others → All (λ l. IsLaneOf board rings l) lanes
+one_lane_more board rings true others lanes lane h k is = subst (λ xs. All (λ l. IsLaneOf board rings l) xs) (sym is) (All-push (λ l. IsLaneOf board rings l) others lane h k)
+one_lane_more board rings false others lanes lane h k is = subst (λ xs. All (λ l. IsLaneOf board rings l) xs) (sym is) h
 
 -- the end at a place is, and ends are where each at its place is
 pub end_at : (rings : List QueueRing) (ends : List ClientEnd) (i : ℕ) (end : ClientEnd) → All (λ e. IsEndOf rings e) ends → i < length ends → end ≡ slice_index_or ends i end → IsEndOf rings end

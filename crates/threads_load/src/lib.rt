@@ -19,7 +19,7 @@ pub use counting::{PacketCounts, count_all, count_packets};
 pub use fault::LoadFault;
 pub use gate::LoadGate;
 pub use granting::grant_all;
-pub use load::{Load, LoadLimits, open_broker, run_load, run_load_within};
+pub use load::{Load, LoadLimits, name_broker, open_broker, run_load, run_load_within};
 pub use opening::{Stage, open_stage};
 pub use plan::{PlannedQueue, plan_load};
 pub use producing::{Share, addition, produce};

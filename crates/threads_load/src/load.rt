@@ -1,7 +1,11 @@
 //! The load, from a policy to its report.
 
-ghost use Rattle.std.specs.Prelude.{◌≡◌, IfOk, Ok};
-ghost use Rattle.threads_load.specs.Loads.{EndsLoad, IsAgreed, IsSomeLegalPart, IsSomeSettlement, TellsLoad, TellsPlan};
+ghost use Rattle.std.specs.Prelude.{◌≡◌, [], ◌∷◌, IfOk, Ok, map};
+ghost use Rattle.core_model.specs.Legal.{IsLegalPart, IsOpening};
+ghost use Rattle.access_core.specs.Cores.{Core};
+ghost use Rattle.access_core.specs.Opening.{program_of};
+ghost use Rattle.client_threads.specs.Settling.{IsEnd, IsSettlement, core_of};
+ghost use Rattle.threads_load.specs.Loads.{EndsBy, EndsLoad, IsAgreed, TellsLoad, TellsPlan};
 ghost use Rattle.threads_load.specs.Stages.{IsStage};
 
 use crate::fault::LoadFault;
@@ -13,16 +17,19 @@ use crate::producing::{MOST_TRIES, PACKETS, Share};
 use crate::report::{Ending, report_load};
 use crate::running::run_rotated;
 use access_core::{AccessCore, Kernel};
-use client_threads::{Broker, SettleAllFault, Settlement, UnsettledBroker, settle_all};
+use client_threads::{
+    Broker, Front, Room, SettleAllFault, Settlement, UnnamedBroker, UnsettledBroker, settle_all,
+};
 use core_model::{Part, Refusal};
 use policy::Policy;
 use std::alloc::Global;
+use std::marker::Brand;
 use std::slice;
 use std::sync::Wait;
 use std::thread::Threads;
 
 /// How many entries the audit of the load has place for.
-const PLACES: usize = 131_072;
+pub const PLACES: usize = 131_072;
 
 /// How far a load goes at the most.
 #[derive(Clone, Copy)]
@@ -60,11 +67,10 @@ fn ending_by(gate: &LoadGate) -> Ending
 }
 
 // How a load ended, by what its broker came to.
-#[tactic(auto, using(crate::proofs::Endings::settled_ends, crate::proofs::Endings::mismatch_ends))]
 fn ended_by(settlement: Settlement, part: Part, gate: &LoadGate) -> Ended
-    requires settlement { IsSomeSettlement part settlement }
-    requires part { IsSomeLegalPart part }
-    ensures { EndsLoad result }
+    ensures core { result.core ≡ core_of settlement }
+    ensures part { result.part ≡ part }
+    ensures ends { EndsBy settlement result.ending }
 {
     match settlement {
         Settlement::Settled { core, .. } => Ended {
@@ -81,7 +87,7 @@ fn ended_by(settlement: Settlement, part: Part, gate: &LoadGate) -> Ended
 }
 
 // Why a broker was not settled.
-fn fault_of(back: UnsettledBroker) -> LoadFault {
+fn fault_of<B: Room>(back: UnsettledBroker<B>) -> LoadFault {
     match back.fault {
         SettleAllFault::OutOfMemory => LoadFault::OutOfMemory,
         SettleAllFault::MissingPass => LoadFault::MissingPass,
@@ -90,23 +96,42 @@ fn fault_of(back: UnsettledBroker) -> LoadFault {
 }
 
 // Settles a broker whose threads have ended, and of whose audit a part was handed out.
-fn settle(alloc: Global, stage: Stage, part: &Part) -> Result<Settlement, UnsettledBroker>
-    requires { IsStage stage }
-    ensures { IfOk result (IsSomeSettlement part.now) }
+fn settle<B: Room>(
+    alloc: Global,
+    stage: Stage<B>,
+    part: &Part,
+) -> Result<Settlement, UnsettledBroker<B>>
+    requires { IsStage B.board stage }
+    ensures settled { IfOk result (IsSettlement stage.broker (part.now ∷ []) stage.ends.items stage.lanes.items) }
+    ensures end { IfOk result (λ settlement. IsEnd B.opened stage.front.left stage.lanes.items (core_of settlement)) }
 {
     let Stage {
         broker,
+        front,
         ends,
         lanes,
     } = stage;
-    settle_all(alloc, broker, slice::from_ref(part), ends, lanes)
+    let mut front = front;
+    settle_all(
+        alloc,
+        broker,
+        &mut front,
+        slice::from_ref(part),
+        ends,
+        lanes,
+    )
 }
 
 // Settles it, and tells how the load ended.
-fn finish(alloc: Global, stage: Stage, part: Part, gate: &LoadGate) -> Result<Ended, LoadFault>
-    requires stage { IsStage stage }
-    requires part { IsSomeLegalPart part }
-    ensures { IfOk result EndsLoad }
+fn finish<B: Room>(
+    alloc: Global,
+    stage: Stage<B>,
+    part: Part,
+    gate: &LoadGate,
+) -> Result<Ended, LoadFault>
+    requires stage { IsStage B.board stage }
+    requires part { IsLegalPart B.opened.history.kernels part }
+    ensures { IfOk result (EndsLoad B.opened) }
 {
     match settle(alloc, stage, &part) {
         Ok(settlement) => Ok(ended_by(settlement, part, gate)),
@@ -114,31 +139,45 @@ fn finish(alloc: Global, stage: Stage, part: Part, gate: &LoadGate) -> Result<En
     }
 }
 
-/// Opens a broker over a policy and its kernels, with places for so many entries in its audit, and grants all that the policy allows.
-pub fn open_broker<R: Wait>(
-    rt: &R,
+/// Opens a broker over a policy and its kernels, with places for so many entries in its audit. It has no name yet.
+pub fn open_broker(
     alloc: Global,
     policy: Policy,
     kernels: Vec<Kernel>,
     places: usize,
-) -> Result<Broker, LoadFault> {
-    let broker = Broker::open(alloc, policy, kernels, places)?;
-    match broker.with_core(rt, |core| grant_all(core)) {
-        Ok(()) => Ok(broker),
+) -> Result<UnnamedBroker, LoadFault>
+    ensures { IfOk result (λ broker. IsOpening broker.core.history policy (map program_of kernels.items) places) }
+{
+    match UnnamedBroker::open(alloc, policy, kernels, places) {
+        Ok(broker) => Ok(broker),
+        Err(fault) => Err(LoadFault::from(fault)),
+    }
+}
+
+/// Gives a broker its name, and grants all that its policy allows. The front has seen that.
+#[tactic(auto, using(client_threads::proofs::Sections::appends_follow))]
+pub fn name_broker<B: Room>(unnamed: UnnamedBroker) -> Result<(Broker<B>, Front), LoadFault>
+    requires { (unnamed.board ≡ B.board) × (unnamed.core ≡ B.opened) }
+    ensures rings { IfOk result (λ named. named.0 ≡ []) }
+    ensures front { IfOk result (λ named. named.1.board ≡ B.board) }
+{
+    let (mut broker, mut front) = unnamed.named::<B>();
+    match broker.with_core_alone(&mut front, |core| grant_all(core)) {
+        Ok(()) => Ok((broker, front)),
         Err(why) => Err(LoadFault::from(why)),
     }
 }
 
 // Settles it, if a part was handed out.
-fn finish_rotated(
+fn finish_rotated<B: Room>(
     alloc: Global,
-    stage: Stage,
+    stage: Stage<B>,
     rotated: Result<Part, Refusal>,
     gate: &LoadGate,
 ) -> Result<Ended, LoadFault>
-    requires stage { IsStage stage }
-    requires part { IfOk rotated IsSomeLegalPart }
-    ensures { IfOk result EndsLoad }
+    requires stage { IsStage B.board stage }
+    requires part { IfOk rotated (IsLegalPart B.opened.history.kernels) }
+    ensures { IfOk result (EndsLoad B.opened) }
 {
     match rotated {
         Ok(part) => finish(alloc, stage, part, gate),
@@ -146,25 +185,38 @@ fn finish_rotated(
     }
 }
 
-// Runs the load of a plan over a broker.
-fn run_over<R: Threads + Wait + Sync>(
+// Runs the load of a plan over a broker, whose queues were opened for it.
+fn run_over<B: Room + Send + Sync, R: Threads + Wait + Sync>(
     rt: &R,
     alloc: Global,
-    broker: Broker,
+    stage: Stage<B>,
+    plan: &[PlannedQueue],
+    share: Share,
+    gate: &LoadGate,
+) -> Result<Ended, LoadFault>
+    requires { IsStage B.board stage }
+    ensures { IfOk result (EndsLoad B.opened) }
+{
+    let (stage, rotated) = run_rotated(rt, alloc, stage, plan, share, gate);
+    finish_rotated(alloc, stage, rotated, gate)
+}
+
+// Names a broker, opens the queues of a plan, and runs its load.
+fn run_named<B: Room + Send + Sync, R: Threads + Wait + Sync>(
+    rt: &R,
+    alloc: Global,
+    unnamed: UnnamedBroker,
     plan: &[PlannedQueue],
     share: Share,
     gate: &LoadGate,
     producers: u64,
 ) -> Result<Ended, LoadFault>
-    ensures { IfOk result EndsLoad }
+    requires { (unnamed.board ≡ B.board) × (unnamed.core ≡ B.opened) }
+    ensures { IfOk result (EndsLoad unnamed.core) }
 {
-    match open_stage(alloc, broker, plan, producers) {
-        Ok(stage) => {
-            let (stage, rotated) = run_rotated(rt, alloc, stage, plan, share, gate);
-            finish_rotated(alloc, stage, rotated, gate)
-        }
-        Err(why) => Err(why),
-    }
+    let (broker, front) = name_broker::<B>(unnamed)?;
+    let stage = open_stage(alloc, broker, front, plan, producers)?;
+    run_over(rt, alloc, stage, plan, share, gate)
 }
 
 // A load with its report, if there is one.
@@ -179,15 +231,14 @@ fn load_of(report: Result<String, Refusal>, ending: Ending) -> Result<Load, Load
 
 // The report of a load that ended.
 fn tell(alloc: Global, ended: Ended, plan: &[PlannedQueue]) -> Result<Load, LoadFault>
-    requires { EndsLoad ended }
-    ensures { IfOk result (TellsPlan plan.now) }
+    ensures { (opened : Core) → EndsLoad opened ended → IfOk result (TellsPlan opened plan.now) }
 {
     let handed_out = ended.part.entries();
     let report = report_load(alloc, handed_out, &ended.core, plan, ended.ending);
     load_of(report, ended.ending)
 }
 
-// Runs the load of a plan over a policy.
+// Runs the load of a plan over a policy: the broker gets its name here.
 fn run_plan<R: Threads + Wait + Sync>(
     rt: &R,
     alloc: Global,
@@ -197,7 +248,7 @@ fn run_plan<R: Threads + Wait + Sync>(
     producers: u64,
     limits: LoadLimits,
 ) -> Result<Ended, LoadFault>
-    ensures { IfOk result EndsLoad }
+    ensures { IfOk result (λ ended. (opened : Core) × IsOpening opened.history policy (map program_of kernels.items) PLACES × EndsLoad opened ended) }
 {
     let wanted = PACKETS.saturating_mul(producers);
     let gate = LoadGate::with_turns(alloc, plan.len(), wanted, limits.turns)?;
@@ -205,8 +256,8 @@ fn run_plan<R: Threads + Wait + Sync>(
         packets: PACKETS,
         tries: limits.tries,
     };
-    match open_broker(rt, alloc, policy, kernels, PLACES) {
-        Ok(broker) => run_over(rt, alloc, broker, plan, share, &gate, producers),
+    match open_broker(alloc, policy, kernels, PLACES) {
+        Ok(unnamed) => run_named::<Brand, R>(rt, alloc, unnamed, plan, share, &gate, producers),
         Err(why) => Err(why),
     }
 }
@@ -221,7 +272,7 @@ pub fn run_load<R: Threads + Wait + Sync>(
     kernels: Vec<Kernel>,
     producers: u64,
 ) -> Result<Load, LoadFault>
-    ensures { IfOk result (TellsLoad policy) }
+    ensures { IfOk result (TellsLoad policy kernels.items) }
 {
     let limits = LoadLimits {
         turns: MOST_TURNS,
@@ -239,7 +290,7 @@ pub fn run_load_within<R: Threads + Wait + Sync>(
     producers: u64,
     limits: LoadLimits,
 ) -> Result<Load, LoadFault>
-    ensures { IfOk result (TellsLoad policy) }
+    ensures { IfOk result (TellsLoad policy kernels.items) }
 {
     let plan = plan_load(alloc, &policy)?;
     let ended = run_plan(

@@ -1,39 +1,50 @@
 //! The queues of a plan are opened.
 
 ghost use Rattle.std.specs.Prelude.{◌≡◌, All, IfErr, IfOk};
-ghost use Rattle.client_threads.specs.Opening.{IsOpened};
+ghost use Rattle.client_threads.specs.Opening.{IsOpened, opening_event};
 ghost use Rattle.client_threads.specs.Running.{IsEndOf, IsLaneOf};
+ghost use Rattle.client_threads.specs.Sections.{IsSection};
+ghost use Rattle.core_model.specs.declared.outcome.Outcome.{Outcome};
+ghost use Rattle.core_model.specs.Legal.{MeetsOrLacks};
+ghost use Rattle.policy.specs.Results.{map_ok};
 ghost use Rattle.threads_load.specs.Stages.{IsStage};
 
 use crate::fault::LoadFault;
 use crate::plan::PlannedQueue;
-use client_threads::{Broker, ClientEnd, Lane, Opened};
+use client_threads::{Broker, ClientEnd, Front, Lane, Opened, Room};
 use core_model::Refusal;
 use std::alloc::{AllocError, Global};
 
 /// How many slots a queue of the load has.
 const MOST_IN_FLIGHT: u64 = 16;
 
-/// A broker, with the ends and the lanes of its queues.
+/// A broker, what was seen of its core, and the ends and the lanes of its queues.
 #[derive(Drop)]
-pub struct Stage {
-    pub broker: Broker,
+pub struct Stage<B: Room> {
+    pub broker: Broker<B>,
+    pub front: Front,
     pub ends: Vec<ClientEnd>,
     pub lanes: Vec<Lane>,
 }
 
-// Opens a planned queue for so many producers. Its clause is what the load needs of the call's.
-fn open_queue(
+// Opens a planned queue for so many producers: the client's, on the agent, as the plan says.
+fn open_queue<B: Room>(
     alloc: Global,
-    broker: &mut Broker,
+    broker: &mut Broker<B>,
+    front: &mut Front,
     planned: PlannedQueue,
     producers: u64,
 ) -> Result<Opened, Refusal>
-    ensures opened { IfOk result (λ o. IsOpened broker.old MOST_IN_FLIGHT producers o.0 o.1.items o.2 broker.new) }
+    requires front { front.old.board ≡ B.board }
+    ensures front { front.new.board ≡ B.board }
+    ensures section { IsSection B.opened front.old.left front.new.left (λ before after.
+        MeetsOrLacks (opening_event planned.client planned.agent MOST_IN_FLIGHT producers) before.history after.history (map_ok (λ o. Outcome.Opened o.0) result)) }
+    ensures opened { IfOk result (λ o. IsOpened broker.old MOST_IN_FLIGHT producers front.new o.0 o.1.items o.2 broker.new) }
     ensures refused { IfErr result (λ _. broker.new ≡ broker.old) }
 {
     broker.open_queue(
         alloc,
+        front,
         planned.client,
         planned.agent,
         MOST_IN_FLIGHT,
@@ -42,8 +53,8 @@ fn open_queue(
 }
 
 // Puts ends of a broker behind others.
-fn put_ends(
-    broker: &Broker,
+fn put_ends<B: Room>(
+    broker: &Broker<B>,
     more: Vec<ClientEnd>,
     ends: &mut Vec<ClientEnd>,
 ) -> Result<(), AllocError>
@@ -57,10 +68,14 @@ fn put_ends(
 
 // Puts a lane of a broker behind others.
 #[tactic(auto, using(crate::proofs::Belonging::one_lane_more))]
-fn put_lane(broker: &Broker, lane: Lane, lanes: &mut Vec<Lane>) -> Result<(), AllocError>
-    requires lane { IsLaneOf broker.now lane }
-    requires lanes { All (λ lane. IsLaneOf broker.now lane) lanes.old.items }
-    ensures { All (λ lane. IsLaneOf broker.now lane) lanes.new.items }
+fn put_lane<B: Room>(
+    broker: &Broker<B>,
+    lane: Lane,
+    lanes: &mut Vec<Lane>,
+) -> Result<(), AllocError>
+    requires lane { IsLaneOf B.board broker.now lane }
+    requires lanes { All (λ lane. IsLaneOf B.board broker.now lane) lanes.old.items }
+    ensures { All (λ lane. IsLaneOf B.board broker.now lane) lanes.new.items }
 {
     match lanes.push(lane) {
         Ok(()) => Ok(()),
@@ -69,18 +84,18 @@ fn put_lane(broker: &Broker, lane: Lane, lanes: &mut Vec<Lane>) -> Result<(), Al
 }
 
 // Puts the ends and the lane of a queue that was opened behind the others.
-fn put_queue(
-    broker: &Broker,
+fn put_queue<B: Room>(
+    broker: &Broker<B>,
     opened: Opened,
     ends: &mut Vec<ClientEnd>,
     lanes: &mut Vec<Lane>,
 ) -> Result<(), AllocError>
     requires more { All (λ end. IsEndOf broker.now end) opened.1.items }
-    requires lane { IsLaneOf broker.now opened.2 }
+    requires lane { IsLaneOf B.board broker.now opened.2 }
     requires ends { All (λ end. IsEndOf broker.now end) ends.old.items }
-    requires lanes { All (λ lane. IsLaneOf broker.now lane) lanes.old.items }
+    requires lanes { All (λ lane. IsLaneOf B.board broker.now lane) lanes.old.items }
     ensures ends { All (λ end. IsEndOf broker.now end) ends.new.items }
-    ensures lanes { All (λ lane. IsLaneOf broker.now lane) lanes.new.items }
+    ensures lanes { All (λ lane. IsLaneOf B.board broker.now lane) lanes.new.items }
 {
     let (_, more, lane) = opened;
     put_ends(broker, more, ends)?;
@@ -89,20 +104,23 @@ fn put_queue(
 
 // Opens a planned queue, and puts its ends and its lane behind the others.
 #[tactic(auto, using(crate::proofs::Belonging::new_ends, crate::proofs::Belonging::new_lane, crate::proofs::Belonging::kept_ends, crate::proofs::Belonging::kept_lanes))]
-fn open_next(
+fn open_next<B: Room>(
     alloc: Global,
-    broker: &mut Broker,
+    broker: &mut Broker<B>,
+    front: &mut Front,
     planned: PlannedQueue,
     producers: u64,
     ends: &mut Vec<ClientEnd>,
     lanes: &mut Vec<Lane>,
 ) -> Result<(), LoadFault>
+    requires front { front.old.board ≡ B.board }
     requires ends { All (λ end. IsEndOf broker.old end) ends.old.items }
-    requires lanes { All (λ lane. IsLaneOf broker.old lane) lanes.old.items }
+    requires lanes { All (λ lane. IsLaneOf B.board broker.old lane) lanes.old.items }
+    ensures front { front.new.board ≡ B.board }
     ensures ends { All (λ end. IsEndOf broker.new end) ends.new.items }
-    ensures lanes { All (λ lane. IsLaneOf broker.new lane) lanes.new.items }
+    ensures lanes { All (λ lane. IsLaneOf B.board broker.new lane) lanes.new.items }
 {
-    match open_queue(alloc, broker, planned, producers) {
+    match open_queue(alloc, broker, front, planned, producers) {
         Err(why) => Err(LoadFault::from(why)),
         Ok(opened) => match put_queue(broker, opened, ends, lanes) {
             Err(want) => Err(LoadFault::from(want)),
@@ -112,40 +130,55 @@ fn open_next(
 }
 
 // Opens the queues of a plan.
-fn open_queues(
+fn open_queues<B: Room>(
     alloc: Global,
-    broker: &mut Broker,
+    broker: &mut Broker<B>,
+    front: &mut Front,
     plan: &[PlannedQueue],
     producers: u64,
     ends: &mut Vec<ClientEnd>,
     lanes: &mut Vec<Lane>,
 ) -> Result<(), LoadFault>
+    requires front { front.old.board ≡ B.board }
     requires ends { All (λ end. IsEndOf broker.old end) ends.old.items }
-    requires lanes { All (λ lane. IsLaneOf broker.old lane) lanes.old.items }
+    requires lanes { All (λ lane. IsLaneOf B.board broker.old lane) lanes.old.items }
+    ensures front { front.new.board ≡ B.board }
     ensures ends { All (λ end. IsEndOf broker.new end) ends.new.items }
-    ensures lanes { All (λ lane. IsLaneOf broker.new lane) lanes.new.items }
+    ensures lanes { All (λ lane. IsLaneOf B.board broker.new lane) lanes.new.items }
 {
     for planned in plan {
-        open_next(alloc, broker, *planned, producers, ends, lanes)?;
+        open_next(alloc, broker, front, *planned, producers, ends, lanes)?;
     }
     Ok(())
 }
 
-/// Opens the queues of a plan over a broker, each for so many producers.
-pub fn open_stage(
+/// Opens the queues of a plan over a broker, of whose core a front has seen some, each for so many producers.
+pub fn open_stage<B: Room>(
     alloc: Global,
-    broker: Broker,
+    broker: Broker<B>,
+    front: Front,
     plan: &[PlannedQueue],
     producers: u64,
-) -> Result<Stage, LoadFault>
-    ensures { IfOk result IsStage }
+) -> Result<Stage<B>, LoadFault>
+    requires { front.board ≡ B.board }
+    ensures { IfOk result (IsStage B.board) }
 {
     let mut broker = broker;
+    let mut front = front;
     let mut ends = Vec::new(alloc);
     let mut lanes = Vec::new(alloc);
-    open_queues(alloc, &mut broker, plan, producers, &mut ends, &mut lanes)?;
+    open_queues(
+        alloc,
+        &mut broker,
+        &mut front,
+        plan,
+        producers,
+        &mut ends,
+        &mut lanes,
+    )?;
     Ok(Stage {
         broker,
+        front,
         ends,
         lanes,
     })

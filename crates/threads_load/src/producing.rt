@@ -13,7 +13,7 @@ use aql_packet::{
     Address, AgentDispatch, Header, Packet, QueueId, REGION_SPAN, RegionHandle, Scope,
     SignalHandle, encode,
 };
-use client_threads::{Broker, ClientEnd};
+use client_threads::{Broker, ClientEnd, Room};
 use core_model::ADD64;
 use ring::{Publication, Ticket};
 use std::thread;
@@ -52,8 +52,8 @@ pub fn addition(region: RegionHandle) -> [u8; 64]
 
 // Publishes a packet under a ticket, trying again while its slot is busy and tries are left. Answers whether it was
 // published.
-fn publish_under(
-    broker: &Broker,
+fn publish_under<B: Room>(
+    broker: &Broker<B>,
     end: &mut ClientEnd,
     ticket: Ticket,
     bytes: &[u8; 64],
@@ -80,7 +80,12 @@ fn publish_under(
 }
 
 // Reserves an id and publishes a packet under it. Answers whether it was published.
-fn publish_one(broker: &Broker, end: &mut ClientEnd, bytes: &[u8; 64], tries_left: &mut u64) -> bool
+fn publish_one<B: Room>(
+    broker: &Broker<B>,
+    end: &mut ClientEnd,
+    bytes: &[u8; 64],
+    tries_left: &mut u64,
+) -> bool
     requires { IsEndOf broker.now end.old }
     ensures { IsEndOf broker.now end.new }
 {
@@ -91,7 +96,7 @@ fn publish_one(broker: &Broker, end: &mut ClientEnd, bytes: &[u8; 64], tries_lef
 }
 
 // Publishes a producer's packets, until it gives up.
-fn publish_all(broker: &Broker, end: &mut ClientEnd, bytes: &[u8; 64], share: Share)
+fn publish_all<B: Room>(broker: &Broker<B>, end: &mut ClientEnd, bytes: &[u8; 64], share: Share)
     requires { IsEndOf broker.now end.old }
     ensures { IsEndOf broker.now end.new }
 {
@@ -110,7 +115,12 @@ fn planned_of(plan: &[PlannedQueue], queue: QueueId) -> Option<PlannedQueue> {
 }
 
 /// Publishes a producer's packets on the queue of its end, until it gives up.
-pub fn produce(broker: &Broker, plan: &[PlannedQueue], share: Share, end: &mut ClientEnd)
+pub fn produce<B: Room>(
+    broker: &Broker<B>,
+    plan: &[PlannedQueue],
+    share: Share,
+    end: &mut ClientEnd,
+)
     requires { IsEndOf broker.now end.old }
     ensures { StaysOf broker.now end.old end.new }
 {

@@ -1,13 +1,14 @@
 //! Where a client publishes, the bell of its queue tells the id.
 
-ghost use Rattle.std.specs.Prelude.{IfSome};
+ghost use Rattle.std.specs.Prelude.{◌≡◌, IfSome};
 ghost use Rattle.client_threads.specs.Running.{IsEndOf};
 ghost use Rattle.threads_load.specs.Stages.{IsStage};
 
-use crate::stages::{packet, publish_one, reaches, split_last_end, stage};
-use client_threads::{Broker, ClientEnd};
+use crate::stages::{packet, publish_one, reaches, split_last_end, stage, unnamed};
+use client_threads::{Broker, ClientEnd, Room, UnnamedBroker};
 use doorbell::Doorbell;
 use std::alloc::Global;
+use std::marker::Brand;
 use std::sync::Wait;
 use std::sync::atomic::{AtomicU64, Ordering};
 use std::thread;
@@ -33,7 +34,12 @@ fn hear_all<R: Wait>(rt: &R, bell: &Doorbell, heard: &AtomicU64) -> bool {
 }
 
 // Publishes each packet once the one before was heard.
-fn publish_heard(broker: &Broker, end: &mut ClientEnd, bell: &Doorbell, heard: &AtomicU64)
+fn publish_heard<B: Room>(
+    broker: &Broker<B>,
+    end: &mut ClientEnd,
+    bell: &Doorbell,
+    heard: &AtomicU64,
+)
     requires { IsEndOf broker.now end.old }
     ensures { IsEndOf broker.now end.new }
 {
@@ -46,7 +52,12 @@ fn publish_heard(broker: &Broker, end: &mut ClientEnd, bell: &Doorbell, heard: &
 }
 
 // Whether a bell tells another thread the id of each packet of an end.
-fn tells<R: Threads + Wait + Sync>(rt: &R, broker: &Broker, end: ClientEnd, bell: &Doorbell) -> bool
+fn tells<B: Room + Send + Sync, R: Threads + Wait + Sync>(
+    rt: &R,
+    broker: &Broker<B>,
+    end: ClientEnd,
+    bell: &Doorbell,
+) -> bool
     requires { IsEndOf broker.now end }
 {
     let mut end = end;
@@ -60,7 +71,11 @@ fn tells<R: Threads + Wait + Sync>(rt: &R, broker: &Broker, end: ClientEnd, bell
 }
 
 // Whether the bell of an end's queue does.
-fn own_bell_tells<R: Threads + Wait + Sync>(rt: &R, broker: &Broker, end: ClientEnd) -> bool
+fn own_bell_tells<B: Room + Send + Sync, R: Threads + Wait + Sync>(
+    rt: &R,
+    broker: &Broker<B>,
+    end: ClientEnd,
+) -> bool
     requires { IsEndOf broker.now end }
 {
     match broker.doorbell(end.queue()) {
@@ -70,9 +85,12 @@ fn own_bell_tells<R: Threads + Wait + Sync>(rt: &R, broker: &Broker, end: Client
 }
 
 // Whether the bell of a stage's last queue does. The stage comes back without that queue's end.
-fn last_bell_tells<R: Threads + Wait + Sync>(rt: &R, stage: Stage) -> Option<(Stage, bool)>
-    requires { IsStage stage }
-    ensures { IfSome result (λ told. IsStage told.0) }
+fn last_bell_tells<B: Room + Send + Sync, R: Threads + Wait + Sync>(
+    rt: &R,
+    stage: Stage<B>,
+) -> Option<(Stage<B>, bool)>
+    requires { IsStage B.board stage }
+    ensures { IfSome result (λ told. IsStage B.board told.0) }
 {
     let (stage, end) = split_last_end(stage)?;
     let told = own_bell_tells(rt, &stage.broker, end);
@@ -80,17 +98,31 @@ fn last_bell_tells<R: Threads + Wait + Sync>(rt: &R, stage: Stage) -> Option<(St
 }
 
 // Whether the bells of a stage's two queues do, the second's first.
-fn both_bells_tell<R: Threads + Wait + Sync>(rt: &R, stage: Stage) -> Option<(bool, bool)>
-    requires { IsStage stage }
+fn both_bells_tell<B: Room + Send + Sync, R: Threads + Wait + Sync>(
+    rt: &R,
+    stage: Stage<B>,
+) -> Option<(bool, bool)>
+    requires { IsStage B.board stage }
 {
     let (stage, second) = last_bell_tells(rt, stage)?;
     let (_stage, first) = last_bell_tells(rt, stage)?;
     Some((first, second))
 }
 
+// Whether those of a broker do that gets its name.
+fn named_bells_tell<B: Room + Send + Sync, R: Threads + Wait + Sync>(
+    rt: &R,
+    alloc: Global,
+    unnamed: UnnamedBroker,
+) -> Option<(bool, bool)>
+    requires { (unnamed.board ≡ B.board) × (unnamed.core ≡ B.opened) }
+{
+    both_bells_tell(rt, stage::<B>(alloc, unnamed, 2, 1)?)
+}
+
 // Whether those of a broker do.
 fn bells_tell<R: Threads + Wait + Sync>(rt: &R, alloc: Global) -> Option<(bool, bool)> {
-    both_bells_tell(rt, stage(rt, alloc, 2, 1)?)
+    named_bells_tell::<Brand, R>(rt, alloc, unnamed(alloc)?)
 }
 
 #[test]

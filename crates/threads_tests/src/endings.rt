@@ -2,16 +2,19 @@
 
 ghost use Rattle.std.specs.Prelude.{◌≡◌, IfSome};
 ghost use Rattle.client_threads.specs.Running.{IsEndOf};
+ghost use Rattle.client_threads.specs.Sections.{Follows};
 ghost use Rattle.threads_load.specs.Stages.{IsStage};
 
-use crate::stages::{packet, publish_last, run_with, split_last_end, stage, with_end};
+use crate::stages::{packet, publish_last, run_with, split_last_end, stage, unnamed, with_end};
 use access_core::AccessCore;
 use aql_packet::{AgentHandle, ClientId, PacketId, QueueId, RegionHandle};
 use client_threads::{
-    Broker, ClientEnd, Gate, LaneAnswer, SettleAllFault, SettledQueue, Settlement, settle_all,
+    Broker, ClientEnd, Gate, LaneAnswer, Room, SettleAllFault, SettledQueue, Settlement,
+    UnnamedBroker, settle_all,
 };
 use core_model::Part;
 use std::alloc::Global;
+use std::marker::Brand;
 use std::sync::Wait;
 use std::thread::Threads;
 use threads_load::{PlannedQueue, Share, Stage, produce};
@@ -48,37 +51,41 @@ fn indices(rings: &[SettledQueue]) -> Option<(u64, u64)> {
 }
 
 // The indices of the first queue, if the broker settles.
-fn settled_indices(alloc: Global, stage: Stage) -> Option<(u64, u64)>
-    requires { IsStage stage }
+fn settled_indices<B: Room>(alloc: Global, stage: Stage<B>) -> Option<(u64, u64)>
+    requires { IsStage B.board stage }
 {
     let Stage {
         broker,
+        front,
         ends,
         lanes,
     } = stage;
-    match settle_all(alloc, broker, &[], ends, lanes) {
+    let mut front = front;
+    match settle_all(alloc, broker, &mut front, &[], ends, lanes) {
         Ok(Settlement::Settled { rings, .. }) => indices(rings.as_slice()),
         _ => None,
     }
 }
 
 // Where the core took something else than lanes served, if it did.
-fn mismatch(alloc: Global, stage: Stage) -> Option<(QueueId, PacketId)>
-    requires { IsStage stage }
+fn mismatch<B: Room>(alloc: Global, stage: Stage<B>) -> Option<(QueueId, PacketId)>
+    requires { IsStage B.board stage }
 {
     let Stage {
         broker,
+        front,
         ends,
         lanes,
     } = stage;
-    match settle_all(alloc, broker, &[], ends, lanes) {
+    let mut front = front;
+    match settle_all(alloc, broker, &mut front, &[], ends, lanes) {
         Ok(Settlement::Mismatch { queue, id, .. }) => Some((queue, id)),
         _ => None,
     }
 }
 
 // How many packets of the first lane are in flight.
-fn in_flight(stage: &Stage) -> usize {
+fn in_flight<B: Room>(stage: &Stage<B>) -> usize {
     match stage.lanes.first() {
         Some(lane) => lane.pending().len(),
         None => 0,
@@ -86,15 +93,26 @@ fn in_flight(stage: &Stage) -> usize {
 }
 
 // A lane of eight published packets ends behind its third turn: three are served, one of them is finished.
-fn ended_early<R: Threads + Wait + Sync>(rt: &R, alloc: Global) -> Option<(usize, (u64, u64))> {
-    let stage = publish_last(stage(rt, alloc, 1, 1)?, 8)?;
+fn named_ended_early<B: Room + Send + Sync, R: Threads + Wait + Sync>(
+    rt: &R,
+    alloc: Global,
+    unnamed: UnnamedBroker,
+) -> Option<(usize, (u64, u64))>
+    requires { (unnamed.board ≡ B.board) × (unnamed.core ≡ B.opened) }
+{
+    let stage = publish_last(stage::<B>(alloc, unnamed, 1, 1)?, 8)?;
     let stage = run_with(rt, alloc, stage, &FewTurns(3));
     let flying = in_flight(&stage);
     Some((flying, settled_indices(alloc, stage)?))
 }
 
+// The same, of a broker that is opened for it.
+fn ended_early<R: Threads + Wait + Sync>(rt: &R, alloc: Global) -> Option<(usize, (u64, u64))> {
+    named_ended_early::<Brand, R>(rt, alloc, unnamed(alloc)?)
+}
+
 // Publishes more packets of an end than its queue has slots.
-fn produce_too_many(broker: &Broker, end: &mut ClientEnd)
+fn produce_too_many<B: Room>(broker: &Broker<B>, end: &mut ClientEnd)
     requires { IsEndOf broker.now end.old }
     ensures { IsEndOf broker.now end.new }
 {
@@ -102,9 +120,9 @@ fn produce_too_many(broker: &Broker, end: &mut ClientEnd)
 }
 
 // Publishes more packets of the last end of a stage than its queue has slots.
-fn with_too_many(stage: Stage) -> Option<Stage>
-    requires { IsStage stage }
-    ensures { IfSome result IsStage }
+fn with_too_many<B: Room>(stage: Stage<B>) -> Option<Stage<B>>
+    requires { IsStage B.board stage }
+    ensures { IfSome result (IsStage B.board) }
 {
     let (stage, end) = split_last_end(stage)?;
     let mut end = end;
@@ -113,46 +131,75 @@ fn with_too_many(stage: Stage) -> Option<Stage>
 }
 
 // What a producer leaves that gives up: all 16 slots are taken, and the id of the 17th packet is reserved.
-fn given_up<R: Wait>(rt: &R, alloc: Global) -> Option<(u64, u64)> {
-    let stage = with_too_many(stage(rt, alloc, 1, 1)?)?;
+fn named_given_up<B: Room>(alloc: Global, unnamed: UnnamedBroker) -> Option<(u64, u64)>
+    requires { (unnamed.board ≡ B.board) × (unnamed.core ≡ B.opened) }
+{
+    let stage = with_too_many(stage::<B>(alloc, unnamed, 1, 1)?)?;
     settled_indices(alloc, stage)
 }
 
+// The same, of a broker that is opened for it.
+fn given_up(alloc: Global) -> Option<(u64, u64)> {
+    named_given_up::<Brand>(alloc, unnamed(alloc)?)
+}
+
 // Hands a packet over that no lane served.
-fn take_alone(alloc: Global, core: &mut AccessCore) -> bool {
+#[tactic(auto, using(client_threads::proofs::Turning::call_appends, client_threads::proofs::Sections::appends_follow))]
+fn take_alone(alloc: Global, core: &mut AccessCore) -> bool
+    ensures { Follows core.old.history core.new.history }
+{
     core.take(alloc, QueueId(2), PacketId(0), &packet(0, 0))
         .is_ok()
 }
 
+// Hands it over in a section of the core.
+fn take_in<B: Room>(alloc: Global, stage: &mut Stage<B>) -> bool
+    requires { IsStage B.board stage.old }
+    ensures { IsStage B.board stage.new }
+{
+    let Stage { broker, front, .. } = stage;
+    broker.with_core_alone(front, |core| take_alone(alloc, core))
+}
+
 // Where a broker differs whose core took a packet that no lane served.
-fn taken_alone<R: Wait>(rt: &R, alloc: Global) -> Option<(QueueId, PacketId)> {
-    let stage = stage(rt, alloc, 3, 1)?;
-    if !stage.broker.with_core(rt, |core| take_alone(alloc, core)) {
+fn named_taken_alone<B: Room>(alloc: Global, unnamed: UnnamedBroker) -> Option<(QueueId, PacketId)>
+    requires { (unnamed.board ≡ B.board) × (unnamed.core ≡ B.opened) }
+{
+    let mut stage = stage::<B>(alloc, unnamed, 3, 1)?;
+    if !take_in(alloc, &mut stage) {
         return None;
     }
     mismatch(alloc, stage)
 }
 
+// The same, of a broker that is opened for it.
+fn taken_alone(alloc: Global) -> Option<(QueueId, PacketId)> {
+    named_taken_alone::<Brand>(alloc, unnamed(alloc)?)
+}
+
 // Why a stage is not settled with these parts, and the stage, which comes back.
-pub(crate) fn unsettled(
+pub(crate) fn unsettled<B: Room>(
     alloc: Global,
-    stage: Stage,
+    stage: Stage<B>,
     parts: &[Part],
-) -> Option<(SettleAllFault, Stage)>
-    requires { IsStage stage }
-    ensures stage { IfSome result (λ back. IsStage back.1) }
+) -> Option<(SettleAllFault, Stage<B>)>
+    requires { IsStage B.board stage }
+    ensures stage { IfSome result (λ back. IsStage B.board back.1) }
     ensures broker { IfSome result (λ back. back.1.broker ≡ stage.broker) }
 {
     let Stage {
         broker,
+        front,
         ends,
         lanes,
     } = stage;
-    match settle_all(alloc, broker, parts, ends, lanes) {
+    let mut front = front;
+    match settle_all(alloc, broker, &mut front, parts, ends, lanes) {
         Err(back) => Some((
             back.fault,
             Stage {
                 broker: back.broker,
+                front,
                 ends: back.ends,
                 lanes: back.lanes,
             },
@@ -162,8 +209,8 @@ pub(crate) fn unsettled(
 }
 
 // Whether all comes back where an end of a stage is missing, and it settles once that is there.
-fn settles_with_its_last(alloc: Global, stage: Stage) -> Option<bool>
-    requires { IsStage stage }
+fn settles_with_its_last<B: Room>(alloc: Global, stage: Stage<B>) -> Option<bool>
+    requires { IsStage B.board stage }
 {
     let (stage, last) = split_last_end(stage)?;
     let (fault, stage) = unsettled(alloc, stage, &[])?;
@@ -172,8 +219,15 @@ fn settles_with_its_last(alloc: Global, stage: Stage) -> Option<bool>
 }
 
 // Whether it does on a queue of two producers.
-fn settles_at_last<R: Wait>(rt: &R, alloc: Global) -> Option<bool> {
-    settles_with_its_last(alloc, stage(rt, alloc, 1, 2)?)
+fn named_settles_at_last<B: Room>(alloc: Global, unnamed: UnnamedBroker) -> Option<bool>
+    requires { (unnamed.board ≡ B.board) × (unnamed.core ≡ B.opened) }
+{
+    settles_with_its_last(alloc, stage::<B>(alloc, unnamed, 1, 2)?)
+}
+
+// The same, of a broker that is opened for it.
+fn settles_at_last(alloc: Global) -> Option<bool> {
+    named_settles_at_last::<Brand>(alloc, unnamed(alloc)?)
 }
 
 #[test]
@@ -183,15 +237,15 @@ fn a_lane_ends_while_packets_are_in_flight(rt: HostRuntime) {
 
 #[test]
 fn a_producer_gives_up_whose_slot_stays_busy(rt: HostRuntime) {
-    assert!(rt; given_up(&rt, rt.alloc()) == Some((17, 0)));
+    assert!(rt; given_up(rt.alloc()) == Some((17, 0)));
 }
 
 #[test]
 fn the_least_place_is_told_at_which_core_and_lanes_differ(rt: HostRuntime) {
-    assert!(rt; taken_alone(&rt, rt.alloc()) == Some((QueueId(2), PacketId(0))));
+    assert!(rt; taken_alone(rt.alloc()) == Some((QueueId(2), PacketId(0))));
 }
 
 #[test]
 fn a_missing_pass_is_told_and_all_comes_back(rt: HostRuntime) {
-    assert!(rt; settles_at_last(&rt, rt.alloc()) == Some(true));
+    assert!(rt; settles_at_last(rt.alloc()) == Some(true));
 }

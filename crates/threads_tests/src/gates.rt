@@ -1,9 +1,12 @@
 //! Lanes run at once, and their gate is told what they did.
 
-use crate::stages::{publish_last, reaches, run_with, stage};
+ghost use Rattle.std.specs.Prelude.{◌≡◌};
+
+use crate::stages::{publish_last, reaches, run_with, stage, unnamed};
 use aql_packet::PacketId;
-use client_threads::{Advanced, Gate, LaneAnswer, ServeAnswer};
+use client_threads::{Advanced, Gate, LaneAnswer, Room, ServeAnswer, UnnamedBroker};
 use std::alloc::Global;
+use std::marker::Brand;
 use std::sync::Wait;
 use std::sync::atomic::{AtomicU64, Ordering};
 use std::thread::Threads;
@@ -106,8 +109,15 @@ fn made(lane: u32, turn: u64) -> LaneAnswer {
 }
 
 // Whether a lane that is held until another has left once gets in.
-fn lets_in<R: Threads + Wait + Sync>(rt: &R, alloc: Global, held: u32) -> bool {
-    let Some(stage) = stage(rt, alloc, 2, 1) else {
+fn named_lets_in<B: Room + Send + Sync, R: Threads + Wait + Sync>(
+    rt: &R,
+    alloc: Global,
+    unnamed: UnnamedBroker,
+    held: u32,
+) -> bool
+    requires { (unnamed.board ≡ B.board) × (unnamed.core ≡ B.opened) }
+{
+    let Some(stage) = stage::<B>(alloc, unnamed, 2, 1) else {
         return false;
     };
     let gate = HeldLane {
@@ -119,9 +129,24 @@ fn lets_in<R: Threads + Wait + Sync>(rt: &R, alloc: Global, held: u32) -> bool {
     gate.let_in.load(Ordering::SeqCst) == 1
 }
 
+// The same, of a broker that is opened for it.
+fn lets_in<R: Threads + Wait + Sync>(rt: &R, alloc: Global, held: u32) -> bool {
+    match unnamed(alloc) {
+        Some(unnamed) => named_lets_in::<Brand, R>(rt, alloc, unnamed, held),
+        None => false,
+    }
+}
+
 // Whether so many lanes get in that are held until all are there.
-fn lets_all_in<R: Threads + Wait + Sync>(rt: &R, alloc: Global, lanes: u64) -> bool {
-    let Some(stage) = stage(rt, alloc, lanes as usize, 1) else {
+fn named_lets_all_in<B: Room + Send + Sync, R: Threads + Wait + Sync>(
+    rt: &R,
+    alloc: Global,
+    unnamed: UnnamedBroker,
+    lanes: u64,
+) -> bool
+    requires { (unnamed.board ≡ B.board) × (unnamed.core ≡ B.opened) }
+{
+    let Some(stage) = stage::<B>(alloc, unnamed, lanes as usize, 1) else {
         return false;
     };
     let gate = AllIn {
@@ -133,14 +158,33 @@ fn lets_all_in<R: Threads + Wait + Sync>(rt: &R, alloc: Global, lanes: u64) -> b
     gate.let_in.load(Ordering::SeqCst) == lanes
 }
 
+// The same, of a broker that is opened for it.
+fn lets_all_in<R: Threads + Wait + Sync>(rt: &R, alloc: Global, lanes: u64) -> bool {
+    match unnamed(alloc) {
+        Some(unnamed) => named_lets_all_in::<Brand, R>(rt, alloc, unnamed, lanes),
+        None => false,
+    }
+}
+
 // Of how many turns the gate of two lanes, the second with two packets, is told what they make.
-fn count_told<R: Threads + Wait + Sync>(rt: &R, alloc: Global) -> Option<u64> {
-    let stage = publish_last(stage(rt, alloc, 2, 1)?, 2)?;
+fn named_count_told<B: Room + Send + Sync, R: Threads + Wait + Sync>(
+    rt: &R,
+    alloc: Global,
+    unnamed: UnnamedBroker,
+) -> Option<u64>
+    requires { (unnamed.board ≡ B.board) × (unnamed.core ≡ B.opened) }
+{
+    let stage = publish_last(stage::<B>(alloc, unnamed, 2, 1)?, 2)?;
     let gate = ToldTurns {
         told: AtomicU64::new(0),
     };
     let _stage = run_with(rt, alloc, stage, &gate);
     Some(gate.told.load(Ordering::SeqCst))
+}
+
+// The same, of a broker that is opened for it.
+fn count_told<R: Threads + Wait + Sync>(rt: &R, alloc: Global) -> Option<u64> {
+    named_count_told::<Brand, R>(rt, alloc, unnamed(alloc)?)
 }
 
 #[test]

@@ -1,26 +1,29 @@
 //! Sixteen producers on four queues, and 100,000 packets.
 
 ghost use Rattle.std.specs.Prelude.{◌≡◌, ◌<◌, All, length};
-ghost use Rattle.std.specs.Thread.{IsSync};
+ghost use Rattle.std.specs.Thread.{IsSend, IsSync};
 ghost use Rattle.client_threads.specs.Running.{IsEndOf, IsLaneOf};
 ghost use Rattle.threads_load.specs.Stages.{EachStaysOf, IsStage};
 
-use crate::stages::{packet, stage};
+use crate::stages::{packet, stage, unnamed};
 use crate::waking::{EACH, PRODUCERS, WakingGate, publish_turns};
 use access_core::AccessCore;
 use aql_packet::PacketId;
-use client_threads::{Broker, ClientEnd, Lane, Served, Settlement, run_lanes, settle_all};
+use client_threads::{
+    Broker, ClientEnd, Lane, Room, Served, Settlement, UnnamedBroker, run_lanes, settle_all,
+};
 use core_model::Part;
 use std::alloc::Global;
+use std::marker::Brand;
 use std::sync::Wait;
 use std::thread;
 use std::thread::Threads;
 use threads_load::Stage;
 
 // Each producer publishes its packets, on a thread of its own.
-fn publish_from_threads<R: Threads + Wait + Sync>(
+fn publish_from_threads<B: Room + Send + Sync, R: Threads + Wait + Sync>(
     rt: &R,
-    broker: &Broker,
+    broker: &Broker<B>,
     gate: &WakingGate,
     ends: &mut [ClientEnd],
 )
@@ -36,9 +39,9 @@ fn publish_from_threads<R: Threads + Wait + Sync>(
 }
 
 // Any number of producers publish.
-fn publish_from_any<R: Threads + Wait + Sync>(
+fn publish_from_any<B: Room + Send + Sync, R: Threads + Wait + Sync>(
     rt: &R,
-    broker: &Broker,
+    broker: &Broker<B>,
     gate: &WakingGate,
     ends: Vec<ClientEnd>,
 ) -> Vec<ClientEnd>
@@ -52,9 +55,9 @@ fn publish_from_any<R: Threads + Wait + Sync>(
 }
 
 // All producers publish.
-fn publish_from_all<R: Threads + Wait + Sync>(
+fn publish_from_all<B: Room + Send + Sync, R: Threads + Wait + Sync>(
     rt: &R,
-    broker: &Broker,
+    broker: &Broker<B>,
     gate: &WakingGate,
     ends: Vec<ClientEnd>,
 ) -> Vec<ClientEnd>
@@ -65,64 +68,66 @@ fn publish_from_all<R: Threads + Wait + Sync>(
 }
 
 // Lanes run.
-fn run_all<R: Threads + Wait + Sync>(
+fn run_all<B: Room + Send + Sync, R: Threads + Wait + Sync>(
     rt: &R,
     alloc: Global,
-    broker: &Broker,
+    broker: &Broker<B>,
     gate: &WakingGate,
     lanes: Vec<Lane>,
 ) -> Vec<Lane>
-    requires { All (λ lane. IsLaneOf broker.now lane) lanes.items }
-    ensures { All (λ lane. IsLaneOf broker.now lane) result.items }
+    requires { All (λ lane. IsLaneOf B.board broker.now lane) lanes.items }
+    ensures { All (λ lane. IsLaneOf B.board broker.now lane) result.items }
 {
     run_lanes(rt, alloc, broker, lanes, gate)
 }
 
 // Producers and lanes run at once.
-fn run_both<R: Threads + Wait + Sync>(
+fn run_both<B: Room + Send + Sync, R: Threads + Wait + Sync>(
     rt: &R,
     alloc: Global,
-    broker: &Broker,
+    broker: &Broker<B>,
     gate: &WakingGate,
     ends: Vec<ClientEnd>,
     lanes: Vec<Lane>,
 ) -> (Vec<ClientEnd>, Vec<Lane>)
     requires ends { All (λ end. IsEndOf broker.now end) ends.items }
-    requires lanes { All (λ lane. IsLaneOf broker.now lane) lanes.items }
+    requires lanes { All (λ lane. IsLaneOf B.board broker.now lane) lanes.items }
     ensures ends { All (λ end. IsEndOf broker.now end) result.0.items }
-    ensures lanes { All (λ lane. IsLaneOf broker.now lane) result.1.items }
+    ensures lanes { All (λ lane. IsLaneOf B.board broker.now lane) result.1.items }
 {
     thread::join(
         rt,
         move || -> Vec<ClientEnd>
-            requires { IsSync R.row × All (λ end. IsEndOf broker.now end) ends.items }
+            requires { IsSend B.row × IsSync B.row × IsSync R.row × All (λ end. IsEndOf broker.now end) ends.items }
             ensures { All (λ end. IsEndOf broker.entry.now end) result.items }
         { publish_from_all(rt, broker, gate, ends) },
         move || -> Vec<Lane>
-            requires { IsSync R.row × All (λ lane. IsLaneOf broker.now lane) lanes.items }
-            ensures { All (λ lane. IsLaneOf broker.entry.now lane) result.items }
+            requires { IsSend B.row × IsSync B.row × IsSync R.row × All (λ lane. IsLaneOf B.board broker.now lane) lanes.items }
+            ensures { All (λ lane. IsLaneOf B.board broker.entry.now lane) result.items }
         { run_all(rt, alloc, broker, gate, lanes) },
     )
 }
 
 // Runs the producers and the lanes of a stage.
-fn run_many<R: Threads + Wait + Sync>(
+fn run_many<B: Room + Send + Sync, R: Threads + Wait + Sync>(
     rt: &R,
     alloc: Global,
-    stage: Stage,
+    stage: Stage<B>,
     gate: &WakingGate,
-) -> Stage
-    requires { IsStage stage }
-    ensures { IsStage result }
+) -> Stage<B>
+    requires { IsStage B.board stage }
+    ensures { IsStage B.board result }
 {
     let Stage {
         broker,
+        front,
         ends,
         lanes,
     } = stage;
     let (ends, lanes) = run_both(rt, alloc, &broker, gate, ends, lanes);
     Stage {
         broker,
+        front,
         ends,
         lanes,
     }
@@ -171,15 +176,21 @@ fn are_whole(lanes: &[Lane]) -> bool {
 }
 
 // The core, if the broker settles with these parts.
-pub(crate) fn settled_core(alloc: Global, stage: Stage, parts: &[Part]) -> Option<AccessCore>
-    requires { IsStage stage }
+pub(crate) fn settled_core<B: Room>(
+    alloc: Global,
+    stage: Stage<B>,
+    parts: &[Part],
+) -> Option<AccessCore>
+    requires { IsStage B.board stage }
 {
     let Stage {
         broker,
+        front,
         ends,
         lanes,
     } = stage;
-    match settle_all(alloc, broker, parts, ends, lanes) {
+    let mut front = front;
+    match settle_all(alloc, broker, &mut front, parts, ends, lanes) {
         Ok(Settlement::Settled { core, .. }) => Some(core),
         _ => None,
     }
@@ -195,8 +206,14 @@ struct Come {
 }
 
 // What 100,000 packets come to.
-fn run_packets<R: Threads + Wait + Sync>(rt: &R, alloc: Global) -> Option<Come> {
-    let stage = stage(rt, alloc, 4, PRODUCERS as u64)?;
+fn named_run_packets<B: Room + Send + Sync, R: Threads + Wait + Sync>(
+    rt: &R,
+    alloc: Global,
+    unnamed: UnnamedBroker,
+) -> Option<Come>
+    requires { (unnamed.board ≡ B.board) × (unnamed.core ≡ B.opened) }
+{
+    let stage = stage::<B>(alloc, unnamed, 4, PRODUCERS as u64)?;
     let gate = WakingGate::new(alloc, 4).ok()?;
     let stage = run_many(rt, alloc, stage, &gate);
     let is_whole = are_whole(stage.lanes.as_slice());
@@ -205,6 +222,11 @@ fn run_packets<R: Threads + Wait + Sync>(rt: &R, alloc: Global) -> Option<Come> 
         is_whole,
         entries: core.audit().len(),
     })
+}
+
+// The same, of a broker that is opened for it.
+fn run_packets<R: Threads + Wait + Sync>(rt: &R, alloc: Global) -> Option<Come> {
+    named_run_packets::<Brand, R>(rt, alloc, unnamed(alloc)?)
 }
 
 // Six grants, four openings, and of each packet a launch, a run and a completion.

@@ -1,14 +1,17 @@
 //! Which queue an opening makes, and that a refused one leaves all as before.
 
+ghost use Rattle.std.specs.Prelude.{◌≡◌};
+ghost use Rattle.client_threads.specs.Sections.{Follows};
+
 use crate::stages::read;
 use access_core::AccessCore;
 use aql_packet::{AgentHandle, ClientId, QueueId};
-use client_threads::{Broker, ClientEnd, Opened};
+use client_threads::{Broker, ClientEnd, Front, Opened, Room, UnnamedBroker};
 use core_model::{Entry, Event, Refusal};
 use policy::{Policy, Right};
 use std::alloc::Global;
-use std::sync::Wait;
-use threads_load::{PlannedQueue, Stage, open_broker, open_stage, plan_load};
+use std::marker::Brand;
+use threads_load::{PlannedQueue, Stage, name_broker, open_broker, open_stage, plan_load};
 
 /// Two clients, of whom the second may use the second agent alone. Both may count in the region.
 const TWO_CLIENTS: &str = r#"
@@ -85,15 +88,30 @@ fn two_clients(alloc: Global) -> Option<Policy> {
     read(alloc, TWO_CLIENTS).ok()
 }
 
-// A broker without queues.
-fn broker<R: Wait>(rt: &R, alloc: Global) -> Option<Broker> {
-    open_broker(rt, alloc, two_clients(alloc)?, Vec::new(alloc), 128).ok()
+// A broker without queues, which has no name yet.
+fn broker(alloc: Global) -> Option<UnnamedBroker> {
+    open_broker(alloc, two_clients(alloc)?, Vec::new(alloc), 128).ok()
 }
 
-// Opens a queue. It has no contract, so that the proofs of its callers carry none.
-fn open(alloc: Global, broker: &mut Broker, asked: Asked) -> Result<Opened, Refusal> {
+// Opens a queue.
+fn open<B: Room>(
+    alloc: Global,
+    broker: &mut Broker<B>,
+    front: &mut Front,
+    asked: Asked,
+) -> Result<Opened, Refusal>
+    requires { front.old.board ≡ B.board }
+    ensures { front.new.board ≡ B.board }
+{
     let Asked(client, agent, size, producers) = asked;
-    broker.open_queue(alloc, ClientId(client), AgentHandle(agent), size, producers)
+    broker.open_queue(
+        alloc,
+        front,
+        ClientId(client),
+        AgentHandle(agent),
+        size,
+        producers,
+    )
 }
 
 // The number of a queue that opens, or why it doesn't.
@@ -105,17 +123,17 @@ fn number_of(opened: Result<Opened, Refusal>) -> Result<QueueId, Refusal> {
 }
 
 // Whether a broker has a ring of a queue.
-fn has_ring(broker: &Broker, queue: u64) -> bool {
+fn has_ring<B: Room>(broker: &Broker<B>, queue: u64) -> bool {
     broker.ring(QueueId(queue)).is_some()
 }
 
 // Whether it has a doorbell of it.
-fn has_doorbell(broker: &Broker, queue: u64) -> bool {
+fn has_doorbell<B: Room>(broker: &Broker<B>, queue: u64) -> bool {
     broker.doorbell(QueueId(queue)).is_some()
 }
 
 // How many queues up to one behind the last have a ring.
-fn count_rings(broker: &Broker) -> u64 {
+fn count_rings<B: Room>(broker: &Broker<B>) -> u64 {
     let mut rings: u64 = 0;
     for queue in 0..MOST_QUEUES + 2 {
         if has_ring(broker, queue) {
@@ -126,7 +144,7 @@ fn count_rings(broker: &Broker) -> u64 {
 }
 
 // How many have a doorbell.
-fn count_doorbells(broker: &Broker) -> u64 {
+fn count_doorbells<B: Room>(broker: &Broker<B>) -> u64 {
     let mut doorbells: u64 = 0;
     for queue in 0..MOST_QUEUES + 2 {
         if has_doorbell(broker, queue) {
@@ -137,72 +155,113 @@ fn count_doorbells(broker: &Broker) -> u64 {
 }
 
 // How many entries the audit has.
-fn count_entries(core: &mut AccessCore) -> usize {
+#[tactic(auto, using(client_threads::proofs::Sections::follows_self))]
+fn count_entries(core: &mut AccessCore) -> usize
+    ensures { Follows core.old.history core.new.history }
+{
     core.audit().len()
 }
 
 // What stands of a broker.
-fn standing_of<R: Wait>(rt: &R, broker: &Broker) -> Standing {
+fn standing_of<B: Room>(broker: &mut Broker<B>, front: &mut Front) -> Standing
+    requires { front.old.board ≡ B.board }
+    ensures { front.new.board ≡ B.board }
+{
     Standing {
-        entries: broker.with_core(rt, |core| count_entries(core)),
+        entries: broker.with_core_alone(front, |core| count_entries(core)),
         rings: count_rings(broker),
         doorbells: count_doorbells(broker),
     }
 }
 
 // Whether an opening is refused for this reason, and all is as before.
-fn is_refused<R: Wait>(
-    rt: &R,
+fn is_refused<B: Room>(
     alloc: Global,
-    broker: &mut Broker,
+    broker: &mut Broker<B>,
+    front: &mut Front,
     asked: Asked,
     why: Refusal,
-) -> bool {
-    let before = standing_of(rt, broker);
-    number_of(open(alloc, broker, asked)) == Err(why) && standing_of(rt, broker) == before
+) -> bool
+    requires { front.old.board ≡ B.board }
+    ensures { front.new.board ≡ B.board }
+{
+    let before = standing_of(broker, front);
+    number_of(open(alloc, broker, front, asked)) == Err(why) && standing_of(broker, front) == before
 }
 
 // Whether the next queue opens under this number, with an entry, a ring and a doorbell.
-fn opens_next<R: Wait>(rt: &R, alloc: Global, broker: &mut Broker, number: u64) -> bool {
-    let entries = standing_of(rt, broker).entries;
+fn opens_next<B: Room>(
+    alloc: Global,
+    broker: &mut Broker<B>,
+    front: &mut Front,
+    number: u64,
+) -> bool
+    requires { front.old.board ≡ B.board }
+    ensures { front.new.board ≡ B.board }
+{
+    let entries = standing_of(broker, front).entries;
     let after = Standing {
         entries: entries.saturating_add(1),
         rings: number,
         doorbells: number,
     };
-    number_of(open(alloc, broker, GOOD)) == Ok(QueueId(number)) && standing_of(rt, broker) == after
+    number_of(open(alloc, broker, front, GOOD)) == Ok(QueueId(number))
+        && standing_of(broker, front) == after
 }
 
 // Whether openings are refused for this reason, and behind each the next queue opens.
-fn are_refused<R: Wait>(
-    rt: &R,
+fn are_refused<B: Room>(
     alloc: Global,
-    broker: &mut Broker,
+    broker: &mut Broker<B>,
+    front: &mut Front,
     rows: &[Asked],
     why: Refusal,
-) -> bool {
+) -> bool
+    requires { front.old.board ≡ B.board }
+    ensures { front.new.board ≡ B.board }
+{
     let mut number: u64 = 0;
     for asked in rows {
         number = number.saturating_add(1);
-        if !is_refused(rt, alloc, broker, *asked, why) || !opens_next(rt, alloc, broker, number) {
+        if !is_refused(alloc, broker, front, *asked, why)
+            || !opens_next(alloc, broker, front, number)
+        {
             return false;
         }
     }
     true
 }
 
+// Whether a broker that gets its name refuses them so.
+fn named_refuses<B: Room>(
+    alloc: Global,
+    unnamed: UnnamedBroker,
+    rows: &[Asked],
+    why: Refusal,
+) -> bool
+    requires { (unnamed.board ≡ B.board) × (unnamed.core ≡ B.opened) }
+{
+    match name_broker::<B>(unnamed) {
+        Ok((mut broker, mut front)) => are_refused(alloc, &mut broker, &mut front, rows, why),
+        Err(_) => false,
+    }
+}
+
 // Whether a broker refuses them so.
-fn refuses<R: Wait>(rt: &R, alloc: Global, rows: &[Asked], why: Refusal) -> bool {
-    match broker(rt, alloc) {
-        Some(mut broker) => are_refused(rt, alloc, &mut broker, rows, why),
+fn refuses(alloc: Global, rows: &[Asked], why: Refusal) -> bool {
+    match broker(alloc) {
+        Some(unnamed) => named_refuses::<Brand>(alloc, unnamed, rows, why),
         None => false,
     }
 }
 
 // Whether as many queues open as may be.
-fn opens_all<R: Wait>(rt: &R, alloc: Global, broker: &mut Broker) -> bool {
+fn opens_all<B: Room>(alloc: Global, broker: &mut Broker<B>, front: &mut Front) -> bool
+    requires { front.old.board ≡ B.board }
+    ensures { front.new.board ≡ B.board }
+{
     for before in 0..MOST_QUEUES {
-        if !opens_next(rt, alloc, broker, before + 1) {
+        if !opens_next(alloc, broker, front, before + 1) {
             return false;
         }
     }
@@ -210,18 +269,33 @@ fn opens_all<R: Wait>(rt: &R, alloc: Global, broker: &mut Broker) -> bool {
 }
 
 // Whether there are too many then, which comes behind each other reason.
-fn is_full<R: Wait>(rt: &R, alloc: Global, broker: &mut Broker) -> bool {
-    is_refused(rt, alloc, broker, GOOD, Refusal::TooMany)
-        && is_refused(rt, alloc, broker, Asked(2, 2, 2, 1), Refusal::TooMany)
-        && is_refused(rt, alloc, broker, Asked(1, 1, 3, 2), Refusal::BadSize)
-        && is_refused(rt, alloc, broker, Asked(1, 1, 16, 17), Refusal::BadSize)
-        && is_refused(rt, alloc, broker, GOOD, Refusal::TooMany)
+fn is_full<B: Room>(alloc: Global, broker: &mut Broker<B>, front: &mut Front) -> bool
+    requires { front.old.board ≡ B.board }
+    ensures { front.new.board ≡ B.board }
+{
+    is_refused(alloc, broker, front, GOOD, Refusal::TooMany)
+        && is_refused(alloc, broker, front, Asked(2, 2, 2, 1), Refusal::TooMany)
+        && is_refused(alloc, broker, front, Asked(1, 1, 3, 2), Refusal::BadSize)
+        && is_refused(alloc, broker, front, Asked(1, 1, 16, 17), Refusal::BadSize)
+        && is_refused(alloc, broker, front, GOOD, Refusal::TooMany)
 }
 
-// Whether a broker opens as many queues as may be, and no more.
-fn fills<R: Wait>(rt: &R, alloc: Global) -> bool {
-    match broker(rt, alloc) {
-        Some(mut broker) => opens_all(rt, alloc, &mut broker) && is_full(rt, alloc, &mut broker),
+// Whether a broker that gets its name opens as many queues as may be, and no more.
+fn named_fills<B: Room>(alloc: Global, unnamed: UnnamedBroker) -> bool
+    requires { (unnamed.board ≡ B.board) × (unnamed.core ≡ B.opened) }
+{
+    match name_broker::<B>(unnamed) {
+        Ok((mut broker, mut front)) => {
+            opens_all(alloc, &mut broker, &mut front) && is_full(alloc, &mut broker, &mut front)
+        }
+        Err(_) => false,
+    }
+}
+
+// Whether a broker does.
+fn fills(alloc: Global) -> bool {
+    match broker(alloc) {
+        Some(unnamed) => named_fills::<Brand>(alloc, unnamed),
         None => false,
     }
 }
@@ -239,7 +313,10 @@ fn is_opening(entry: &Entry, asked: Asked) -> bool {
 }
 
 // Whether the last entry does.
-fn ends_with_opening(core: &mut AccessCore, asked: Asked) -> bool {
+#[tactic(auto, using(client_threads::proofs::Sections::follows_self))]
+fn ends_with_opening(core: &mut AccessCore, asked: Asked) -> bool
+    ensures { Follows core.old.history core.new.history }
+{
     match core.audit().last() {
         Some(entry) => is_opening(entry, asked),
         None => false,
@@ -247,12 +324,15 @@ fn ends_with_opening(core: &mut AccessCore, asked: Asked) -> bool {
 }
 
 // Whether a broker's audit ends with the entry of this opening.
-fn tells_opening<R: Wait>(rt: &R, broker: &Broker, asked: Asked) -> bool {
-    broker.with_core(rt, |core| ends_with_opening(core, asked))
+fn tells_opening<B: Room>(broker: &mut Broker<B>, front: &mut Front, asked: Asked) -> bool
+    requires { front.old.board ≡ B.board }
+    ensures { front.new.board ≡ B.board }
+{
+    broker.with_core_alone(front, |core| ends_with_opening(core, asked))
 }
 
 // Whether a broker's ring of a queue is for so many producers.
-fn is_ring_for(broker: &Broker, queue: QueueId, producers: u64) -> bool {
+fn is_ring_for<B: Room>(broker: &Broker<B>, queue: QueueId, producers: u64) -> bool {
     match broker.ring(queue) {
         Some(ring) => ring.producers() == producers,
         None => false,
@@ -270,7 +350,7 @@ fn are_ends_of(ends: &[ClientEnd], queue: QueueId) -> bool {
 }
 
 // Whether ends and lane of an opened queue are that queue's, and its ring is for so many producers.
-fn is_whole(broker: &Broker, opened: &Opened, producers: u64) -> bool {
+fn is_whole<B: Room>(broker: &Broker<B>, opened: &Opened, producers: u64) -> bool {
     let queue = opened.0;
     opened.1.len() as u64 == producers
         && are_ends_of(opened.1.as_slice(), queue)
@@ -279,33 +359,62 @@ fn is_whole(broker: &Broker, opened: &Opened, producers: u64) -> bool {
 }
 
 // Whether an opening makes this client's queue on this agent, of this size and for these producers.
-fn opens_as_asked<R: Wait>(rt: &R, alloc: Global, broker: &mut Broker, asked: Asked) -> bool {
-    match open(alloc, broker, asked) {
-        Ok(opened) => { is_whole(broker, &opened, asked.3) && tells_opening(rt, broker, asked) }
+fn opens_as_asked<B: Room>(
+    alloc: Global,
+    broker: &mut Broker<B>,
+    front: &mut Front,
+    asked: Asked,
+) -> bool
+    requires { front.old.board ≡ B.board }
+    ensures { front.new.board ≡ B.board }
+{
+    match open(alloc, broker, front, asked) {
+        Ok(opened) => { is_whole(broker, &opened, asked.3) && tells_opening(broker, front, asked) }
         Err(_) => false,
     }
 }
 
 // Whether all of these openings do.
-fn open_as_asked<R: Wait>(rt: &R, alloc: Global, broker: &mut Broker, rows: &[Asked]) -> bool {
+fn open_as_asked<B: Room>(
+    alloc: Global,
+    broker: &mut Broker<B>,
+    front: &mut Front,
+    rows: &[Asked],
+) -> bool
+    requires { front.old.board ≡ B.board }
+    ensures { front.new.board ≡ B.board }
+{
     for asked in rows {
-        if !opens_as_asked(rt, alloc, broker, *asked) {
+        if !opens_as_asked(alloc, broker, front, *asked) {
             return false;
         }
     }
     true
 }
 
+// Whether those that are allowed do, of a broker that gets its name.
+fn named_open_as_asked<B: Room>(alloc: Global, unnamed: UnnamedBroker) -> bool
+    requires { (unnamed.board ≡ B.board) × (unnamed.core ≡ B.opened) }
+{
+    match name_broker::<B>(unnamed) {
+        Ok((mut broker, mut front)) => open_as_asked(alloc, &mut broker, &mut front, &ALLOWED),
+        Err(_) => false,
+    }
+}
+
 // Whether those that are allowed do.
-fn all_open_as_asked<R: Wait>(rt: &R, alloc: Global) -> bool {
-    match broker(rt, alloc) {
-        Some(mut broker) => open_as_asked(rt, alloc, &mut broker, &ALLOWED),
+fn all_open_as_asked(alloc: Global) -> bool {
+    match broker(alloc) {
+        Some(unnamed) => named_open_as_asked::<Brand>(alloc, unnamed),
         None => false,
     }
 }
 
 // Whether the entry of each opening in an audit is that of the row at its place.
-fn are_openings(core: &mut AccessCore, rows: &[Asked]) -> bool {
+#[tactic(auto, using(client_threads::proofs::Sections::follows_self))]
+fn are_openings(core: &mut AccessCore, rows: &[Asked]) -> bool
+    ensures { Follows core.old.history core.new.history }
+{
     let mut opened: usize = 0;
     for entry in core.audit() {
         if let Event::Open { .. } = &entry.event {
@@ -319,48 +428,61 @@ fn are_openings(core: &mut AccessCore, rows: &[Asked]) -> bool {
 }
 
 // Whether the openings in a broker's audit are these.
-fn tells_openings<R: Wait>(rt: &R, broker: &Broker, rows: &[Asked]) -> bool {
-    broker.with_core(rt, |core| are_openings(core, rows))
+fn tells_openings<B: Room>(broker: &mut Broker<B>, front: &mut Front, rows: &[Asked]) -> bool
+    requires { front.old.board ≡ B.board }
+    ensures { front.new.board ≡ B.board }
+{
+    broker.with_core_alone(front, |core| are_openings(core, rows))
 }
 
-// Opens the queues of a plan, with three producers each.
-fn open_plan(alloc: Global, broker: Broker, plan: &[PlannedQueue]) -> Option<Stage> {
-    open_stage(alloc, broker, plan, 3).ok()
+// Whether a broker that gets its name opens what is planned, with three producers each.
+fn named_opens_planned<B: Room>(
+    alloc: Global,
+    unnamed: UnnamedBroker,
+    plan: &[PlannedQueue],
+) -> Option<bool>
+    requires { (unnamed.board ≡ B.board) × (unnamed.core ≡ B.opened) }
+{
+    let (broker, front) = name_broker::<B>(unnamed).ok()?;
+    let stage = open_stage(alloc, broker, front, plan, 3).ok()?;
+    let Stage { broker, front, .. } = stage;
+    let mut broker = broker;
+    let mut front = front;
+    Some(tells_openings(&mut broker, &mut front, &PLANNED))
 }
 
 // Whether the load opens what is planned.
-fn opens_planned<R: Wait>(rt: &R, alloc: Global) -> Option<bool> {
+fn opens_planned(alloc: Global) -> Option<bool> {
     let plan = plan_load(alloc, &two_clients(alloc)?).ok()?;
-    let stage = open_plan(alloc, broker(rt, alloc)?, plan.as_slice())?;
-    Some(tells_openings(rt, &stage.broker, &PLANNED))
+    named_opens_planned::<Brand>(alloc, broker(alloc)?, plan.as_slice())
 }
 
 #[test]
 fn a_queue_of_an_unknown_client_is_refused(rt: HostRuntime) {
-    assert!(rt; refuses(&rt, rt.alloc(), &UNKNOWN_CLIENTS, Refusal::UnknownClient));
+    assert!(rt; refuses(rt.alloc(), &UNKNOWN_CLIENTS, Refusal::UnknownClient));
 }
 
 #[test]
 fn a_queue_on_an_agent_that_the_client_may_not_use_is_refused(rt: HostRuntime) {
-    assert!(rt; refuses(&rt, rt.alloc(), &DENIED, Refusal::Denied(Right::Use)));
+    assert!(rt; refuses(rt.alloc(), &DENIED, Refusal::Denied(Right::Use)));
 }
 
 #[test]
 fn a_queue_of_a_wrong_size_or_with_wrong_producers_is_refused(rt: HostRuntime) {
-    assert!(rt; refuses(&rt, rt.alloc(), &BAD_SIZES, Refusal::BadSize));
+    assert!(rt; refuses(rt.alloc(), &BAD_SIZES, Refusal::BadSize));
 }
 
 #[test]
 fn sixty_four_queues_open_and_no_more(rt: HostRuntime) {
-    assert!(rt; fills(&rt, rt.alloc()));
+    assert!(rt; fills(rt.alloc()));
 }
 
 #[test]
 fn a_queue_is_of_the_client_the_agent_and_the_size_of_its_opening(rt: HostRuntime) {
-    assert!(rt; all_open_as_asked(&rt, rt.alloc()));
+    assert!(rt; all_open_as_asked(rt.alloc()));
 }
 
 #[test]
 fn the_load_opens_the_queues_of_its_plan(rt: HostRuntime) {
-    assert!(rt; opens_planned(&rt, rt.alloc()) == Some(true));
+    assert!(rt; opens_planned(rt.alloc()) == Some(true));
 }

@@ -1,19 +1,20 @@
 //! Audits that are rotated while lanes run, and what settles with the part that was handed out.
 
-ghost use Rattle.std.specs.Prelude.{IfSome};
+ghost use Rattle.std.specs.Prelude.{◌≡◌, IfSome};
 ghost use Rattle.threads_load.specs.Stages.{IsStage};
 
 use crate::endings::unsettled;
 use crate::many::settled_core;
-use crate::stages::{FOUR_AGENTS, LOOKS, PLACES, read};
-use client_threads::SettleAllFault;
+use crate::stages::{FOUR_AGENTS, LOOKS, read, unnamed};
+use client_threads::{Room, SettleAllFault, UnnamedBroker};
 use core_model::Part;
 use std::alloc::Global;
+use std::marker::Brand;
 use std::slice;
 use std::sync::Wait;
 use std::thread::Threads;
 use threads_load::{
-    LoadGate, PlannedQueue, Share, Stage, open_broker, open_stage, plan_load, run_rotated,
+    LoadGate, PlannedQueue, Share, Stage, name_broker, open_stage, plan_load, run_rotated,
 };
 
 /// How many packets each of two producers publishes to each of two queues.
@@ -26,15 +27,15 @@ const SHARE: Share = Share {
 };
 
 // Runs a plan, and rotates meanwhile.
-fn run_planned<R: Threads + Wait + Sync>(
+fn run_planned<B: Room + Send + Sync, R: Threads + Wait + Sync>(
     rt: &R,
     alloc: Global,
-    stage: Stage,
+    stage: Stage<B>,
     plan: &[PlannedQueue],
     gate: &LoadGate,
-) -> Option<(Stage, Part)>
-    requires { IsStage stage }
-    ensures { IfSome result (λ run. IsStage run.0) }
+) -> Option<(Stage<B>, Part)>
+    requires { IsStage B.board stage }
+    ensures { IfSome result (λ run. IsStage B.board run.0) }
 {
     match run_rotated(rt, alloc, stage, plan, SHARE, gate) {
         (stage, Ok(part)) => Some((stage, part)),
@@ -43,15 +44,20 @@ fn run_planned<R: Threads + Wait + Sync>(
 }
 
 // Runs two queues of two producers, and rotates meanwhile.
-fn run_two_queues<R: Threads + Wait + Sync>(rt: &R, alloc: Global) -> Option<(Stage, Part)>
-    ensures { IfSome result (λ run. IsStage run.0) }
+fn run_two_queues<B: Room + Send + Sync, R: Threads + Wait + Sync>(
+    rt: &R,
+    alloc: Global,
+    unnamed: UnnamedBroker,
+) -> Option<(Stage<B>, Part)>
+    requires { (unnamed.board ≡ B.board) × (unnamed.core ≡ B.opened) }
+    ensures { IfSome result (λ run. IsStage B.board run.0) }
 {
     let policy = read(alloc, FOUR_AGENTS).ok()?;
     let mut plan = plan_load(alloc, &policy).ok()?;
     plan.truncate(2);
     let gate = LoadGate::new(alloc, 2, 2 * PACKETS).ok()?;
-    let broker = open_broker(rt, alloc, policy, Vec::new(alloc), PLACES).ok()?;
-    match open_stage(alloc, broker, plan.as_slice(), 2) {
+    let (broker, front) = name_broker::<B>(unnamed).ok()?;
+    match open_stage(alloc, broker, front, plan.as_slice(), 2) {
         Ok(stage) => run_planned(rt, alloc, stage, plan.as_slice(), &gate),
         Err(_) => None,
     }
@@ -59,8 +65,8 @@ fn run_two_queues<R: Threads + Wait + Sync>(rt: &R, alloc: Global) -> Option<(St
 
 // How many entries came behind a part that was handed out, where the broker settles with it, and without it is told
 // that it isn't next, and comes back.
-fn entries_behind(alloc: Global, stage: Stage, part: &Part) -> Option<usize>
-    requires { IsStage stage }
+fn entries_behind<B: Room>(alloc: Global, stage: Stage<B>, part: &Part) -> Option<usize>
+    requires { IsStage B.board stage }
 {
     let (fault, stage) = unsettled(alloc, stage, &[])?;
     if fault != SettleAllFault::NotNext {
@@ -71,11 +77,22 @@ fn entries_behind(alloc: Global, stage: Stage, part: &Part) -> Option<usize>
 }
 
 // Whether a finished packet was handed out, and how many entries there are in all.
-fn run_with_part<R: Threads + Wait + Sync>(rt: &R, alloc: Global) -> Option<(bool, usize)> {
-    let (stage, part) = run_two_queues(rt, alloc)?;
+fn named_run_with_part<B: Room + Send + Sync, R: Threads + Wait + Sync>(
+    rt: &R,
+    alloc: Global,
+    unnamed: UnnamedBroker,
+) -> Option<(bool, usize)>
+    requires { (unnamed.board ≡ B.board) × (unnamed.core ≡ B.opened) }
+{
+    let (stage, part) = run_two_queues::<B, R>(rt, alloc, unnamed)?;
     let handed_out = part.entries().len();
     let since = entries_behind(alloc, stage, &part)?;
     Some((11 <= handed_out, handed_out.checked_add(since)?))
+}
+
+// The same, of a broker that is opened for it.
+fn run_with_part<R: Threads + Wait + Sync>(rt: &R, alloc: Global) -> Option<(bool, usize)> {
+    named_run_with_part::<Brand, R>(rt, alloc, unnamed(alloc)?)
 }
 
 // Six grants, two openings, and of each packet a launch, a run and a completion.

@@ -1,6 +1,6 @@
 //! Brokers with queues of the load, and what producers and lanes do on them.
 
-ghost use Rattle.std.specs.Prelude.{IfSome};
+ghost use Rattle.std.specs.Prelude.{◌≡◌, IfSome};
 ghost use Rattle.ring.specs.Publishing.{IsOpen};
 ghost use Rattle.client_threads.specs.Running.{IsEndOf};
 ghost use Rattle.threads_load.specs.Stages.{IsStage};
@@ -8,7 +8,7 @@ ghost use Rattle.threads_load.specs.Stages.{IsStage};
 use aql_packet::{
     Address, AgentDispatch, Header, Packet, REGION_SPAN, Scope, SignalHandle, encode,
 };
-use client_threads::{Broker, ClientEnd, Gate, run_lanes};
+use client_threads::{Broker, ClientEnd, Gate, Room, UnnamedBroker, run_lanes};
 use core_model::ADD64;
 use policy::{Policy, ReadPolicyError, read_policy};
 use ring::{Publication, Ticket};
@@ -17,7 +17,7 @@ use std::sync::Wait;
 use std::sync::atomic::{AtomicU64, Ordering};
 use std::thread;
 use std::thread::Threads;
-use threads_load::{Stage, open_broker, open_stage, plan_load};
+use threads_load::{PlannedQueue, Stage, name_broker, open_broker, open_stage, plan_load};
 
 /// How often a thread looks for something before it gives up.
 pub const LOOKS: u64 = 10_000_000;
@@ -64,31 +64,43 @@ pub fn read(alloc: Global, text: &str) -> Result<Policy, ReadPolicyError> {
     read_policy(alloc, text.as_bytes())
 }
 
-// Opens a stage over a policy, with so many of the load's queues.
-fn open_over<R: Wait>(
-    rt: &R,
+/// Opens a broker over the policy of four agents. It has no name yet.
+pub fn unnamed(alloc: Global) -> Option<UnnamedBroker> {
+    let policy = read(alloc, FOUR_AGENTS).ok()?;
+    open_broker(alloc, policy, Vec::new(alloc), PLACES).ok()
+}
+
+// Opens so many queues of a plan.
+fn open_plan<B: Room>(
     alloc: Global,
-    policy: Policy,
-    queues: usize,
+    unnamed: UnnamedBroker,
+    plan: &[PlannedQueue],
     producers: u64,
-) -> Option<Stage>
-    ensures { IfSome result IsStage }
+) -> Option<Stage<B>>
+    requires { (unnamed.board ≡ B.board) × (unnamed.core ≡ B.opened) }
+    ensures { IfSome result (IsStage B.board) }
 {
-    let mut plan = plan_load(alloc, &policy).ok()?;
-    plan.truncate(queues);
-    let broker = open_broker(rt, alloc, policy, Vec::new(alloc), PLACES).ok()?;
-    match open_stage(alloc, broker, plan.as_slice(), producers) {
+    let (broker, front) = name_broker::<B>(unnamed).ok()?;
+    match open_stage(alloc, broker, front, plan, producers) {
         Ok(stage) => Some(stage),
         Err(_) => None,
     }
 }
 
-/// Opens a stage with so many queues, up to four, each with so many producers.
-pub fn stage<R: Wait>(rt: &R, alloc: Global, queues: usize, producers: u64) -> Option<Stage>
-    ensures { IfSome result IsStage }
+/// Opens a stage with so many queues, up to four, each with so many producers, over a broker that gets its name.
+pub fn stage<B: Room>(
+    alloc: Global,
+    unnamed: UnnamedBroker,
+    queues: usize,
+    producers: u64,
+) -> Option<Stage<B>>
+    requires { (unnamed.board ≡ B.board) × (unnamed.core ≡ B.opened) }
+    ensures { IfSome result (IsStage B.board) }
 {
     let policy = read(alloc, FOUR_AGENTS).ok()?;
-    open_over(rt, alloc, policy, queues, producers)
+    let mut plan = plan_load(alloc, &policy).ok()?;
+    plan.truncate(queues);
+    open_plan::<B>(alloc, unnamed, plan.as_slice(), producers)
 }
 
 /// Whether a word comes to a number, as far as one looks.
@@ -103,7 +115,12 @@ pub fn reaches(word: &AtomicU64, wanted: u64) -> bool {
 }
 
 /// Publishes a packet under a ticket, trying again while its slot is busy. Answers whether it was published.
-pub fn publish_under(broker: &Broker, end: &mut ClientEnd, ticket: Ticket, bytes: &[u8; 64]) -> bool
+pub fn publish_under<B: Room>(
+    broker: &Broker<B>,
+    end: &mut ClientEnd,
+    ticket: Ticket,
+    bytes: &[u8; 64],
+) -> bool
     requires end { IsEndOf broker.now end.old }
     requires opened { IsOpen ticket.id.0 end.old.pass }
     ensures { IsEndOf broker.now end.new }
@@ -121,7 +138,7 @@ pub fn publish_under(broker: &Broker, end: &mut ClientEnd, ticket: Ticket, bytes
 }
 
 /// Reserves an id and publishes a packet under it. Answers whether it was published.
-pub fn publish_one(broker: &Broker, end: &mut ClientEnd, bytes: &[u8; 64]) -> bool
+pub fn publish_one<B: Room>(broker: &Broker<B>, end: &mut ClientEnd, bytes: &[u8; 64]) -> bool
     requires { IsEndOf broker.now end.old }
     ensures { IsEndOf broker.now end.new }
 {
@@ -132,8 +149,8 @@ pub fn publish_one(broker: &Broker, end: &mut ClientEnd, bytes: &[u8; 64]) -> bo
 }
 
 /// Publishes so many packets of a producer, and counts them in a word as they are published.
-pub fn publish_all(
-    broker: &Broker,
+pub fn publish_all<B: Room>(
+    broker: &Broker<B>,
     end: &mut ClientEnd,
     producer: u64,
     packets: u64,
@@ -151,7 +168,7 @@ pub fn publish_all(
 }
 
 // Publishes so many packets of an end. Answers how many are published.
-fn publish_some(broker: &Broker, end: &mut ClientEnd, packets: u64) -> u64
+fn publish_some<B: Room>(broker: &Broker<B>, end: &mut ClientEnd, packets: u64) -> u64
     requires { IsEndOf broker.now end.old }
     ensures { IsEndOf broker.now end.new }
 {
@@ -161,13 +178,14 @@ fn publish_some(broker: &Broker, end: &mut ClientEnd, packets: u64) -> u64
 }
 
 /// Takes the last end of a stage off, if there is one.
-pub fn split_last_end(stage: Stage) -> Option<(Stage, ClientEnd)>
-    requires { IsStage stage }
-    ensures stage { IfSome result (λ split. IsStage split.0) }
+pub fn split_last_end<B: Room>(stage: Stage<B>) -> Option<(Stage<B>, ClientEnd)>
+    requires { IsStage B.board stage }
+    ensures stage { IfSome result (λ split. IsStage B.board split.0) }
     ensures end { IfSome result (λ split. IsEndOf split.0.broker split.1) }
 {
     let Stage {
         broker,
+        front,
         ends,
         lanes,
     } = stage;
@@ -176,6 +194,7 @@ pub fn split_last_end(stage: Stage) -> Option<(Stage, ClientEnd)>
     Some((
         Stage {
             broker,
+            front,
             ends,
             lanes,
         },
@@ -184,13 +203,14 @@ pub fn split_last_end(stage: Stage) -> Option<(Stage, ClientEnd)>
 }
 
 /// Puts an end behind those of a stage, if there is memory.
-pub fn with_end(stage: Stage, end: ClientEnd) -> Option<Stage>
-    requires stage { IsStage stage }
+pub fn with_end<B: Room>(stage: Stage<B>, end: ClientEnd) -> Option<Stage<B>>
+    requires stage { IsStage B.board stage }
     requires end { IsEndOf stage.broker end }
-    ensures { IfSome result IsStage }
+    ensures { IfSome result (IsStage B.board) }
 {
     let Stage {
         broker,
+        front,
         ends,
         lanes,
     } = stage;
@@ -198,6 +218,7 @@ pub fn with_end(stage: Stage, end: ClientEnd) -> Option<Stage>
     match ends.push(end) {
         Ok(()) => Some(Stage {
             broker,
+            front,
             ends,
             lanes,
         }),
@@ -206,9 +227,9 @@ pub fn with_end(stage: Stage, end: ClientEnd) -> Option<Stage>
 }
 
 /// Publishes so many packets of the last end of a stage. The stage comes back if all are published.
-pub fn publish_last(stage: Stage, packets: u64) -> Option<Stage>
-    requires { IsStage stage }
-    ensures { IfSome result IsStage }
+pub fn publish_last<B: Room>(stage: Stage<B>, packets: u64) -> Option<Stage<B>>
+    requires { IsStage B.board stage }
+    ensures { IfSome result (IsStage B.board) }
 {
     let (stage, end) = split_last_end(stage)?;
     let mut end = end;
@@ -219,23 +240,25 @@ pub fn publish_last(stage: Stage, packets: u64) -> Option<Stage>
 }
 
 /// Runs the lanes of a stage.
-pub fn run_with<R: Threads + Wait + Sync, G: Gate + Sync>(
+pub fn run_with<B: Room + Send + Sync, R: Threads + Wait + Sync, G: Gate + Sync>(
     rt: &R,
     alloc: Global,
-    stage: Stage,
+    stage: Stage<B>,
     gate: &G,
-) -> Stage
-    requires { IsStage stage }
-    ensures { IsStage result }
+) -> Stage<B>
+    requires { IsStage B.board stage }
+    ensures { IsStage B.board result }
 {
     let Stage {
         broker,
+        front,
         ends,
         lanes,
     } = stage;
     let lanes = run_lanes(rt, alloc, &broker, lanes, gate);
     Stage {
         broker,
+        front,
         ends,
         lanes,
     }

@@ -5,7 +5,7 @@ ghost use Rattle.client_threads.specs.Running.{IsEndOf};
 ghost use Rattle.threads_load.specs.Stages.{StaysOf};
 
 use crate::stages::{LOOKS, packet};
-use client_threads::{Broker, ClientEnd, Gate, LaneAnswer, ServeAnswer};
+use client_threads::{Broker, ClientEnd, Gate, LaneAnswer, Room, ServeAnswer};
 use doorbell::Doorbell;
 use ring::{Publication, Ticket};
 use std::alloc::{AllocError, Global};
@@ -83,9 +83,9 @@ impl Gate for WakingGate {
 }
 
 // Publishes a packet under a ticket, waiting while its slot is busy. Answers whether it was published.
-fn publish_under<R: Wait>(
+fn publish_under<B: Room, R: Wait>(
     rt: &R,
-    broker: &Broker,
+    broker: &Broker<B>,
     gate: &WakingGate,
     producer: usize,
     end: &mut ClientEnd,
@@ -111,9 +111,9 @@ fn publish_under<R: Wait>(
 }
 
 /// Publishes the packets of a producer, until one is not published.
-pub fn publish_turns<R: Wait>(
+pub fn publish_turns<B: Room, R: Wait>(
     rt: &R,
-    broker: &Broker,
+    broker: &Broker<B>,
     gate: &WakingGate,
     producer: usize,
     end: &mut ClientEnd,

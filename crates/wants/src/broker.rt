@@ -1,6 +1,6 @@
 //! Queues of a broker open, a lane serves, and the broker is settled.
 
-ghost use Rattle.std.specs.Prelude.{IfErr, IfOk};
+ghost use Rattle.std.specs.Prelude.{◌≡◌, IfErr, IfOk};
 ghost use Rattle.threads_load.specs.Stages.{IsStage};
 
 use crate::fault::Fault;
@@ -9,14 +9,18 @@ use crate::telling::{tell_one, tell_two, tell_want};
 use access_core::Kernel;
 use aql_packet::{AgentHandle, ClientId, QueueId, RegionHandle};
 use client_threads::{
-    Broker, Opened, SettleAllFault, SettledQueue, Settlement, run_lanes, settle_all,
+    Broker, Front, Opened, Room, SettleAllFault, SettledQueue, Settlement, UnnamedBroker,
+    run_lanes, settle_all,
 };
 use core_model::Refusal;
 use policy::{Policy, ReadPolicyError, read_policy};
 use std::alloc::Global;
+use std::marker::Brand;
 use std::sync::Wait;
 use std::thread::Threads;
-use threads_load::{LoadFault, LoadGate, PlannedQueue, Stage, open_broker, open_stage, run_stage};
+use threads_load::{
+    LoadFault, LoadGate, PlannedQueue, Stage, name_broker, open_broker, open_stage, run_stage,
+};
 
 /// A client that may use an agent, and count in a region.
 const POLICY: &str = r#"
@@ -51,24 +55,30 @@ fn policy(alloc: Global) -> Result<Policy, ReadPolicyError> {
     read_policy(alloc, POLICY.as_bytes())
 }
 
-fn open_over<R: Wait>(
-    rt: &R,
+fn open_over(
     alloc: Global,
     policy: Policy,
     kernels: Vec<Kernel>,
-) -> Result<Broker, LoadFault> {
-    open_broker(rt, alloc, policy, kernels, PLACES)
+) -> Result<UnnamedBroker, LoadFault> {
+    open_broker(alloc, policy, kernels, PLACES)
 }
 
-// Opens a broker.
-fn open<R: Wait>(rt: &R, alloc: Global) -> Result<Broker, Fault> {
+// Opens a broker, which has no name yet.
+fn open(alloc: Global) -> Result<UnnamedBroker, Fault> {
     let policy = policy(alloc)?;
-    Ok(open_over(rt, alloc, policy, Vec::new(alloc))?)
+    Ok(open_over(alloc, policy, Vec::new(alloc))?)
 }
 
 // Opens a queue of two slots for one producer.
-fn open_queue(alloc: Global, broker: &mut Broker) -> Result<Opened, Refusal> {
-    broker.open_queue(alloc, WANDA, PRESS, 2, 1)
+fn open_queue<B: Room>(
+    alloc: Global,
+    broker: &mut Broker<B>,
+    front: &mut Front,
+) -> Result<Opened, Refusal>
+    requires { front.old.board ≡ B.board }
+    ensures { front.new.board ≡ B.board }
+{
+    broker.open_queue(alloc, front, WANDA, PRESS, 2, 1)
 }
 
 // The number of a queue that opens, or why it doesn't.
@@ -80,30 +90,52 @@ fn number_of(opened: Result<Opened, Refusal>) -> Result<QueueId, Refusal> {
 }
 
 // Opens a queue for the second time.
-fn open_queue_again(rt: &HostRuntime, broker: &mut Broker) -> Result<(), Fault> {
-    match number_of(open_queue(rt.alloc(), broker)) {
+fn open_queue_again<B: Room>(
+    rt: &HostRuntime,
+    broker: &mut Broker<B>,
+    front: &mut Front,
+) -> Result<(), Fault>
+    requires { front.old.board ≡ B.board }
+    ensures { front.new.board ≡ B.board }
+{
+    match number_of(open_queue(rt.alloc(), broker, front)) {
         Ok(queue) => tell_one(rt, "queue", queue.0),
         Err(why) => Err(Fault::from(why)),
     }
 }
 
 // Opens a queue, once more where that wants memory.
-fn open_one(rt: &HostRuntime, broker: &mut Broker) -> Result<(), Fault> {
-    match number_of(open_queue(rt.alloc(), broker)) {
+fn open_one<B: Room>(
+    rt: &HostRuntime,
+    broker: &mut Broker<B>,
+    front: &mut Front,
+) -> Result<(), Fault>
+    requires { front.old.board ≡ B.board }
+    ensures { front.new.board ≡ B.board }
+{
+    match number_of(open_queue(rt.alloc(), broker, front)) {
         Ok(queue) => tell_one(rt, "queue", queue.0),
         Err(Refusal::OutOfMemory) => {
             tell_want(rt, "queue")?;
-            open_queue_again(rt, broker)
+            open_queue_again(rt, broker, front)
         }
         Err(_) => Err(Fault::Refused),
     }
 }
 
+// Opens two queues of a broker that gets its name.
+fn open_two<B: Room>(host: &HostRuntime, unnamed: UnnamedBroker) -> Result<(), Fault>
+    requires { (unnamed.board ≡ B.board) × (unnamed.core ≡ B.opened) }
+{
+    let (mut broker, mut front) = name_broker::<B>(unnamed)?;
+    open_one(host, &mut broker, &mut front)?;
+    open_one(host, &mut broker, &mut front)
+}
+
 /// Opens two queues of a broker, each once more where that wants memory.
-pub fn open_queues<R: Wait>(rt: &R, host: &HostRuntime) -> Result<(), Fault> {
-    let mut broker = open(rt, host.alloc())?;
-    open_one(host, &mut broker)?;
-    open_one(host, &mut broker)
+pub fn open_queues(host: &HostRuntime) -> Result<(), Fault> {
+    let unnamed = open(host.alloc())?;
+    open_two::<Brand>(host, unnamed)
 }
 
 // Says to which indices a settled ring came.
@@ -123,21 +155,27 @@ fn tell_settlement(rt: &HostRuntime, settlement: Settlement) -> Result<(), Fault
 }
 
 // Settles the broker of a stage, which comes back where that is refused.
-fn settle_stage(alloc: Global, stage: Stage) -> Result<Settlement, (SettleAllFault, Stage)>
-    requires { IsStage stage }
-    ensures { IfErr result (λ back. IsStage back.1) }
+fn settle_stage<B: Room>(
+    alloc: Global,
+    stage: Stage<B>,
+) -> Result<Settlement, (SettleAllFault, Stage<B>)>
+    requires { IsStage B.board stage }
+    ensures { IfErr result (λ back. IsStage B.board back.1) }
 {
     let Stage {
         broker,
+        front,
         ends,
         lanes,
     } = stage;
-    match settle_all(alloc, broker, &[], ends, lanes) {
+    let mut front = front;
+    match settle_all(alloc, broker, &mut front, &[], ends, lanes) {
         Ok(settlement) => Ok(settlement),
         Err(back) => Err((
             back.fault,
             Stage {
                 broker: back.broker,
+                front,
                 ends: back.ends,
                 lanes: back.lanes,
             },
@@ -146,14 +184,14 @@ fn settle_stage(alloc: Global, stage: Stage) -> Result<Settlement, (SettleAllFau
 }
 
 // Ends a stage, and tells why.
-fn give_up(_stage: Stage, fault: Fault) -> Fault {
+fn give_up<B: Room>(_stage: Stage<B>, fault: Fault) -> Fault {
     fault
 }
 
 // Says to what the broker of a stage came that came back before.
-fn tell_again(
+fn tell_again<B: Room>(
     rt: &HostRuntime,
-    settled: Result<Settlement, (SettleAllFault, Stage)>,
+    settled: Result<Settlement, (SettleAllFault, Stage<B>)>,
 ) -> Result<(), Fault> {
     match settled {
         Ok(settlement) => tell_settlement(rt, settlement),
@@ -162,8 +200,8 @@ fn tell_again(
 }
 
 // Settles a broker that came back.
-fn settle_again(rt: &HostRuntime, stage: Stage) -> Result<(), Fault>
-    requires { IsStage stage }
+fn settle_again<B: Room>(rt: &HostRuntime, stage: Stage<B>) -> Result<(), Fault>
+    requires { IsStage B.board stage }
 {
     let said = tell_want(rt, "broker");
     let done = tell_again(rt, settle_stage(rt.alloc(), stage));
@@ -172,8 +210,8 @@ fn settle_again(rt: &HostRuntime, stage: Stage) -> Result<(), Fault>
 }
 
 // Settles the broker of a stage, once more where that wants memory.
-fn settle(rt: &HostRuntime, stage: Stage) -> Result<(), Fault>
-    requires { IsStage stage }
+fn settle<B: Room>(rt: &HostRuntime, stage: Stage<B>) -> Result<(), Fault>
+    requires { IsStage B.board stage }
 {
     match settle_stage(rt.alloc(), stage) {
         Ok(settlement) => tell_settlement(rt, settlement),
@@ -194,16 +232,17 @@ fn tell_counts(rt: &HostRuntime, counts: &Counts) -> Result<(), Fault> {
 }
 
 // Runs the lanes of a stage, and says what their gate counted.
-fn run<R: Threads + Wait + Sync>(
+fn run<B: Room + Send + Sync, R: Threads + Wait + Sync>(
     rt: &R,
     host: &HostRuntime,
-    stage: Stage,
-) -> (Stage, Result<(), Fault>)
-    requires { IsStage stage }
-    ensures { IsStage result.0 }
+    stage: Stage<B>,
+) -> (Stage<B>, Result<(), Fault>)
+    requires { IsStage B.board stage }
+    ensures { IsStage B.board result.0 }
 {
     let Stage {
         broker,
+        front,
         ends,
         lanes,
     } = stage;
@@ -212,6 +251,7 @@ fn run<R: Threads + Wait + Sync>(
     let said = tell_counts(host, &counts);
     let stage = Stage {
         broker,
+        front,
         ends,
         lanes,
     };
@@ -219,8 +259,12 @@ fn run<R: Threads + Wait + Sync>(
 }
 
 // Serves what was published on a stage, and settles its broker.
-fn serve<R: Threads + Wait + Sync>(rt: &R, host: &HostRuntime, stage: Stage) -> Result<(), Fault>
-    requires { IsStage stage }
+fn serve<B: Room + Send + Sync, R: Threads + Wait + Sync>(
+    rt: &R,
+    host: &HostRuntime,
+    stage: Stage<B>,
+) -> Result<(), Fault>
+    requires { IsStage B.board stage }
 {
     let (stage, ran) = run(rt, host, stage);
     match ran {
@@ -230,34 +274,48 @@ fn serve<R: Threads + Wait + Sync>(rt: &R, host: &HostRuntime, stage: Stage) -> 
 }
 
 // Publishes packets while the lanes make no turn, and serves them.
-fn publish<R: Threads + Wait + Sync>(
+fn publish<B: Room + Send + Sync, R: Threads + Wait + Sync>(
     rt: &R,
     host: &HostRuntime,
-    stage: Stage,
+    stage: Stage<B>,
     gate: &LoadGate,
 ) -> Result<(), Fault>
-    requires { IsStage stage }
+    requires { IsStage B.board stage }
 {
     let stage = run_stage(rt, host.alloc(), stage, &PLAN, PACKETS, gate);
     serve(rt, host, stage)
 }
 
-// Opens the stage of the plan.
-fn open_planned<R: Wait>(rt: &R, alloc: Global) -> Result<Stage, Fault>
-    ensures { IfOk result IsStage }
+// Opens the stage of the plan over a broker that gets its name.
+fn open_planned<B: Room>(alloc: Global, unnamed: UnnamedBroker) -> Result<Stage<B>, Fault>
+    requires { (unnamed.board ≡ B.board) × (unnamed.core ≡ B.opened) }
+    ensures { IfOk result (IsStage B.board) }
 {
-    let broker = open(rt, alloc)?;
-    match open_stage(alloc, broker, &PLAN, 1) {
+    let (broker, front) = name_broker::<B>(unnamed)?;
+    match open_stage(alloc, broker, front, &PLAN, 1) {
         Ok(stage) => Ok(stage),
         Err(why) => Err(Fault::from(why)),
+    }
+}
+
+// Serves the packets of a queue of such a broker.
+fn serve_named<B: Room + Send + Sync, R: Threads + Wait + Sync>(
+    rt: &R,
+    host: &HostRuntime,
+    unnamed: UnnamedBroker,
+    gate: &LoadGate,
+) -> Result<(), Fault>
+    requires { (unnamed.board ≡ B.board) × (unnamed.core ≡ B.opened) }
+{
+    match open_planned::<B>(host.alloc(), unnamed) {
+        Ok(stage) => publish(rt, host, stage, gate),
+        Err(fault) => Err(fault),
     }
 }
 
 /// Serves the packets of a queue, each once more where that wants memory, and settles the broker.
 pub fn serve_queue<R: Threads + Wait + Sync>(rt: &R, host: &HostRuntime) -> Result<(), Fault> {
     let gate = LoadGate::with_turns(host.alloc(), 1, PACKETS, 0)?;
-    match open_planned(rt, host.alloc()) {
-        Ok(stage) => publish(rt, host, stage, &gate),
-        Err(fault) => Err(fault),
-    }
+    let unnamed = open(host.alloc())?;
+    serve_named::<Brand, R>(rt, host, unnamed, &gate)
 }

@@ -22,7 +22,7 @@ use std::thread::Threads;
 fn call_all<R: Threads + Wait + Sync>(rt: &R, host: &HostRuntime) -> Result<(), Fault> {
     replay_steps(host)?;
     open_ring(host)?;
-    open_queues(rt, host)?;
+    open_queues(host)?;
     serve_queue(rt, host)
 }
 

@@ -1,6 +1,5 @@
 -- What the steps of an opening say.
-use Rattle.std.specs.Prelude.{◌≡◌, ◌≤◌, ℕ, Bool, true, List, [], ◌∷◌, ◌++◌, map, None, is_some}
-use Rattle.aql_packet.specs.Ring.{is_ring_size}
+use Rattle.std.specs.Prelude.{◌≡◌, ◌≤◌, ℕ, true, List, [], ◌∷◌, ◌++◌, map, None}
 use Rattle.aql_packet.specs.declared.ids.QueueId.{QueueId}
 use Rattle.core_model.specs.declared.event.Event.{Event}
 use Rattle.core_model.specs.declared.limits.TheConstants.{QUEUES}
@@ -12,14 +11,11 @@ use Rattle.ring_core.specs.Machine.{is_producer_count}
 use Rattle.ring.specs.Dealt.{dealt, new_processor_pass}
 use Rattle.client_threads.specs.declared.client_end.ClientEnd.{ClientEnd}
 use Rattle.client_threads.specs.declared.opening.Beside.{Beside}
+use Rattle.client_threads.specs.Boards.{PassSeen}
 use Rattle.client_threads.specs.Desks.{seen}
 use Rattle.client_threads.specs.Lanes.{LaneSeen}
 use Rattle.client_threads.specs.Opening.{as_end, next_queue}
 use Rattle.client_threads.specs.Rings.{QueueRing, ring_of}
-
--- whether there is a ring of a queue
-abbrev pub has_ring_of : ℕ → List QueueRing → Bool
-has_ring_of queue rings = is_some (ring_of queue rings)
 
 -- an opening makes this queue, which is the next and has no ring
 pub record IsOpenable (rings : List QueueRing) (history : History) (event : Event) (queue : QueueId) : Type 0 where
@@ -29,13 +25,13 @@ pub record IsOpenable (rings : List QueueRing) (history : History) (event : Even
   pub fresh : ring_of queue.0 rings ≡ None
 
 -- this was made for a queue: a ring of this size, its ends and its lane
-pub record IsBeside (queue : QueueId) (size producers : ℕ) (made : Beside) : Type 0 where
+pub record IsBeside (queue : QueueId) (size producers : ℕ) (front : PassSeen) (made : Beside) : Type 0 where
   pub queue_is : made.desk.queue ≡ queue
   pub size_is : (seen made.desk).ring.size ≡ size
   pub producers_is : (seen made.desk).ring.producers ≡ producers
   pub few : is_producer_count producers ≡ true
   pub ends_are : made.ends.items ≡ map (as_end queue) (dealt (seen made.desk).ring.table producers)
-  pub lane_is : made.lane ≡ record { queue = queue; pass = new_processor_pass (seen made.desk).ring.table; served = []; pending = [] }
+  pub lane_is : made.lane ≡ record { queue = queue; pass = new_processor_pass (seen made.desk).ring.table; served = []; pending = []; front = front }
 
 -- it is the broker's from now on
 pub record HasEntered (made : Beside) (old new : List QueueRing) (queue : QueueId) (ends : List ClientEnd) (lane : LaneSeen) : Type 0 where

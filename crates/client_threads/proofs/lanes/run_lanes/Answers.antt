@@ -2,4 +2,4 @@ use Rattle.client_threads.proofs.GoingOn.{all_still_of}
 use Rattle.client_threads.proofs.lanes.run_lanes.Goals as goal
 
 pub returns-clause-lanes : goal.returns-clause-lanes
-returns-clause-lanes g c = all_still_of c.args.broker.now c.args.lanes.items c.run_any.result.items c.run_any.ensures.count c.requires c.run_any.ensures.each
+returns-clause-lanes g c = all_still_of g.B.Room.board c.args.broker.now c.args.lanes.items c.run_any.result.items c.run_any.ensures.count c.run_any.ensures.each

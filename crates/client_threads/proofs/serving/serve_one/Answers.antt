@@ -6,7 +6,7 @@ use Rattle.client_threads.specs.Serving.{take_of}
 use Rattle.ring.specs.declared.processor.Peeked.TheVariants as peeked
 use Rattle.client_threads.proofs.KeptLanes.{looked_keeps, served_keeps, is_served, pending_below, pending_more, map_length}
 use Rattle.client_threads.proofs.Calls.{answered_meets, left_due, refused_leaves_or_lacks, waiting_leaves}
-use Rattle.client_threads.proofs.Room.{room_got}
+use Rattle.client_threads.proofs.Reserving.{room_got}
 use Rattle.client_threads.proofs.serving.serve_one.Goals as goal
 use Rattle.client_threads.proofs.serving.serve_one.Goals.{then-is_err-via-then-is_err, then-is_err-via-else-is_err+then-is_err-2}
 

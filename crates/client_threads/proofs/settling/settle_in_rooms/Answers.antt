@@ -6,8 +6,8 @@ use Rattle.client_threads.specs.Lanes.{LaneSeen}
 use Rattle.client_threads.specs.Takes.{served_by, takes}
 use Rattle.client_threads.proofs.settling.settle_in_rooms.Goals as goal
 
-pub returns : goal.returns
-returns c = (
+pub returns-clause-settled : goal.returns-clause-settled
+returns-clause-settled c = (
   c.requires.led,
   λ queue. ap (λ (es : List Entry). takes (entries_in c.args.parts.now ++ es) queue) (sym c.audit.ensures.entries) ∙ c.in_default.ensures.same queue
       ∙ ap (λ (ls : List LaneSeen). served_by ls queue) c.as_slice.ensures.value,

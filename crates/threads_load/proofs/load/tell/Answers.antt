@@ -7,9 +7,9 @@ use Rattle.threads_load.proofs.Endings.{tells_plan}
 use Rattle.threads_load.proofs.load.tell.Goals as goal
 
 pub returns : goal.returns
-returns c =
+returns c = λ opened ends.
     let ended = c.args.ended in
     let report : IfOk c.report_load-report.result (λ text. string_bytes text ≡ text_of_report (beginning ended.core.history) ended.part.entries ended.core.history.entries c.args.plan.now ended.ending) =
     subst (λ (es : List Entry). IfOk c.report_load-report.result (λ text. string_bytes text ≡ text_of_report (beginning ended.core.history) es ended.core.history.entries c.args.plan.now ended.ending))
     c.entries-handed_out.ensures c.report_load-report.ensures in
-    tells_plan c.args.plan.now ended string_bytes c.report_load-report.result c.load_of.result (λ load. load.report) c.requires report c.load_of.ensures
+    tells_plan opened c.args.plan.now ended string_bytes c.report_load-report.result c.load_of.result (λ load. load.report) ends report c.load_of.ensures

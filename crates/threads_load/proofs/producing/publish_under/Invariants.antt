@@ -3,4 +3,4 @@ use Rattle.client_threads.specs.Running.{IsEndOf}
 use Rattle.threads_load.proofs.producing.publish_under.Given as goal
 
 abbrev pub invariant-loop-again : goal.invariant-loop-again
-invariant-loop-again l = IsEndOf l.broker l.end × IsOpen l.ticket.id.0 l.end.pass
+invariant-loop-again g l = IsEndOf l.broker l.end × IsOpen l.ticket.id.0 l.end.pass

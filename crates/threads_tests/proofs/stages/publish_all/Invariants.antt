@@ -2,4 +2,4 @@ use Rattle.client_threads.specs.Running.{IsEndOf}
 use Rattle.threads_tests.proofs.stages.publish_all.Given as goal
 
 abbrev pub invariant-loop-turn : goal.invariant-loop-turn
-invariant-loop-turn l = IsEndOf l.broker l.end
+invariant-loop-turn g l = IsEndOf l.broker l.end

@@ -6,7 +6,8 @@ use Rattle.client_threads.specs.Running.{IsEndOf}
 use Rattle.threads_tests.proofs.stages.with_end.Goals as goal
 
 pub returns-in-Ok : goal.returns-in-Ok
-returns-in-Ok c = record {
+returns-in-Ok g c = record {
+  front = c.requires.stage.front;
   ends = subst (λ (ends : List ClientEnd). All (λ end. IsEndOf c.args.stage.broker end) ends) (sym c.in-Ok.ensures.items)
       (All-push (λ end. IsEndOf c.args.stage.broker end) c.args.stage.ends.items c.args.end c.requires.stage.ends c.requires.end);
   lanes = c.requires.stage.lanes;

@@ -7,11 +7,12 @@ use Rattle.client_threads.specs.Running.{IsEndOf, IsLaneOf}
 use Rattle.wants.proofs.broker.settle_stage.Goals as goal
 
 pub returns-in-Err : goal.returns-in-Err
-returns-in-Err c =
+returns-in-Err g c =
     let back = c.in-Err.ensures.back in
     record {
+      front = c.requires.front;
       ends = subst (λ (rings : List QueueRing). All (λ end. IsEndOf rings end) c.in-Err.back.ends.items) (sym back.0)
           (subst (λ (ends : List ClientEnd). All (λ end. IsEndOf c.args.stage.broker end) ends) (sym back.1) c.requires.ends);
-      lanes = subst (λ (rings : List QueueRing). All (λ lane. IsLaneOf rings lane) c.in-Err.back.lanes.items) (sym back.0)
-          (subst (λ (lanes : List LaneSeen). All (λ lane. IsLaneOf c.args.stage.broker lane) lanes) (sym back.2) c.requires.lanes);
+      lanes = subst (λ (rings : List QueueRing). All (λ lane. IsLaneOf g.B.Room.board rings lane) c.in-Err.back.lanes.items) (sym back.0)
+          (subst (λ (lanes : List LaneSeen). All (λ lane. IsLaneOf g.B.Room.board c.args.stage.broker lane) lanes) (sym back.2) c.requires.lanes);
     }

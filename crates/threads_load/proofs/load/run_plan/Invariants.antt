@@ -1,0 +1,4 @@
+use Rattle.threads_load.proofs.load.run_plan.Given as goal
+
+abbrev pub ghosts-run_named : goal.ghosts-run_named
+ghosts-run_named g a = record { board = a.unnamed.board; opened = a.unnamed.core }
