@@ -5,8 +5,11 @@ The last line is `N passed, M failed` over all, and the status is 0 only where n
 program that it has proved as crates/NAME/out/NAME. With a path, gate.py PROGRAM, the trials alone are run, on that one
 in place of brokerd.
 """
+import importlib.machinery
+import importlib.util
 import os
 import re
+import shutil
 import subprocess
 import sys
 
@@ -31,6 +34,34 @@ def told(words):
     return passed, max(failed, 1) if command.returncode else failed
 
 
+def know_proved_libraries():
+    """Has `rt lib` know the libraries that `rt ci` has just proved.
+
+    The gate leaves each without the sum of the texts that it was made of, so the archive for C would have all below it proved
+    once more. The sums are reckoned here by the toolchain's own code, of the very texts that the gate has read."""
+    path = f"{os.path.dirname(os.path.realpath(shutil.which('rt')))}/rtlib.py"
+    loader = importlib.machinery.SourceFileLoader("rtlib", path)
+    rtlib = importlib.util.module_from_spec(importlib.util.spec_from_loader("rtlib", loader))
+    sys.modules["rtlib"] = rtlib
+    loader.exec_module(rtlib)
+    for crate in rtlib.crates_below(TOP):
+        kept = f"{crate.folder}/out/rlib"
+        if os.path.isdir(kept) and not os.path.exists(f"{kept}/stamp"):
+            with open(f"{kept}/stamp", "w", encoding="utf-8") as it:
+                it.write(crate.stamp())
+
+
+def build_archive():
+    """Builds the archive for C anew; without it tests/c.py tries that once more, and fails."""
+    try:
+        know_proved_libraries()
+    except (AttributeError, ImportError, OSError, SystemExit) as error:
+        print(f"the libraries for the archive are proved once more: {error}", flush=True)
+    if os.path.exists(ARCHIVE):
+        os.remove(ARCHIVE)
+    subprocess.run(["rt", "lib"], cwd=os.path.dirname(os.path.dirname(ARCHIVE)), stdin=subprocess.DEVNULL)
+
+
 def written_anew():
     """Whether the cases that are written by a script here are those that it writes."""
     scripts = [(["turned_bits.py", it], None, f"turned_{it}.case") for it in ("fill", "kernel", "barrier_and", "barrier_or")]
@@ -48,6 +79,8 @@ def written_anew():
 
 def main(program=None):
     counts = [] if program else [told(["rt", "ci"])]
+    if not program:
+        build_archive()
     program = program or f"{TOP}/crates/brokerd/out/brokerd"
     counts.append(written_anew())
     for script, tried in [*((it, program) for it in TRIALS), ("joins.py", JOINS), ("wants.py", WANTS), ("c.py", ARCHIVE)]:
