@@ -78,11 +78,11 @@ def written_anew():
 
 
 def main(program=None):
-    counts = [] if program else [told(["rt", "ci"])]
+    counts = [written_anew()]
     if not program:
+        counts.append(told(["rt", "ci"]))
         build_archive()
-    program = program or f"{TOP}/crates/brokerd/out/brokerd"
-    counts.append(written_anew())
+        program = f"{TOP}/crates/brokerd/out/brokerd"
     for script, tried in [*((it, program) for it in TRIALS), ("joins.py", JOINS), ("wants.py", WANTS), ("c.py", ARCHIVE)]:
         print(f"== {script}", flush=True)
         counts.append(told([sys.executable, "-B", f"{HERE}/{script}", os.path.abspath(tried)]))
