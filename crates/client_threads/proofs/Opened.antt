@@ -153,7 +153,7 @@ module _ (rings : List QueueRing) (h : History) (client : ClientId) (agent : Age
   refused_meets why e = inl (record { reply_is = sym (ap reply_of e); history_is = sym (ap (history_after h Asked) e) })
 
   pub due_lacks : (queue : QueueId) → due h Asked ≡ enters (outcome.Opened queue) [] → MeetsOrLacks Asked h h (Err refusal.OutOfMemory)
-  due_lacks queue e = inr (record { may = ap (may_lack_memory Asked) e; reply_is = refl; history_is = refl })
+  due_lacks queue e = inr (record { may = ap (may_lack_memory Asked) e; asks = refl; reply_is = refl; history_is = refl })
 
   pub lacks : (queue : QueueId) → IsOpenable rings h Asked queue → MeetsOrLacks Asked h h (Err refusal.OutOfMemory)
   lacks queue o = due_lacks queue o.due_is
