@@ -1,6 +1,7 @@
-use Rattle.std.proofs.Common.{List, sym, subst}
+use Rattle.std.proofs.Common.{List, sym, subst, ap, ◌∙◌}
 use Rattle.std.specs.Prelude.{All}
 use Rattle.client_threads.specs.declared.client_end.ClientEnd.{ClientEnd}
+use Rattle.client_threads.specs.Boards.{PassSeen}
 use Rattle.client_threads.specs.Lanes.{LaneSeen}
 use Rattle.client_threads.specs.Rings.{QueueRing}
 use Rattle.client_threads.specs.Running.{IsEndOf, IsLaneOf}
@@ -10,7 +11,7 @@ pub returns-in-Err-clause-stage : goal.returns-in-Err-clause-stage
 returns-in-Err-clause-stage g c =
     let back = c.in-Err.ensures.back in
     record {
-      front = c.requires.front;
+      front = ap (λ (f : PassSeen). f.board) c.in-Err.ensures.front ∙ c.requires.front;
       ends = subst (λ (rings : List QueueRing). All (λ end. IsEndOf rings end) c.in-Err.back.ends.items) (sym back.0)
           (subst (λ (ends : List ClientEnd). All (λ end. IsEndOf c.args.stage.broker end) ends) (sym back.1) c.requires.ends);
       lanes = subst (λ (rings : List QueueRing). All (λ lane. IsLaneOf g.B.Room.board rings lane) c.in-Err.back.lanes.items) (sym back.0)
