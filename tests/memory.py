@@ -220,7 +220,8 @@ def try_row(trials, memory, row, first):
     if row.is_new and trial.whole.status == 2:
         print(f"skipped {row.name}: this program has no such command")
         return
-    if row.form != "text" and (trial.whole.status != 0 or row.form == "script" and len(trial.replies) != len(trial.asked)):
+    is_short = row.form == "script" and len(trial.replies) != len(trial.asked)
+    if row.form != "text" and (trial.whole.status != 0 or is_short or WANT.encode() in trial.whole.out):
         trials.every(f"{row.name} runs with memory", lambda _: f"{trial.whole}", [row.name])
         return
     # (of a run with threads no request has a number of its own, so some of them are enough)
