@@ -103,15 +103,29 @@ fn parts_are_joined_in_their_order(rt: HostRuntime) -> Result<(), Fail> {
     Ok(())
 }
 
+fn joined_to(alloc: Global, first: Part, second: Part) -> Option<Part> {
+    joined(alloc, first, second).ok()
+}
+
+/// Whether a part is there that has the one entry.
+fn has_one(all: &Option<Part>) -> bool {
+    match all {
+        Some(all) => counts(all) == (0, 1) && all.end().before == 1,
+        None => false,
+    }
+}
+
+/// Whether a part without entries is joined to what two others made.
+fn join_last(alloc: Global, both: Option<Part>, none_more: Part) -> bool {
+    match both {
+        None => false,
+        Some(both) => has_one(&joined_to(alloc, both, none_more)),
+    }
+}
+
 /// Whether a part without entries, one of one entry, and another without are joined one after the other.
 fn join_three(alloc: Global, none: Part, one: Part, none_more: Part) -> bool {
-    match joined(alloc, none, one) {
-        Err(_) => false,
-        Ok(both) => match joined(alloc, both, none_more) {
-            Err(_) => false,
-            Ok(all) => counts(&all) == (0, 1) && all.end().before == 1,
-        },
-    }
+    join_last(alloc, joined_to(alloc, none, one), none_more)
 }
 
 /// Whether the next part, which has no entry, is joined to two of which the first has none.
