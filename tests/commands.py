@@ -232,6 +232,60 @@ RELOADS = [
 ]
 
 
+# what comes behind long lines and long replies, so that there is room for each line and each reply, and all requests for
+# memory are the calls' own
+IN_ROOM = [
+    *PRELUDE,
+    "write alice 0000000200000000 0000000001000000",
+    f"submit 1 1 {FILL}",
+    "serve 1",
+    "run 1 0",
+    "finish 1 0",
+    "signal alice done store 1",
+    *["audit"] * 12,
+    f"submit 1 1 {FILL}",
+    "serve 1",
+    "serve 1",
+    "take 1",
+    "retire 1",
+    "run 1 1",
+    "finish 1 1",
+    "queue alice gpu 4 1",
+    "stop 2",
+    "submit 2 1 " + "00" * 64,
+    "serve 2",
+    "errors 2",
+    f"submit 1 2 {BARRIER}",
+    "serve 1",
+    "signal alice done store 0",
+    "poll 1 2",
+    "signal alice go store 0",
+    "poll 1 2",
+    "finish 1 2",
+    "load alice done",
+    "read alice 0000000100000000 8",
+    "test alice done EQ -1",
+    "grant bob region buf READ",
+    "list bob",
+    "revoke bob region buf READ",
+    "list bob",
+    "rotate",
+    "reserve 1 1",
+    "room 1 1 3",
+    f"publish 1 1 3 {KERNEL}",
+    "serve 1",
+    "run 1 3",
+    "run 1 3",
+    "finish 1 3",
+    "revoke alice agent gpu USE",
+    f"submit 1 2 {FILL}",
+    "serve 1",
+    "errors 1",
+    "list alice",
+    "audit",
+]
+
+
 def large_policy():
     """A policy with more rows, and kernels with group memory and all kinds of items."""
     rows = [f'[[client]]\nname = "client{it}"\n' for it in range(9)]
@@ -328,6 +382,7 @@ def rows(room):
         Row("assemble of a fault", ["assemble", SAMPLE], [*READABLE[:9], "fill 1 1 nowhere length 4 with 1"]),
         Row("a short script", ["run", file("small.toml"), *few], SHORT, "script"),
         Row("a script of all forms", ["run", SAMPLE, *few], FORMS, "script"),
+        Row("a script with room", ["run", SAMPLE, *few], IN_ROOM, "script"),
         Row("a script of kernels", ["run", SAMPLE, *few], KERNELS, "script", shares_front=True),
         Row("a script of groups", ["run", file("reverse.toml"), *few], GROUPS, "script"),
         Row("a strict run", ["run", SAMPLE, "--strict", *few], DONE, "strict"),

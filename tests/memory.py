@@ -1,12 +1,17 @@
 #!/usr/bin/env python3
-"""Has each request for memory of some runs refused in turn, once, and from then on: memory.py PROGRAM
+"""Has each request for memory of some runs refused in turn, once, a few in a row, and from then on: memory.py PROGRAM
 
 The runs are those of tests/commands.py. With one request refused, a run ends with status 3 and `no memory` behind a
 beginning of its replies; or a line is answered `refused 0 OutOfMemory` in place of its reply, and from there on all is
 as if that line had not been; and where the line is asked again, with memory, it is answered as if it had not been asked
-before. (A line that stands for several requests in turn may be refused behind any of them: then those before it were
-made.) Or nobody needed the memory, and the run is as ever. What takes no memory is never refused for want of it. With
-all requests refused from one on, a run ends with status 3 and `no memory`.
+before. (A `serve` that is refused has collected the packet: then all is as if the line had been a `peek`.) Or nobody
+needed the memory, and the run is as ever. What takes no memory is never refused for want of it, and nothing is that is
+owed a refusal (`may_want` has what is left out).
+
+With all requests refused from one on, a script goes on with the lines that need no memory, and their replies are those
+of the script without the lines that were refused; it ends with its last line, or with status 3 and `no memory` where it
+can't read a line or write a reply. So with some requests in a row, behind which there is memory once more. Any other run
+ends with status 3 and `no memory`.
 """
 import functools
 import os
@@ -18,30 +23,34 @@ import commands
 from trial import SAMPLE, Trials, blocks, library_of, run, text
 
 WANT = "refused 0 OutOfMemory"
-# what takes no memory, and so isn't refused for want of it
-TAKES_NONE = ("finish", "revoke", "stop", "signal", "load", "test")
 NO_MEMORY = b"no memory\n"
+# what takes no memory, and so isn't refused for want of it: these calls and steps, and what has nothing to tell
+TAKES_NONE = ("grant", "revoke", "finish", "stop", "poll", "signal", "load", "test")
+STEPS = ("room", "word", "publish", "look", "part", "peek", "clear", "advance", "retire")
+NOTHING_TOLD = ("waiting ", "list 0", "errors 0", "audit 0", "done")
 
 
-def elementary(line, reply):
-    """The requests that a line stands for, in turn, as lines of their own; none for a line that is one request."""
-    words = line.split(" ")
-    form, rest = words[0], words[1:]
-    if form == "submit":
-        ticket = next((it for it in reply.split(" ") if it.isdigit()), "0")
-        return [f"reserve {rest[0]} {rest[1]}", *elementary(f"publish {rest[0]} {rest[1]} {ticket} {rest[2]}", reply)]
-    if form == "publish":
-        seat, packet = " ".join(rest[:3]), rest[3]
-        word = [f"word {seat} {k} {packet[16 * k : 16 * k + 16]}" for k in (1, 2, 3, 4, 5, 6, 7, 0)]
-        return [f"room {seat}", *word]
-    collected = [f"look {rest[0]}", *(f"part {rest[0]} {k}" for k in range(1, 8))] if rest else []
-    if form == "peek":
-        return collected
-    if form == "retire":
-        return [f"clear {rest[0]}", f"advance {rest[0]}"]
-    if form == "serve":
-        return [*collected, f"take {rest[0]}", f"clear {rest[0]}", f"advance {rest[0]}"]
-    return []
+def may_want(line, owed):
+    """Whether a line may be refused for want of memory that is owed this reply with memory: none that is owed a refusal, but a
+    `reload`, which copies the policy that it hands in, and a `run` where the audit is full, since a work-group runs before it
+    is known whether its entry needs room."""
+    form = line.split(" ")[0]
+    refused = owed.startswith("refused ") and form != "reload" and not (form == "run" and owed == "refused 10 AuditFull")
+    return not refused and form not in TAKES_NONE and form not in STEPS and not owed.startswith(NOTHING_TOLD)
+
+
+def without(script, refused):
+    """A script in which in place of the refused lines stands what they did before they wanted memory, and the places there
+    of its other lines: `submit` wants it for its ticket, before all else, and `serve` once it has collected the packet."""
+    lines, places = [], []
+    for at, line in enumerate(script):
+        form, *rest = line.split(" ")
+        if at not in refused:
+            places.append(len(lines))
+            lines.append(line)
+        elif form == "serve":
+            lines.append(f"peek {rest[0]}")
+    return tuple(lines), places
 
 
 class Memory:
@@ -50,8 +59,8 @@ class Memory:
     def __init__(self, program, library, room):
         self.program, self.library, self.room = program, library, room
 
-    def run(self, words, given, at=0, on=False, count=None, seconds=60):
-        env = {"LD_PRELOAD": self.library, "REFUSE_AT": str(at)}
+    def run(self, words, given, at=0, on=False, count=None, seconds=60, row=1):
+        env = {"LD_PRELOAD": self.library, "REFUSE_AT": str(at), "REFUSE_FOR": str(row)}
         env.update({"REFUSE_ON": "1"} if on else {}, **({"REFUSE_COUNT": count} if count else {}))
         return run([self.program, *words], given, env, seconds)
 
@@ -105,7 +114,7 @@ class TextTrial:
         replies, whole = blocks(asked, ended.out), blocks(asked, self.whole.out)
         if ended.err or not replies or replies[-1] != WANT or replies[:-1] != whole[: len(replies) - 1]:
             return f"it ended otherwise: {ended}"
-        return None if asked[len(replies) - 1].split(" ")[0] not in TAKES_NONE else f"{ended}: refused, though it takes no memory"
+        return None if may_want(asked[len(replies) - 1], whole[len(replies) - 1]) else f"{ended}: refused, though it takes no memory"
 
     def from_then_on(self, at):
         # (threads that were begun may have what they need, or try again and again in vain, up to 10,000,000 times)
@@ -124,27 +133,36 @@ class ScriptTrial:
 
     def __init__(self, memory, row):
         self.memory, self.words = memory, row.words
-        self.lines = self.asked = [it for it in row.lines if it and not it.startswith("#")]
-        self.whole, self.requests = memory.count(row.words, text(self.lines))
+        self.asked = tuple(it for it in row.lines if it and not it.startswith("#"))
+        self.whole, self.requests = memory.count(row.words, text(self.asked))
         self.replies = blocks(self.asked, self.whole.out)
         self.found = {"as ever": 0, "ended": 0, "refused": 0}
-        self.refused = set()
+        self.refused, self.most = set(), 0
 
     @functools.lru_cache(maxsize=None)
-    def replies_without(self, at, made, again):
-        """The replies to the lines behind that at a place, where only so many of its requests were made (and where it is asked again)."""
-        steps = elementary(self.asked[at], self.replies[at])[:made]
-        script = self.asked[:at] + steps + self.asked[at if again else at + 1 :]
+    def replies_to(self, script):
+        """The replies to a script with memory, or none where it doesn't come to its end."""
         ended = self.memory.run(self.words, text(script))
-        return blocks(script, ended.out)[at + len(steps) :] if ended.status == 0 else None
+        return blocks(script, ended.out) if (ended.status, ended.err) == (0, b"") else None
 
-    def made(self, at, behind, again):
-        """How many requests of a line were made for the replies behind it to be these, or none."""
-        most = max(1, len(elementary(self.asked[at], self.replies[at])))
-        return next((it for it in range(most) if self.replies_without(at, it, again) == behind), None)
+    def is_as_without(self, script, replies):
+        """What is wrong with the replies to a script, or to its first lines, of which some were refused for want of memory:
+        the others are as if the refused ones had not been, and the first of these was owed more than a refusal."""
+        refused = frozenset(at for at, reply in enumerate(replies) if reply == WANT)
+        self.refused |= {script[at].split(" ")[0] for at in refused}
+        self.most = max(self.most, len(refused))
+        lines, places = without(script, refused)
+        owed = self.replies_to(lines)
+        if owed is None or len(owed) != len(lines):
+            return f"without the refused lines {sorted(refused)} it doesn't come to its end"
+        others = [at for at in range(len(replies)) if at not in refused]
+        wrong = next((at for at, place in zip(others, places) if replies[at] != owed[place]), None)
+        if wrong is not None:
+            return f"line {wrong + 1}, {script[wrong]}: not as if the lines at {sorted(refused)} had not been: {replies[wrong]}"
+        return next((f"line {at + 1}, {script[at]}: refused, though it takes no memory" for at in refused if not may_want(script[at], "")), None)
 
     def once(self, number):
-        ended = self.memory.run(self.words, text(self.lines), number)
+        ended = self.memory.run(self.words, text(self.asked), number)
         if ended == self.whole:
             self.found["as ever"] += 1
             return None
@@ -152,39 +170,48 @@ class ScriptTrial:
             self.found["ended"] += 1
             return starves(ended, self.whole)
         replies = blocks(self.asked, ended.out)
-        at = next((at for at, pair in enumerate(zip(replies, self.replies)) if pair[0] != pair[1]), None)
-        if at is None or replies[at] != WANT or ended.err:
+        if ended.err or replies is None or len(replies) != len(self.asked) or replies.count(WANT) != 1:
             return f"another reply: {ended}"
-        form = self.asked[at].split(" ")[0]
-        if form in TAKES_NONE or (form == "take" and self.replies[at].startswith("waiting")):
-            return f"line {at + 1}, {self.asked[at]}: refused, though it takes no memory"
-        self.refused.add(form)
-        if self.made(at, replies[at + 1 :], False) is None:
-            return f"line {at + 1}, {self.asked[at]}: not as if it had not been asked: {replies[at + 1 :]}"
+        at = replies.index(WANT)
+        if not may_want(self.asked[at], self.replies[at]):
+            return f"line {at + 1}, {self.asked[at]}: refused, though it takes no memory, or is owed a refusal"
         self.found["refused"] += 1
+        return self.is_as_without(self.asked, replies) or self.once_more(at, number)
+
+    def once_more(self, at, number):
+        """What is wrong where the line that is refused is asked again behind itself."""
         script = self.asked[: at + 1] + self.asked[at:]
         ended = self.memory.run(self.words, text(script), number)
         replies = blocks(script, ended.out)
-        if ended.status != 0 or replies[:at] != self.replies[:at] or replies[at] != WANT or self.made(at, replies[at + 1 :], True) is None:
-            return f"line {at + 1}, {self.asked[at]}: not as if it had not been asked before: {replies[at:]}"
-        return None
+        if (ended.status, ended.err) != (0, b"") or replies is None or len(replies) != len(script) or [at] != [it for it, reply in enumerate(replies) if reply == WANT]:
+            return f"line {at + 1}, {self.asked[at]}: asked again, it ended otherwise: {ended}"
+        return self.is_as_without(script, replies)
 
     def from_then_on(self, number):
-        """The replies are as with memory up to the first line that is refused for want of it. A reply needs none, once there
-        was room for one of its length: so the run goes on, and ends where a line's words or its reply want memory."""
-        ended = self.memory.run(self.words, text(self.lines), number, True)
+        """A reply needs no memory, once there was room for one of its length: so the run goes on, and ends where a line's words
+        or its reply want memory."""
+        return self.goes_on(self.memory.run(self.words, text(self.asked), number, True))
+
+    def for_a_while(self, number):
+        """With memory once more behind 2 to 9 requests in a row that were refused."""
+        return self.goes_on(self.memory.run(self.words, text(self.asked), number, row=2 + number % 8))
+
+    def goes_on(self, ended):
+        """What is wrong with a run of which several requests were refused."""
+        self.found["as ever" if ended == self.whole else "ended" if ended.status else "refused"] += 1
         replies = blocks(self.asked, ended.out)
         if replies is None or (ended.status, ended.err) not in ((0, b""), (3, NO_MEMORY)) or (ended.status == 0) != (len(replies) == len(self.asked)):
             return f"it ended otherwise: {ended}"
-        at = next((at for at, pair in enumerate(zip(replies, self.replies)) if pair[0] != pair[1]), len(replies))
-        if at < len(replies) and replies[at] != WANT:
-            return f"line {at + 1}, {self.asked[at]}: another reply: {ended}"
-        wrong = next((it for it in range(at, len(replies)) if replies[it] == WANT and self.asked[it].split(" ")[0] in TAKES_NONE), None)
-        return None if wrong is None else f"line {wrong + 1}, {self.asked[wrong]}: refused, though it takes no memory"
+        at = next((at for at, reply in enumerate(replies) if reply == WANT), None)
+        if at is not None and not may_want(self.asked[at], self.replies[at]):
+            return f"line {at + 1}, {self.asked[at]}: refused, though it takes no memory, or is owed a refusal"
+        return self.is_as_without(self.asked, replies)
 
     def note(self):
-        found = f"{self.found['refused']} lines refused and asked again, {self.found['ended']} runs ended, {self.found['as ever']} as ever"
-        return f" ({found}; refused: {' '.join(sorted(self.refused))})"
+        found = f"{self.found['refused']} lines refused, {self.found['ended']} runs ended, {self.found['as ever']} as ever"
+        told = f" ({found}; refused: {' '.join(sorted(self.refused))}; {self.most} in one run at most)"
+        self.found, self.refused, self.most = dict.fromkeys(self.found, 0), set(), 0
+        return told
 
 
 def try_row(trials, memory, row, first):
@@ -193,13 +220,16 @@ def try_row(trials, memory, row, first):
     if row.is_new and trial.whole.status == 2:
         print(f"skipped {row.name}: this program has no such command")
         return
-    if row.form != "text" and (trial.whole.status != 0 or row.form == "script" and len(trial.replies) != len(trial.asked)):
+    is_short = row.form == "script" and len(trial.replies) != len(trial.asked)
+    if row.form != "text" and (trial.whole.status != 0 or is_short or WANT.encode() in trial.whole.out):
         trials.every(f"{row.name} runs with memory", lambda _: f"{trial.whole}", [row.name])
         return
     # (of a run with threads no request has a number of its own, so some of them are enough)
     numbers = range(first, trial.requests + 1, max(1, trial.requests // 100) if row.form == "threads" else 1)
     trials.every(f"each request of {row.name} refused", trial.once, numbers, trial.note)
-    trials.every(f"all requests of {row.name} refused from one on", trial.from_then_on, numbers)
+    if row.form == "script":
+        trials.every(f"some requests of {row.name} in a row refused", trial.for_a_while, numbers, trial.note)
+    trials.every(f"all requests of {row.name} refused from one on", trial.from_then_on, numbers, trial.note if row.form == "script" else lambda: "")
 
 
 def try_small_machines(trials, program, room):

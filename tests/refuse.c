@@ -2,6 +2,7 @@
 
    REFUSE_AT=N      the N-th request, from 1, is refused; with 0, or without it, none is
    REFUSE_ON=1      so is each behind it
+   REFUSE_FOR=K     so are those behind it, K in a row
    REFUSE_COUNT=F   at the end the number of requests is written to the file F, also where the program leaves by _exit
 
    A request is a call of malloc, calloc, realloc, aligned_alloc, memalign or posix_memalign by the program, on whichever
@@ -22,8 +23,8 @@ static void *(*real_calloc)(size_t, size_t);
 static void *(*real_realloc)(void *, size_t);
 static void *(*real_aligned)(size_t, size_t);
 static void (*real_free)(void *);
-static unsigned long requests, refuse_at;
-static int from_then_on, is_ready;
+static unsigned long requests, refuse_at, in_a_row = 1;
+static int is_ready;
 static char early[65536];
 static size_t early_used;
 
@@ -44,7 +45,7 @@ static int is_early(const void *block)
 static int is_refused(void)
 {
     unsigned long request = __atomic_add_fetch(&requests, 1, __ATOMIC_SEQ_CST);
-    if (refuse_at != 0 && (request == refuse_at || (from_then_on && request > refuse_at))) {
+    if (refuse_at != 0 && request >= refuse_at && request - refuse_at < in_a_row) {
         errno = ENOMEM;
         return 1;
     }
@@ -53,14 +54,14 @@ static int is_refused(void)
 
 __attribute__((constructor)) static void begin(void)
 {
-    const char *at = getenv("REFUSE_AT");
+    const char *at = getenv("REFUSE_AT"), *row = getenv("REFUSE_FOR");
     real_calloc = dlsym(RTLD_NEXT, "calloc");
     real_malloc = dlsym(RTLD_NEXT, "malloc");
     real_realloc = dlsym(RTLD_NEXT, "realloc");
     real_aligned = dlsym(RTLD_NEXT, "aligned_alloc");
     real_free = dlsym(RTLD_NEXT, "free");
     refuse_at = at ? strtoul(at, NULL, 10) : 0;
-    from_then_on = getenv("REFUSE_ON") != NULL;
+    in_a_row = getenv("REFUSE_ON") ? (unsigned long)-1 : row ? strtoul(row, NULL, 10) : 1;
     is_ready = 1;
 }
 

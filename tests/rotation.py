@@ -1,8 +1,8 @@
 #!/usr/bin/env python3
 """Scripts with a `rotate` between any two of their lines answer as without: rotation.py PROGRAM
 
-All other replies are the same, and what is handed out, in order, with the audit at the end, is the audit of the run
-without rotations: no entry is lost, told twice or numbered anew.
+All other replies are the same, each rotation hands out what there is, and what is handed out, in order, with the audit at
+the end, is the audit of the run without rotations: no entry is lost, told twice or numbered anew.
 """
 import glob
 
@@ -14,6 +14,7 @@ TRIED = {
     "a barrier that is seen in turns": [*PRELUDE, f"submit 1 1 {BARRIER}", "serve 1", "signal alice done store 0", "poll 1 0", "signal alice done store 5", "signal alice go store 0", "poll 1 0", "finish 1 0"],
     "a queue that is stopped": [*PRELUDE, f"submit 1 1 {FILL}", "serve 1", "stop 1", "finish 1 0", "run 1 0", f"submit 1 1 {FILL}", "serve 1"],
     "rights that are held": [*PRELUDE, f"submit 1 1 {FILL}", "serve 1", "revoke alice region buf WRITE", "run 1 0", "finish 1 0", "revoke alice region buf WRITE", "list alice", "read alice 0000000100000000 8"],
+    "two queues, the second of another client": [*PRELUDE, "grant bob agent gpu USE", "queue bob gpu 2 1", f"submit 1 1 {FILL}", f"submit 2 1 {FILL}", "serve 1", "serve 2", "errors 2", "run 1 0", "finish 1 0"],
     "a packet that is denied": [*PRELUDE, "revoke alice agent gpu USE", f"submit 1 1 {FILL}", "serve 1", "errors 1", "list alice"],
 }
 
@@ -40,6 +41,9 @@ def rotated(program, script, every):
         return "it ended otherwise"
     if [reply for line, reply in zip(turned, told) if line != "rotate"][:-1] != plain[:-1]:
         return "another reply differs"
+    refused = [reply for line, reply in zip(turned, told) if line == "rotate" and not reply.startswith("rotated ")]
+    if refused:
+        return f"a rotation is answered {refused[0]}"
     handed_out = [entry for line, reply in zip(turned, told) if line in ("rotate", "audit") for entry in entries(reply)]
     return None if handed_out == entries(plain[-1]) else f"the entries are {handed_out}"
 

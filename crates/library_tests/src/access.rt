@@ -278,6 +278,43 @@ fn tells_entries(reply: Reply, count: usize) -> bool {
     }
 }
 
+/// Whether a core's audit is told, with so many entries.
+fn tells_audit(alloc: Global, core: &mut AccessCore, count: usize) -> bool {
+    tells_entries(core.serve(alloc, Request::Query(Query::Audit)), count)
+}
+
+/// Whether a core hands out its audit.
+fn rotates(alloc: Global, core: &mut AccessCore) -> bool {
+    core.rotate(alloc).is_ok()
+}
+
+/// Whether the audit is told before it is handed out and after that, with a packet in flight, once it ran, and once it is
+/// completed.
+fn tells_all_along(alloc: Global, core: &mut AccessCore) -> bool {
+    becomes(alloc, core, 0, &encode(&FILL), Ok(Taken::Launched))
+        && tells_audit(alloc, core, 7)
+        && rotates(alloc, core)
+        && tells_audit(alloc, core, 0)
+        && runs(alloc, core, Ok(Worked::Ran { group: 0, left: 0 }))
+        && tells_audit(alloc, core, 1)
+        && finishes(core, Ok(()))
+        && tells_audit(alloc, core, 2)
+}
+
+/// Whether an audit is told all along on a queue of Nora's.
+fn tells_its_audit(alloc: Global, mut core: AccessCore) -> bool {
+    tells_audit(alloc, &mut core, 0)
+        && grants_all(&mut core)
+        && opens_queue(alloc, &mut core)
+        && tells_all_along(alloc, &mut core)
+}
+
+#[test]
+fn an_audit_is_told_whatever_it_has(rt: HostRuntime) -> Result<(), Fail> {
+    assert!(rt; tells_its_audit(rt.alloc(), fresh(rt.alloc())?));
+    Ok(())
+}
+
 /// Whether the hand-over of a packet and two queries are replied to.
 fn tells_three(alloc: Global, core: &mut AccessCore) -> bool {
     tells_launch(core.serve(alloc, hand_over()))

@@ -1,4 +1,5 @@
-//! Parts of a history: two that rotations hand out are joined, in their order and in no other.
+//! Parts of a history: two that rotations hand out are joined, in their order and in no other, and so are parts without
+//! entries.
 
 use crate::access::{fresh, grants};
 use access_core::AccessCore;
@@ -99,5 +100,64 @@ fn joins_fresh(alloc: Global, mut core: AccessCore) -> bool {
 #[test]
 fn parts_are_joined_in_their_order(rt: HostRuntime) -> Result<(), Fail> {
     assert!(rt; joins_fresh(rt.alloc(), fresh(rt.alloc())?));
+    Ok(())
+}
+
+fn joined_to(alloc: Global, first: Part, second: Part) -> Option<Part> {
+    joined(alloc, first, second).ok()
+}
+
+/// Whether a part is there that has the one entry.
+fn has_one(all: &Option<Part>) -> bool {
+    match all {
+        Some(all) => counts(all) == (0, 1) && all.end().before == 1,
+        None => false,
+    }
+}
+
+/// Whether a part without entries is joined to what two others made.
+fn join_last(alloc: Global, both: Option<Part>, none_more: Part) -> bool {
+    match both {
+        None => false,
+        Some(both) => has_one(&joined_to(alloc, both, none_more)),
+    }
+}
+
+/// Whether a part without entries, one of one entry, and another without are joined one after the other.
+fn join_three(alloc: Global, none: Part, one: Part, none_more: Part) -> bool {
+    join_last(alloc, joined_to(alloc, none, one), none_more)
+}
+
+/// Whether the next part, which has no entry, is joined to two of which the first has none.
+fn joins_none_more(alloc: Global, core: &mut AccessCore, none: Part, one: Part) -> bool {
+    match rotated(alloc, core) {
+        None => false,
+        Some(none_more) => join_three(alloc, none, one, none_more),
+    }
+}
+
+/// Whether the next two parts, of one entry and of none, are joined to one that has none.
+fn joins_behind_none(alloc: Global, core: &mut AccessCore, none: Part) -> bool {
+    match first_part(alloc, core) {
+        None => false,
+        Some(one) => joins_none_more(alloc, core, none, one),
+    }
+}
+
+/// Whether three parts of a core are joined, of which the first and the last have no entry.
+fn joins_empty(alloc: Global, core: &mut AccessCore) -> bool {
+    match rotated(alloc, core) {
+        None => false,
+        Some(none) => joins_behind_none(alloc, core, none),
+    }
+}
+
+fn joins_empty_fresh(alloc: Global, mut core: AccessCore) -> bool {
+    joins_empty(alloc, &mut core)
+}
+
+#[test]
+fn parts_without_entries_are_joined(rt: HostRuntime) -> Result<(), Fail> {
+    assert!(rt; joins_empty_fresh(rt.alloc(), fresh(rt.alloc())?));
     Ok(())
 }
