@@ -143,10 +143,10 @@ class State:
             yield f"packet {queue} {packet} {groups} {''.join('01'[it] for it in seen)}"
 
 
-def main(files):
-    texts = [open(file, "rb").read() for file in files]
+def derived(texts, data):
+    """What the entries of a journal over these policies lead to, a line each, behind how many they are."""
     state, number, ended = State(tomllib.loads(texts[0].decode())), 0, False
-    for line, text in lines_of(sys.stdin.buffer.read()):
+    for line, text in lines_of(data):
         words = text.split(" ")
         if line == 1:
             if words[:2] != ["journal", "1"] or words[3] != "0" or words[5:] != [hashlib.sha256(it).hexdigest() for it in texts]:
@@ -159,7 +159,12 @@ def main(files):
             number += 1
     if not ended:
         sys.exit("no end")
-    print(f"legal {number} entries", *state.told(), sep="\n")
+    return [f"legal {number} entries", *state.told()]
+
+
+def main(files):
+    texts = [open(file, "rb").read() for file in files]
+    print(*derived(texts, sys.stdin.buffer.read()), sep="\n")
 
 
 if __name__ == "__main__":

@@ -10,6 +10,7 @@ import sys
 import tempfile
 import threading
 
+import commands
 import pages
 from trial import FILL, SAMPLE, TOP, Ended, Trials, run, text
 
@@ -160,6 +161,18 @@ def counts(trials, program):
 
     rows = [(words, lines, lines // 10_000) for words in (["run", SAMPLE], ["run", SAMPLE, "--explain=never"], ["picture", SAMPLE]) for lines in (0, 9_999, 10_500, 35_000)]
     trials.every("a script of over ten thousand lines is counted", counted, rows)
+
+    def replayed(entries):
+        """How a long journal is counted: its lines are the entries, and two more."""
+        journal = text(commands.journal(["grant 1 agent 1 1 accepted 0"] * entries))
+        ended = at_terminal([program, "replay", SAMPLE], journal)
+        found = [int(part.split(b" ")[0]) for part in ended.err.split(b"\r") if part.endswith(b" lines")]
+        wanted = len(found) == (entries + 2) // 10_000 and all(number >= 10_000 * place for place, number in enumerate(found, 1))
+        alone = run([program, "replay", SAMPLE], journal)
+        well = ended.status == 0 and ended.out == alone.out == b"legal %d entries\n" % entries and not alone.err
+        return None if well and wanted and (found or not ended.err) else f"{found}: {ended}"
+
+    trials.every("a journal of over ten thousand lines is counted as it is replayed", replayed, [0, 9_000, 10_500, 35_000])
     silent = lambda it: None if run([program, "run", SAMPLE], b"#\n" * it) == Ended(0, b"", b"") else "it tells something"
     trials.every("where standard error is no terminal it isn't", silent, [35_000])
 

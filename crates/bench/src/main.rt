@@ -1,6 +1,7 @@
 //! The program that measures. `bench ring PACKETS` measures the ring over atomics, `bench lanes PACKETS` lanes over a
-//! core under its lock, `bench script PACKETS` the broker from a script's text to its replies, `bench kernels ITEMS` the
-//! executor of kernels, and `bench all PACKETS ITEMS` all four. Its figures go to standard error, and standard output says what is
+//! core under its lock, `bench script PACKETS` the broker from a script's text to its replies, `bench replay PACKETS` the
+//! replay of a journal beside the core that made its history, `bench kernels ITEMS` the executor of kernels, and
+//! `bench all PACKETS ITEMS` ring, lanes, script and kernels. Its figures go to standard error, and standard output says what is
 //! the same in every run.
 #![tactic(auto)]
 
@@ -9,6 +10,7 @@ mod kernel_speed;
 mod lane;
 mod lane_speed;
 mod mark;
+mod replay_speed;
 mod report;
 mod ring_speed;
 mod script_speed;
@@ -19,7 +21,8 @@ use clap::{Arg, ArgAction, ArgMatches, Command, Error};
 use fault::Fault;
 use kernel_speed::MOST_ITEMS;
 use lane_speed::MOST_LANE_PACKETS;
-use report::{measure_kernels, measure_lanes, measure_ring, measure_script};
+use replay_speed::MOST_REPLAYED;
+use report::{measure_kernels, measure_lanes, measure_replay, measure_ring, measure_script};
 use script_speed::MOST_PACKETS;
 use std::alloc::{AllocError, Global};
 use std::process::ExitCode;
@@ -76,6 +79,15 @@ fn script_packets<'a>(alloc: Global) -> Arg<'a> {
     )
 }
 
+// That argument where a replay is measured.
+fn replayed_packets<'a>(alloc: Global) -> Arg<'a> {
+    packets(
+        alloc,
+        MOST_REPLAYED,
+        "How many packets the history has, 1 to 340000, with three entries each",
+    )
+}
+
 // The argument that says how many items are run.
 fn items<'a>(alloc: Global) -> Arg<'a> {
     Arg::new(alloc, "ITEMS")
@@ -119,6 +131,14 @@ fn script_command<'a>(alloc: Global) -> Result<Command<'a>, AllocError> {
         .arg(runs(alloc))
 }
 
+// The command that measures a replay.
+fn replay_command<'a>(alloc: Global) -> Result<Command<'a>, AllocError> {
+    Command::new(alloc, "replay")
+        .about("Measures the replay of a journal, beside the core that made its history")
+        .arg(replayed_packets(alloc))?
+        .arg(runs(alloc))
+}
+
 // The command that measures kernels.
 fn kernels_command<'a>(alloc: Global) -> Result<Command<'a>, AllocError> {
     Command::new(alloc, "kernels")
@@ -130,7 +150,7 @@ fn kernels_command<'a>(alloc: Global) -> Result<Command<'a>, AllocError> {
 // The command that measures all.
 fn all_command<'a>(alloc: Global) -> Result<Command<'a>, AllocError> {
     Command::new(alloc, "all")
-        .about("Measures all four")
+        .about("Measures ring, lanes, scripts and kernels")
         .arg(script_packets(alloc))?
         .arg(items(alloc))?
         .arg(runs(alloc))
@@ -141,6 +161,7 @@ fn command<'a>(alloc: Global) -> Result<Command<'a>, AllocError> {
     let ring = ring_command(alloc)?;
     let lanes = lanes_command(alloc)?;
     let script = script_command(alloc)?;
+    let replay = replay_command(alloc)?;
     let kernels = kernels_command(alloc)?;
     let all = all_command(alloc)?;
     Command::new(alloc, "bench")
@@ -150,6 +171,7 @@ fn command<'a>(alloc: Global) -> Result<Command<'a>, AllocError> {
         .subcommand(ring)?
         .subcommand(lanes)?
         .subcommand(script)?
+        .subcommand(replay)?
         .subcommand(kernels)?
         .subcommand(all)
 }
@@ -163,6 +185,8 @@ struct Request {
     lanes: Option<u64>,
     // How many packets a script has, where one is measured.
     script: Option<u64>,
+    // How many packets a history has, where its replay is measured.
+    replay: Option<u64>,
     // How many items a kernel has, where kernels are measured.
     items: Option<u32>,
     runs: u64,
@@ -181,6 +205,9 @@ fn measure<R: Print + Eprint + Clock + AllocGlobal + Threads + Wait + Sync>(
     }
     if let Some(packets) = request.script {
         measure_script(rt, packets, request.runs)?;
+    }
+    if let Some(packets) = request.replay {
+        measure_replay(rt, packets, request.runs)?;
     }
     if let Some(items) = request.items {
         measure_kernels(rt, items, request.runs)?;
@@ -224,6 +251,7 @@ fn requested(matches: &ArgMatches<'_>) -> Option<Request> {
         ring: packets.filter(|_| all || name == "ring"),
         lanes: packets.filter(|_| all || name == "lanes"),
         script: packets.filter(|_| all || name == "script"),
+        replay: packets.filter(|_| name == "replay"),
         items: asked.get_one("ITEMS"),
         runs: asked.get_one("runs").unwrap_or(1),
     })

@@ -3,6 +3,7 @@
 use crate::fault::Fault;
 use crate::kernel_speed::{Taken, count, meet, store};
 use crate::lane_speed::{MOST_LANE_PACKETS, lanes};
+use crate::replay_speed::{Replayed, replayed};
 use crate::ring_speed::{many_threads, one_thread};
 use crate::script_speed::{LINES, serve};
 use std::sync::Wait;
@@ -195,5 +196,39 @@ pub fn measure_script<R: Print + Eprint + Clock + AllocGlobal>(
     let lines = lines_a_second(packets, least);
     println!(rt; "script: {packets} packets, each reply as wanted")?;
     eprintln!(rt; "script: {lines} lines a second")?;
+    Ok(())
+}
+
+// Of two runs the least times of both.
+fn least_of(one: Replayed, other: Replayed) -> Replayed {
+    Replayed {
+        entries: one.entries,
+        made: one.made.min(other.made),
+        replayed: one.replayed.min(other.replayed),
+    }
+}
+
+// How many hundredths the replay took of what the core did.
+fn hundredths(least: Replayed) -> u128 {
+    least.replayed.as_nanos() * 100 / least.made.as_nanos().max(1)
+}
+
+/// Measures the replay of a journal of so many packets, beside what the core took that made its history.
+pub fn measure_replay<R: Print + Eprint + Clock + AllocGlobal>(
+    rt: &R,
+    packets: u64,
+    runs: u64,
+) -> Result<(), Fault> {
+    let mut least = replayed(rt, rt.alloc(), packets)?;
+    for _ in 1..runs {
+        least = least_of(least, replayed(rt, rt.alloc(), packets)?);
+    }
+    let entries = least.entries;
+    let (made, made_tenth) = each(entries, least.made);
+    let (told, told_tenth) = each(entries, least.replayed);
+    let (times, rest) = (hundredths(least) / 100, hundredths(least) % 100);
+    println!(rt; "replay: {entries} entries, all legal")?;
+    eprintln!(rt; "core: {made}.{made_tenth} ns an entry")?;
+    eprintln!(rt; "replay: {told}.{told_tenth} ns an entry, {times}.{rest:02} times the core")?;
     Ok(())
 }

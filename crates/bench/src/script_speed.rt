@@ -13,10 +13,10 @@ pub const MOST_PACKETS: u64 = 300_000;
 pub const LINES: u64 = 4;
 
 /// The most entries of an audit.
-const PLACES: usize = 1 << 20;
+pub const PLACES: usize = 1 << 20;
 
 /// A client that may use an agent, write a region and change a signal.
-const POLICY: &str = r#"
+pub const POLICY: &str = r#"
 client = [{ name = "sender" }]
 agent = [{ name = "engine", takes = ["agent"] }]
 region = [{ name = "cells", length = 64 }]
@@ -39,7 +39,7 @@ queue sender engine 64 1
 const OPENED: &str = "ok\nok\nok\nqueue 1\n";
 
 /// An agent dispatch that fills 4 bytes at the region's first address, and completes by the signal.
-const FILL: Packet = Packet::Agent(AgentDispatch {
+pub const FILL: Packet = Packet::Agent(AgentDispatch {
     header: Header {
         barrier: false,
         acquire: Scope::System,

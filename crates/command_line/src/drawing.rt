@@ -1,10 +1,11 @@
-//! A picture of a run that tells beside a fault why.
+//! A picture of a run, or of a journal, that tells beside a fault why.
 
 use crate::explained_run::{Further, faults_told};
 use crate::explaining::{PolicyFile, policy_told, tell};
 use crate::line_reader::LineReader;
 use commands::{Span, Status, draw_policies};
 use explain::bad_line;
+use journal_commands::{draw_journal, tell_journal};
 use std::alloc::{AllocError, Global};
 use std::io;
 
@@ -15,8 +16,8 @@ pub struct Drawn {
     pub span: Span,
 }
 
-// What is told of the policies of a run: of the first with a fault.
-fn policies_told(
+/// What is told of the policies of a run: of the first with a fault.
+pub fn policies_told(
     alloc: Global,
     file: PolicyFile<'_>,
     further: Further<'_>,
@@ -68,5 +69,38 @@ pub fn draw_explaining<R: io::Read, O: io::Write, E: io::Write>(
     match ended {
         Status::Refused => tell(err, refused_told(alloc, file, further, &lines), ended),
         _ => ended,
+    }
+}
+
+/// Draws a journal as `draw_journal` does, and tells on `err` behind a fault of a policy what is wrong there, if it explains.
+pub fn draw_recorded<R: io::Read, O: io::Write, E: io::Write>(
+    alloc: Global,
+    file: PolicyFile<'_>,
+    further: Further<'_>,
+    span: Span,
+    explains: bool,
+    journal: &mut R,
+    out: &mut O,
+    err: &mut E,
+) -> Status {
+    let ended = draw_journal(alloc, file.text, further.texts, span, journal, out, err);
+    match ended {
+        Status::Refused if explains => tell(err, policies_told(alloc, file, further), ended),
+        _ => ended,
+    }
+}
+
+/// Tells a journal as `tell_journal` does, and behind a fault of a policy what is wrong there.
+pub fn tell_recorded<R: io::Read, O: io::Write, E: io::Write>(
+    alloc: Global,
+    file: PolicyFile<'_>,
+    further: Further<'_>,
+    journal: &mut R,
+    out: &mut O,
+    err: &mut E,
+) -> Status {
+    match tell_journal(alloc, file.text, further.texts, journal, out, err) {
+        Status::Refused => tell(err, policies_told(alloc, file, further), Status::Refused),
+        ended => ended,
     }
 }

@@ -6,7 +6,7 @@ use crate::explaining::{PolicyFile, check_explaining};
 use crate::further::{Manner, run};
 use crate::listing::{ListForm, list_policy};
 use crate::recording::Recorded;
-use crate::replayed::{replay, run_with_journal};
+use crate::replayed::{Shown, replay, run_with_journal, show_journal};
 use crate::request::{Asked, Request, Unread, read_words};
 use crate::syntax::MOST_NEXT;
 use crate::threads::{AskedLoad, run_threads};
@@ -37,7 +37,7 @@ pub fn unread_file(rt: &HostRuntime, error: &io::Error) -> Status {
 }
 
 /// The name of a file that stands for standard input.
-const STANDARD_INPUT: &str = "-";
+pub const STANDARD_INPUT: &str = "-";
 
 /// The first bytes of a file, or of standard input where it is called `-`: so many at the most.
 pub fn read_most(rt: &HostRuntime, file: &str, most: u64) -> io::Result<Vec<u8>> {
@@ -243,7 +243,7 @@ fn perform_run(rt: &HostRuntime, asked: &Asked<'_>) -> Option<Status> {
     Some(run(rt, policy, asked.further.as_slice(), manner))
 }
 
-// Runs a script with a journal, or replays one.
+// Runs a script with a journal, replays one, or shows one.
 fn perform_journal(rt: &HostRuntime, asked: &Asked<'_>) -> Option<Status> {
     let further = asked.further.as_slice();
     match asked.request {
@@ -251,10 +251,32 @@ fn perform_journal(rt: &HostRuntime, asked: &Asked<'_>) -> Option<Status> {
             policy,
             places,
             is_strict,
+            explains,
             journal,
         } => {
-            let manner = Recorded { places, is_strict };
+            let manner = Recorded {
+                places,
+                is_strict,
+                explains,
+            };
             Some(run_with_journal(rt, policy, further, manner, journal))
+        }
+        Request::PictureOfJournal {
+            policy,
+            span,
+            explains,
+            journal,
+        } => {
+            let shown = Shown::Drawn { span };
+            Some(show_journal(rt, policy, further, shown, explains, journal))
+        }
+        Request::ExplainJournal {
+            policy,
+            explains,
+            journal,
+        } => {
+            let shown = Shown::Told;
+            Some(show_journal(rt, policy, further, shown, explains, journal))
         }
         Request::Replay {
             policy,
@@ -341,6 +363,22 @@ fn too_many_policies(rt: &HostRuntime) -> u8 {
     }
 }
 
+// Says that the audit of a journal has no room of its own.
+fn audit_of_journal(rt: &HostRuntime) -> u8 {
+    match eprintln!(rt; "error: --audit doesn't go with the --journal of a picture") {
+        Ok(()) => NOT_UNDERSTOOD,
+        Err(why) => unprinted(rt, &why).number(),
+    }
+}
+
+// Says that one word is explained, and a journal where there are more.
+fn words_behind(rt: &HostRuntime) -> u8 {
+    match eprintln!(rt; "error: explain takes one WORD, or policies with --journal FILE") {
+        Ok(()) => NOT_UNDERSTOOD,
+        Err(why) => unprinted(rt, &why).number(),
+    }
+}
+
 // Says that a run by line writes no journal.
 fn journal_by_line(rt: &HostRuntime) -> u8 {
     match eprintln!(rt; "error: --journal doesn't go with --readable or --json") {
@@ -361,6 +399,8 @@ pub fn obey<R: Threads + Wait + Sync>(rt: &HostRuntime, threads: &R, words: &[St
         Err(Unread::NoCommand) => NOT_UNDERSTOOD,
         Err(Unread::TooManyPolicies) => too_many_policies(rt),
         Err(Unread::JournalByLine) => journal_by_line(rt),
+        Err(Unread::AuditOfJournal) => audit_of_journal(rt),
+        Err(Unread::WordsBehind) => words_behind(rt),
         Err(Unread::OutOfMemory) => out_of_memory(rt),
     }
 }

@@ -1,9 +1,11 @@
 //! A run that writes its history into a journal as it goes.
 
+use crate::drawing::policies_told;
 use crate::explained_run::{Further, open_text, read_later};
-use crate::explaining::PolicyFile;
+use crate::explaining::{PolicyFile, tell};
 use crate::line_reader::LineReader;
 use commands::{Failure, Status, name_failure, tell_end};
+use explain::{Asked, asked_by, bad_line, retold};
 use journal_commands::{JournalFault, JournalWriter};
 use policy::Policy;
 use script::{Command, Flow, IoLog, LineReply, ScriptFault, Watch, run_watched, strictly};
@@ -14,17 +16,20 @@ use world::{Request, World};
 // The most runs in which a script is run: one behind each rotation.
 const MOST_RUNS: u64 = 1 << 40;
 
-/// How a script is run with a journal: with places for so many entries in the audit, and up to the first line that isn't
-/// done, if it is strict.
+/// How a script is run with a journal: with places for so many entries in the audit, up to the first line that isn't done, if
+/// it is strict, and with a text beside its replies that tells why, if it explains.
 #[derive(Clone, Copy)]
 pub struct Recorded {
     pub places: usize,
     pub is_strict: bool,
+    pub explains: bool,
 }
 
 /// Why a run ends behind a line.
 #[derive(Clone, Copy, PartialEq, Eq)]
 enum Cause {
+    /// There is something to be told, and the run goes on then.
+    Telling,
     /// Half of the audit's places are taken: it is rotated, and the run goes on.
     Full,
     /// The line wasn't done, and the run is strict.
@@ -33,11 +38,18 @@ enum Cause {
     Journal(JournalFault),
 }
 
-/// A watcher that writes what happened into a journal.
+/// A watcher that writes what happened into a journal, and keeps what is to be told of a reply.
 #[derive(Drop)]
 struct Recorder<'a, J> {
+    alloc: Global,
     journal: JournalWriter<'a, J>,
     manner: Recorded,
+    // How many lines came before those of this run, and how many further policies there are.
+    before: u64,
+    later: usize,
+    // What the line asked that was asked last, what is to be told, and why the run ended.
+    asked: Asked,
+    told: String,
     cause: Cause,
 }
 
@@ -50,7 +62,27 @@ impl<'a, J: io::Write> Recorder<'a, J> {
         if world.core().audit().len() >= self.manner.places / 2 {
             return Some(Cause::Full);
         }
-        None
+        if self.told.is_empty() {
+            None
+        } else {
+            Some(Cause::Telling)
+        }
+    }
+
+    // The number of a line of this run in the whole script.
+    fn number_of(&self, number: u64) -> u64 {
+        self.before.saturating_add(number)
+    }
+
+    // Keeps what is to be told of a reply, if there is memory for it.
+    fn explain(&mut self, world: &World, number: u64, reply: &LineReply) {
+        if !self.manner.explains {
+            return;
+        }
+        let told = retold(self.alloc, world, self.number_of(number), self.asked, reply);
+        if let Ok(told) = told {
+            self.told = told;
+        }
     }
 
     // Writes what happened, and tells whether the run ends here, and why.
@@ -69,9 +101,12 @@ impl<'a, J: io::Write> Watch for Recorder<'a, J> {
 
     ghost passes_audits = { λ before entries. tt };
 
-    fn asks(&mut self, _command: &Command) {}
+    fn asks(&mut self, command: &Command) {
+        self.asked = asked_by(command);
+    }
 
-    fn seen(&mut self, world: &World, _number: u64, reply: LineReply) -> Flow {
+    fn seen(&mut self, world: &World, number: u64, reply: LineReply) -> Flow {
+        self.explain(world, number, &reply);
         let is_done = !self.manner.is_strict || strictly(&reply) == Flow::GoOn;
         match self.note(world, is_done) {
             None => Flow::GoOn,
@@ -96,16 +131,16 @@ fn name<E: io::Write>(alloc: Global, err: &mut E, failure: Failure) -> Status {
     name_failure(alloc, failure, err, &mut IoLog::none())
 }
 
-// Writes the last line of the journal, and says how the command ends.
+// Writes the last line of the journal, and says how the command ends. Where it has failed already, that is told, and no more.
 fn end_journal<J: io::Write, E: io::Write>(
     alloc: Global,
     recorder: &mut Recorder<'_, J>,
     err: &mut E,
     status: Status,
 ) -> Status {
-    match recorder.journal.end() {
-        Ok(()) => status,
-        Err(fault) => name(alloc, err, failure_of(fault)),
+    match (recorder.journal.end(), status) {
+        (Ok(()), _) | (Err(_), Status::Failed) => status,
+        (Err(fault), _) => name(alloc, err, failure_of(fault)),
     }
 }
 
@@ -117,6 +152,19 @@ fn rotate(alloc: Global, world: &mut World) -> Option<Failure> {
     }
 }
 
+// Writes what is to be told behind a line; it fails where that can't be written.
+fn tell_of_line<J: io::Write, E: io::Write>(
+    recorder: &mut Recorder<'_, J>,
+    err: &mut E,
+) -> Option<Status> {
+    let told = recorder.told.as_bytes();
+    if !told.is_empty() && (err.write_all(told).is_err() || err.flush().is_err()) {
+        return Some(Status::Failed);
+    }
+    recorder.told.clear();
+    None
+}
+
 // Goes on behind a line where the watcher ended the run, or says how the command ends.
 fn go_on<J: io::Write, E: io::Write>(
     alloc: Global,
@@ -124,7 +172,11 @@ fn go_on<J: io::Write, E: io::Write>(
     recorder: &mut Recorder<'_, J>,
     err: &mut E,
 ) -> Option<Status> {
+    if let Some(status) = tell_of_line(recorder, err) {
+        return Some(end_journal(alloc, recorder, err, status));
+    }
     match recorder.cause {
+        Cause::Telling => None,
         Cause::Full => {
             let failure = rotate(alloc, world)?;
             Some(name(alloc, err, failure))
@@ -134,28 +186,40 @@ fn go_on<J: io::Write, E: io::Write>(
     }
 }
 
-// How many lines were read before a line of a run.
-fn lines_before(before: u64, ended: &Result<(), ScriptFault>) -> u64 {
-    match ended {
-        Err(ScriptFault::Stopped(number)) => before.saturating_add(*number),
-        _ => before,
+// Names a line of no form, tells why, and says how the command ends.
+fn name_bad_line<J: io::Write, E: io::Write>(
+    alloc: Global,
+    recorder: &Recorder<'_, J>,
+    line: &[u8],
+    number: u64,
+    err: &mut E,
+) -> Status {
+    match name(alloc, err, Failure::Line(number)) {
+        Status::Refused if recorder.manner.explains => {
+            let told = bad_line(alloc, line, number, recorder.later);
+            tell(err, told, Status::Refused)
+        }
+        status => status,
     }
 }
 
 // Tells how a run ended, and says how the command ends, if it does.
-fn tell_of_run<J: io::Write, E: io::Write>(
+fn tell_of_run<R: io::Read, J: io::Write, E: io::Write>(
     alloc: Global,
     world: &mut World,
     recorder: &mut Recorder<'_, J>,
+    lines: &LineReader<'_, R>,
     ended: Result<(), ScriptFault>,
-    before: u64,
     err: &mut E,
 ) -> Option<Status> {
     match ended {
-        Err(ScriptFault::Stopped(_)) => go_on(alloc, world, recorder, err),
+        Err(ScriptFault::Stopped(number)) => {
+            recorder.before = recorder.number_of(number);
+            go_on(alloc, world, recorder, err)
+        }
         Err(ScriptFault::BadLine(number)) => {
-            let whole = before.saturating_add(number);
-            let status = name(alloc, err, Failure::Line(whole));
+            let whole = recorder.number_of(number);
+            let status = name_bad_line(alloc, recorder, lines.line(), whole, err);
             Some(end_journal(alloc, recorder, err, status))
         }
         ended => {
@@ -177,7 +241,6 @@ fn run_in<R: io::Read, O: io::Write, E: io::Write, J: io::Write>(
 ) -> Status {
     let mut world = world;
     let mut lines = LineReader::new(script);
-    let mut before = 0;
     for _ in 0..MOST_RUNS {
         let mut answers = IoLog::none();
         let ended = run_watched(
@@ -189,11 +252,9 @@ fn run_in<R: io::Read, O: io::Write, E: io::Write, J: io::Write>(
             recorder,
             &mut answers,
         );
-        let next = lines_before(before, &ended);
-        if let Some(status) = tell_of_run(alloc, &mut world, recorder, ended, before, err) {
+        if let Some(status) = tell_of_run(alloc, &mut world, recorder, &lines, ended, err) {
             return status;
         }
-        before = next;
     }
     name(alloc, err, Failure::Read)
 }
@@ -214,8 +275,13 @@ fn run_world<R: io::Read, O: io::Write, E: io::Write, J: io::Write>(
     match JournalWriter::begin(alloc, file.text, further.texts, manner.places, journal) {
         Ok(journal) => {
             let mut recorder = Recorder {
+                alloc,
                 journal,
                 manner,
+                before: 0,
+                later: later.len(),
+                asked: Asked::Nothing,
+                told: String::new(alloc),
                 cause: Cause::Full,
             };
             run_in(alloc, world, later, &mut recorder, script, out, err)
@@ -224,9 +290,26 @@ fn run_world<R: io::Read, O: io::Write, E: io::Write, J: io::Write>(
     }
 }
 
-/// Runs a script over the policies in files as `run_policies` does, strictly as `run_strictly` does, and writes its
-/// history into a journal as it goes. Where half of the audit's places are taken, the audit is rotated. A journal that
-/// can't be written ends the run, as replies that can't be do.
+// Names a failure of a policy, tells why, if that is asked for, and says how the command ends.
+fn name_policy_fault<E: io::Write>(
+    alloc: Global,
+    file: PolicyFile<'_>,
+    further: Further<'_>,
+    explains: bool,
+    failure: Failure,
+    err: &mut E,
+) -> Status {
+    match name(alloc, err, failure) {
+        Status::Refused if explains => {
+            tell(err, policies_told(alloc, file, further), Status::Refused)
+        }
+        status => status,
+    }
+}
+
+/// Runs a script over the policies in files as `run_policies` does, strictly as `run_strictly` does, explaining as
+/// `run_explaining` does, and writes its history into a journal as it goes. Where half of the audit's places are taken, the
+/// audit is rotated. A journal that can't be written ends the run, as replies that can't be do.
 pub fn run_recording<R: io::Read, O: io::Write, E: io::Write, J: io::Write>(
     alloc: Global,
     file: PolicyFile<'_>,
@@ -239,11 +322,14 @@ pub fn run_recording<R: io::Read, O: io::Write, E: io::Write, J: io::Write>(
 ) -> Status {
     let world = match open_text(alloc, file.text, manner.places) {
         Ok(world) => world,
-        Err(failure) => return name(alloc, err, failure),
+        Err(failure) => {
+            return name_policy_fault(alloc, file, further, manner.explains, failure, err);
+        }
     };
     let mut later = Vec::new(alloc);
     if let Err((_, why)) = read_later(alloc, further.texts, &mut later) {
-        return name(alloc, err, Failure::of_reading(why));
+        let failure = Failure::of_reading(why);
+        return name_policy_fault(alloc, file, further, manner.explains, failure, err);
     }
     run_world(
         alloc,

@@ -1,34 +1,53 @@
 //! Journals in files, and on standard input.
 
+use crate::drawing::{draw_recorded, tell_recorded};
 use crate::explained_run::Further;
 use crate::explaining::PolicyFile;
 use crate::further::read_files;
-use crate::perform::{failed, read_file, unread_file};
+use crate::perform::{STANDARD_INPUT, failed, read_file, unread};
 use crate::recording::{Recorded, run_recording};
-use commands::{PolicyText, Status};
+use crate::terminal::{Beside, TerminalReader};
+use commands::{PolicyText, Span, Status};
 use journal_commands::replay_policies;
 use std::fs::File;
-use std::io;
+use std::io::{self, IsTerminal};
 
-// The texts of a policy and of the further ones.
-fn read_policies(
-    rt: &HostRuntime,
-    policy: &str,
-    names: &[&str],
-    texts: &mut Vec<PolicyText>,
-) -> io::Result<Vec<u8>> {
-    let text = read_file(rt, policy)?;
-    read_files(rt, names, texts)?;
-    Ok(text)
+/// What is done with a journal in a file: of its entries these are drawn, or all are told.
+#[derive(Clone, Copy)]
+pub enum Shown {
+    Drawn { span: Span },
+    Told,
 }
 
-// Runs the script on standard input, with a journal in a file that is there already or is made.
-fn run_into(
+// Reads the further policies behind a policy: the name of the file that can't be read, and why.
+fn read_further<'a>(
+    rt: &HostRuntime,
+    names: &[&'a str],
+    texts: &mut Vec<PolicyText>,
+) -> Result<(), (Option<&'a str>, io::Error)> {
+    match read_files(rt, names, texts) {
+        Ok(()) => Ok(()),
+        Err(error) => Err((names.get(texts.len()).copied(), error)),
+    }
+}
+
+// What is written beside lines on standard input: their count, where standard error is a terminal.
+fn beside(rt: &HostRuntime) -> Beside {
+    if rt.stderr().is_terminal() {
+        Beside::Count
+    } else {
+        Beside::Nothing
+    }
+}
+
+// Runs a script, with a journal in a file that is there already or is made.
+fn run_into<R: io::Read>(
     rt: &HostRuntime,
     file: PolicyFile<'_>,
     further: Further<'_>,
     manner: Recorded,
     journal: &str,
+    script: &mut R,
 ) -> Status {
     match File::create(rt, journal) {
         Ok(mut journal) => run_recording(
@@ -36,7 +55,7 @@ fn run_into(
             file,
             further,
             manner,
-            &mut rt.stdin(),
+            script,
             &mut rt.stdout(),
             &mut rt.stderr(),
             &mut journal,
@@ -56,36 +75,122 @@ pub fn run_with_journal(
     manner: Recorded,
     journal: &str,
 ) -> Status {
+    let text = match read_file(rt, policy) {
+        Ok(text) => text,
+        Err(error) => return unread(rt, policy, manner.explains, &error),
+    };
     let mut texts = Vec::new(rt.alloc());
-    match read_policies(rt, policy, names, &mut texts) {
-        Ok(text) => {
-            let file = PolicyFile {
-                name: policy,
-                text: text.as_slice(),
-            };
-            let further = Further {
-                names,
-                texts: texts.as_slice(),
-            };
-            run_into(rt, file, further, manner, journal)
-        }
-        Err(error) => unread_file(rt, &error),
+    if let Err((name, error)) = read_further(rt, names, &mut texts) {
+        return unread(rt, name.unwrap_or(policy), manner.explains, &error);
+    }
+    let file = PolicyFile {
+        name: policy,
+        text: text.as_slice(),
+    };
+    let further = Further {
+        names,
+        texts: texts.as_slice(),
+    };
+    let mut stdin = rt.stdin();
+    let mut err = rt.stderr();
+    let mut script = TerminalReader::new(rt.alloc(), &mut stdin, &mut err, beside(rt));
+    run_into(rt, file, further, manner, journal, &mut script)
+}
+
+/// Replays the journal on standard input over the policy in a file. Where standard error is a terminal, its lines are counted
+/// there.
+pub fn replay(rt: &HostRuntime, policy: &str, names: &[&str], tells_state: bool) -> Status {
+    let text = match read_file(rt, policy) {
+        Ok(text) => text,
+        Err(error) => return unread(rt, policy, false, &error),
+    };
+    let mut texts = Vec::new(rt.alloc());
+    if let Err((name, error)) = read_further(rt, names, &mut texts) {
+        return unread(rt, name.unwrap_or(policy), false, &error);
+    }
+    let mut stdin = rt.stdin();
+    let mut err = rt.stderr();
+    let mut journal = TerminalReader::new(rt.alloc(), &mut stdin, &mut err, beside(rt));
+    replay_policies(
+        rt.alloc(),
+        text.as_slice(),
+        texts.as_slice(),
+        tells_state,
+        &mut journal,
+        &mut rt.stdout(),
+        &mut rt.stderr(),
+    )
+}
+
+// Shows a journal over the policies in files.
+fn show_over<R: io::Read>(
+    rt: &HostRuntime,
+    file: PolicyFile<'_>,
+    further: Further<'_>,
+    shown: Shown,
+    explains: bool,
+    journal: &mut R,
+) -> Status {
+    let mut out = rt.stdout();
+    let mut err = rt.stderr();
+    match shown {
+        Shown::Drawn { span } => draw_recorded(
+            rt.alloc(),
+            file,
+            further,
+            span,
+            explains,
+            journal,
+            &mut out,
+            &mut err,
+        ),
+        Shown::Told => tell_recorded(rt.alloc(), file, further, journal, &mut out, &mut err),
     }
 }
 
-/// Replays the journal on standard input over the policy in a file.
-pub fn replay(rt: &HostRuntime, policy: &str, names: &[&str], tells_state: bool) -> Status {
-    let mut texts = Vec::new(rt.alloc());
-    match read_policies(rt, policy, names, &mut texts) {
-        Ok(text) => replay_policies(
-            rt.alloc(),
-            text.as_slice(),
-            texts.as_slice(),
-            tells_state,
-            &mut rt.stdin(),
-            &mut rt.stdout(),
-            &mut rt.stderr(),
-        ),
-        Err(error) => unread_file(rt, &error),
+// Shows the journal in a file, or on standard input.
+fn show_in(
+    rt: &HostRuntime,
+    file: PolicyFile<'_>,
+    further: Further<'_>,
+    shown: Shown,
+    explains: bool,
+    journal: &str,
+) -> Status {
+    if journal == STANDARD_INPUT {
+        return show_over(rt, file, further, shown, explains, &mut rt.stdin());
     }
+    match File::open(rt, journal) {
+        Ok(mut opened) => show_over(rt, file, further, shown, explains, &mut opened),
+        Err(error) => unread(rt, journal, explains, &error),
+    }
+}
+
+/// Shows the journal in a file over the policy in another, without making its calls. If it explains, it tells which file can't
+/// be read, and why.
+pub fn show_journal(
+    rt: &HostRuntime,
+    policy: &str,
+    names: &[&str],
+    shown: Shown,
+    explains: bool,
+    journal: &str,
+) -> Status {
+    let text = match read_file(rt, policy) {
+        Ok(text) => text,
+        Err(error) => return unread(rt, policy, explains, &error),
+    };
+    let mut texts = Vec::new(rt.alloc());
+    if let Err((name, error)) = read_further(rt, names, &mut texts) {
+        return unread(rt, name.unwrap_or(policy), explains, &error);
+    }
+    let file = PolicyFile {
+        name: policy,
+        text: text.as_slice(),
+    };
+    let further = Further {
+        names,
+        texts: texts.as_slice(),
+    };
+    show_in(rt, file, further, shown, explains, journal)
 }

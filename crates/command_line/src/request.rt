@@ -66,11 +66,13 @@ pub enum Request<'a> {
         explains: bool,
         reads: Reads,
     },
-    /// `run POLICY [NEXT..] --journal FILE [--strict] [--audit N]`: to run the script, and to write its history into a file.
+    /// `run POLICY [NEXT..] --journal FILE [--strict] [--explain] [--audit N]`: to run the script, to write its history into a
+    /// file, and, if it explains, to tell beside its replies why.
     RunRecording {
         policy: &'a str,
         places: usize,
         is_strict: bool,
+        explains: bool,
         journal: &'a str,
     },
     /// `replay POLICY [NEXT..] [--state]`: to replay the journal on standard input, and to print the state that it leads to,
@@ -87,6 +89,13 @@ pub enum Request<'a> {
         span: Span,
         explains: bool,
     },
+    /// `picture POLICY [NEXT..] --journal FILE [--from N] [--to N]`: to draw the journal in a file, without running it.
+    PictureOfJournal {
+        policy: &'a str,
+        span: Span,
+        explains: bool,
+        journal: &'a str,
+    },
     /// `kernel FILE`: to list the kernels of the text in this file.
     Kernel {
         file: &'a str,
@@ -101,6 +110,13 @@ pub enum Request<'a> {
     /// `explain WORD`: to tell what a rule, a refusal or a cause means.
     Explain {
         word: &'a str,
+    },
+    /// `explain POLICY [NEXT..] --journal FILE`: to tell the journal in a file, and why of what failed, without running it; and,
+    /// if it explains, why a file can't be read.
+    ExplainJournal {
+        policy: &'a str,
+        explains: bool,
+        journal: &'a str,
     },
     /// `decode DIGITS..`: to tell the packet of the further words field by field, `decode --slots FILE` those in the slots of
     /// a ring.
@@ -142,6 +158,10 @@ pub enum Unread {
     TooManyPolicies,
     /// They ask for a journal of a run by line, which writes none.
     JournalByLine,
+    /// They ask for room in the audit of a journal that is drawn.
+    AuditOfJournal,
+    /// They have words behind the one that is to be explained, and no journal.
+    WordsBehind,
 }
 
 impl From<Error> for Unread {
@@ -190,6 +210,7 @@ fn run_request<'a>(policy: &'a str, asked: &ArgMatches<'a>, explains: bool) -> R
             policy,
             places,
             is_strict,
+            explains,
             journal,
         };
     }
@@ -215,6 +236,37 @@ fn run_request<'a>(policy: &'a str, asked: &ArgMatches<'a>, explains: bool) -> R
         Request::RunStrictly { policy, places }
     } else {
         Request::Run { policy, places }
+    }
+}
+
+// The request of `picture` with its arguments.
+fn picture_request<'a>(policy: &'a str, asked: &ArgMatches<'a>, explains: bool) -> Request<'a> {
+    let span = span_in(asked);
+    match asked.get_str(JOURNAL) {
+        Some(journal) => Request::PictureOfJournal {
+            policy,
+            span,
+            explains,
+            journal,
+        },
+        None => Request::Picture {
+            policy,
+            places: places_in(asked),
+            span,
+            explains,
+        },
+    }
+}
+
+// The request of `explain` with its arguments: with a journal, its word is a policy's file.
+fn explain_request<'a>(word: &'a str, asked: &ArgMatches<'a>, explains: bool) -> Request<'a> {
+    match asked.get_str(JOURNAL) {
+        Some(journal) => Request::ExplainJournal {
+            policy: word,
+            explains,
+            journal,
+        },
+        None => Request::Explain { word },
     }
 }
 
@@ -255,12 +307,7 @@ fn policy_request<'a>(
     match command {
         CHECK => Some(check_request(policy, asked, explains)),
         RUN => Some(run_request(policy, asked, explains)),
-        PICTURE => Some(Request::Picture {
-            policy,
-            places: places_in(asked),
-            span: span_in(asked),
-            explains,
-        }),
+        PICTURE => Some(picture_request(policy, asked, explains)),
         ASSEMBLE => Some(Request::Assemble { policy, explains }),
         REPLAY => Some(Request::Replay {
             policy,
@@ -278,9 +325,7 @@ fn policy_request<'a>(
 // The request of a command with its arguments.
 fn request_of<'a>(command: &str, asked: &ArgMatches<'a>, unasked: bool) -> Option<Request<'a>> {
     match command {
-        EXPLAIN => Some(Request::Explain {
-            word: asked.get_str(WORD)?,
-        }),
+        EXPLAIN => Some(explain_request(asked.get_str(WORD)?, asked, unasked)),
         DECODE => Some(Request::Decode {
             slots: asked.get_str(SLOTS),
             explains: explains_in(asked, unasked),
@@ -311,6 +356,17 @@ fn asks_for_journal_by_line(asked: &ArgMatches<'_>) -> bool {
     asked.get_str(JOURNAL).is_some() && (asked.get_flag(READABLE) || asked.get_flag(JSON))
 }
 
+// Whether a picture is asked for of a journal, and for room in an audit.
+fn asks_for_room_of_journal(asked: &ArgMatches<'_>) -> bool {
+    let places: Option<usize> = asked.get_one(AUDIT);
+    asked.get_str(JOURNAL).is_some() && places.is_some()
+}
+
+// Whether a word is explained alone, and further words stand behind it.
+fn has_words_behind(request: &Request<'_>, further: &[&str]) -> bool {
+    matches!(request, Request::Explain { .. }) && !further.is_empty()
+}
+
 // What a command with its arguments asks for.
 fn asked_by<'a>(
     alloc: Global,
@@ -322,6 +378,9 @@ fn asked_by<'a>(
     if command == RUN && asks_for_journal_by_line(asked) {
         return Err(Unread::JournalByLine);
     }
+    if command == PICTURE && asks_for_room_of_journal(asked) {
+        return Err(Unread::AuditOfJournal);
+    }
     if command == DECODE {
         let further = words_of(alloc, DIGITS, asked)?;
         return Ok(Asked { request, further });
@@ -329,6 +388,9 @@ fn asked_by<'a>(
     let further = words_of(alloc, NEXT, asked)?;
     if further.len() > MOST_NEXT {
         return Err(Unread::TooManyPolicies);
+    }
+    if has_words_behind(&request, further.as_slice()) {
+        return Err(Unread::WordsBehind);
     }
     Ok(Asked { request, further })
 }

@@ -23,7 +23,7 @@ pub const RUN: &str = "run";
 /// The option by which a run takes readable lines.
 pub const READABLE: &str = "readable";
 
-/// The option that names the file of a run's journal.
+/// The option that names the file of a journal: of the one that a run writes, or that is drawn or told.
 pub const JOURNAL: &str = "journal";
 
 /// The name of the command that replays a journal.
@@ -165,6 +165,31 @@ fn journal_file<'a>(alloc: Global) -> Arg<'a> {
         )
 }
 
+fn drawn_journal<'a>(alloc: Global) -> Arg<'a> {
+    Arg::new(alloc, JOURNAL)
+        .long(JOURNAL)
+        .value_name("FILE")
+        .action(ArgAction::Set)
+        .help("Draws the journal in this file in place of a script's run; nothing is run")
+}
+
+fn told_journal<'a>(alloc: Global) -> Arg<'a> {
+    Arg::new(alloc, JOURNAL)
+        .long(JOURNAL)
+        .value_name("FILE")
+        .action(ArgAction::Set)
+        .help(
+            "Tells the journal in this file, over the policy in WORD: its entries, and why packets were denied or failed",
+        )
+}
+
+fn policies_behind<'a>(alloc: Global) -> Arg<'a> {
+    Arg::new(alloc, NEXT)
+        .num_args(0..=MOST_NEXT)
+        .action(ArgAction::Append)
+        .help("The files of further policies of a journal, at most 16")
+}
+
 fn final_state<'a>(alloc: Global) -> Arg<'a> {
     Arg::new(alloc, STATE)
         .long(STATE)
@@ -229,7 +254,9 @@ fn explained_word<'a>(alloc: Global) -> Arg<'a> {
     Arg::new(alloc, WORD)
         .required(true)
         .action(ArgAction::Set)
-        .help("A rule as L8, a refusal or a cause by its name, or a number")
+        .help(
+            "A rule as L8, a refusal or a cause by its name, or a number; with --journal the policy file",
+        )
 }
 
 fn check_command<'a>(alloc: Global) -> Result<Command<'a>, Error> {
@@ -275,6 +302,7 @@ fn picture_command<'a>(alloc: Global) -> Result<Command<'a>, Error> {
         .arg(audit_places(alloc))?
         .arg(first_entry(alloc))?
         .arg(last_entry(alloc))?
+        .arg(drawn_journal(alloc))?
         .arg(explaining(alloc))?;
     Ok(picture)
 }
@@ -299,8 +327,12 @@ fn assemble_command<'a>(alloc: Global) -> Result<Command<'a>, Error> {
 
 fn explain_command<'a>(alloc: Global) -> Result<Command<'a>, Error> {
     let explain = Command::new(alloc, EXPLAIN)
-        .about("Tells what a rule, a refusal or a cause of a fault means")
-        .arg(explained_word(alloc))?;
+        .about(
+            "Tells what a rule, a refusal or a cause of a fault means, or what happened in a journal",
+        )
+        .arg(explained_word(alloc))?
+        .arg(policies_behind(alloc))?
+        .arg(told_journal(alloc))?;
     Ok(explain)
 }
 

@@ -6,6 +6,7 @@
 mod asked;
 mod calls;
 mod denied;
+mod entries;
 mod faults;
 mod kernel_faults;
 mod kernel_texts;
@@ -27,6 +28,7 @@ mod vocabulary;
 mod work;
 
 pub use asked::{Asked, asked_by};
+pub use entries::failure_told;
 pub use kernel_faults::{kernel_fault, no_entry, text_help};
 pub use lacks::{Lack, is_in_force, lack_of, lack_of_need};
 pub use laws::{told_lacks_are_lacks, told_owners_own, told_rights_are_in_force};

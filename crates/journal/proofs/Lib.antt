@@ -1,5 +1,6 @@
 mod WordSteps
 mod WordLaws
+mod Ranges
 mod Times
 mod EntryLaws
 mod ReadBack

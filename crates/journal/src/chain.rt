@@ -1,11 +1,12 @@
 //! The lines of a journal, each with the digest of the line before and of its own text.
 
-ghost use Rattle.std.specs.Prelude.{◌≡◌, ◌++◌, ◌+◌, ◌<◌, ◌^◌, [], IfOk, IfSome, OnOk, is_some, option_map, string_bytes};
+ghost use Rattle.std.specs.Prelude.{◌≡◌, ◌++◌, ◌+◌, ◌<◌, ◌^◌, [], IfOk, IfSome, OnOk, Some, is_some, option_map, string_bytes};
 ghost use Rattle.journal.specs.Words.{words_behind, words_from};
 ghost use Rattle.journal.specs.Readings.{done, entry_at};
 ghost use Rattle.journal.specs.Lines.{digest_of, line, numbered, after, entry_line, line_text, entry_behind_number, entry_of_text, entry_of_line, fault_behind, fault_of_line};
 
 use crate::faults::{LineCause, LineFault};
+use crate::fitting::line_is_read_back;
 use crate::outcomes::{entry_at, whole};
 use crate::spelling::write_bytes;
 use crate::splitting::{Rest, split_word};
@@ -69,7 +70,8 @@ fn numbered(alloc: Global, number: u64, entry: &Entry) -> Result<String, AllocEr
     Ok(text)
 }
 
-/// Writes the line of the next entry without its line feed, and tells where the journal stands behind it.
+/// Writes the line of the next entry without its line feed, and tells where the journal stands behind it: the line is read
+/// as that entry, whatever entry it is.
 pub fn write_entry_line(
     out: &mut String,
     alloc: Global,
@@ -79,7 +81,9 @@ pub fn write_entry_line(
     requires { chain.now.number + 1 < 2 ^ 64 }
     ensures text { OnOk result (string_bytes out.new ≡ string_bytes out.old ++ entry_line chain.now entry.now) }
     ensures chain { IfOk result (λ next. next ≡ after chain.now entry.now) }
+    ensures read { entry_of_line chain.now (entry_line chain.now entry.now) ≡ Some (entry.now, after chain.now entry.now) }
 {
+    line_is_read_back(chain, entry);
     let number = chain.number + 1;
     let text = numbered(alloc, number, entry)?;
     let digest = write_line(out, &chain.digest, text.as_str())?;

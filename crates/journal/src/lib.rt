@@ -5,6 +5,7 @@ mod chain;
 mod digits;
 mod events;
 mod faults;
+mod fitting;
 mod heads;
 mod laws;
 mod outcomes;
@@ -15,6 +16,7 @@ mod writing;
 
 pub use chain::{Chain, Head, entry_line_fault, read_entry_line, write_entry_line};
 pub use faults::{HeadFault, LineCause, LineFault};
+pub use fitting::{entries_fit, entry_fits, histories_are_told_apart, line_is_read_back};
 pub use heads::{chain_behind, is_end, read_head, write_end, write_head};
 pub use laws::{
     journals_are_told_apart, unread_lines_have_a_fault, written_entries_are_read,

@@ -78,11 +78,17 @@ impl<'a, R: io::Read> Lines<'a, R> {
         }
     }
 
-    // Reads a block; false at the end of the input.
+    // Reads a block; false at the end of the input. A read that is interrupted reads nothing, and is made again.
     fn fill(&mut self) -> io::Result<bool> {
-        let count = self.reader.read(&mut self.block)?;
         self.from = 0;
-        self.to = count;
-        Ok(count > 0)
+        self.to = 0;
+        match self.reader.read(&mut self.block) {
+            Ok(count) => {
+                self.to = count;
+                Ok(count > 0)
+            }
+            Err(error) if error.kind() == io::ErrorKind::Interrupted => Ok(true),
+            Err(error) => Err(error),
+        }
     }
 }

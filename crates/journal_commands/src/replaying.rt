@@ -1,70 +1,14 @@
 //! The command that replays a journal.
 
 use crate::fault::{Fault, tell_fault};
-use crate::lines::Lines;
 use crate::policies::{digests_of, open_replay};
+use crate::reading::{JournalReader, MOST_ENTRIES};
 use crate::state::state_text;
 use commands::{Failure, PolicyText, Status};
 use core_model::Entry;
-use journal::{Chain, Head, chain_behind, entry_line_fault, is_end, read_entry_line, read_head};
 use replay::{Replay, Stop};
-use sequences::Sequence;
 use std::alloc::Global;
 use std::io;
-
-// The most lines of a journal (own).
-const MOST_LINES: u64 = 1 << 62;
-
-// What is told of a journal that ends too early.
-const NO_END: &str = "the journal has no last line";
-
-// What is told of one that goes on behind its last line.
-const BEHIND_END: &str = "a line stands behind the last";
-
-// Reads the next line, if there is one.
-fn next_line<R: io::Read>(alloc: Global, lines: &mut Lines<'_, R>) -> Result<(), Fault> {
-    if lines.read_next()? {
-        Ok(())
-    } else {
-        Err(Fault::of_end(alloc, lines.number(), NO_END))
-    }
-}
-
-// Where a journal stands behind a head with which a history begins.
-fn opening_chain(alloc: Global, head: &Head) -> Result<Chain, Fault> {
-    if head.before > 0 {
-        return Err(Fault::of_part(alloc, head.before));
-    }
-    Ok(chain_behind(alloc, head)?)
-}
-
-// Reads the head of a journal over these policies: where the journal stands behind it.
-fn read_first<R: io::Read>(
-    alloc: Global,
-    policies: Sequence<[u8; 32]>,
-    lines: &mut Lines<'_, R>,
-) -> Result<Chain, Fault> {
-    next_line(alloc, lines)?;
-    match read_head(alloc, policies, lines.line())? {
-        Ok(head) => opening_chain(alloc, &head),
-        Err(fault) => Err(Fault::of_head(alloc, fault)),
-    }
-}
-
-// Why a line can't be read that isn't the last.
-fn unread_line<R: io::Read>(
-    alloc: Global,
-    chain: &Chain,
-    lines: &Lines<'_, R>,
-) -> Result<Fault, Fault> {
-    if chain.number >= MOST_LINES {
-        return Err(Fault::of_end(alloc, lines.number(), NO_END));
-    }
-    match entry_line_fault(alloc, chain, lines.line())? {
-        Some(fault) => Ok(Fault::of_line(alloc, lines.number(), fault)),
-        None => Ok(Fault::of_end(alloc, lines.number(), NO_END)),
-    }
-}
 
 // Why an entry of this number wasn't taken.
 fn untaken(alloc: Global, number: u64, why: Stop, replay: &Replay, told: &Entry) -> Fault {
@@ -75,51 +19,33 @@ fn untaken(alloc: Global, number: u64, why: Stop, replay: &Replay, told: &Entry)
     }
 }
 
-// Takes the entry of a line: where the journal stands behind it.
-fn take_line<R: io::Read>(
+// Takes the next entry of a journal; false where it has come to its end.
+fn take_next<R: io::Read>(
     alloc: Global,
-    chain: &Chain,
-    lines: &Lines<'_, R>,
+    journal: &mut JournalReader<'_, R>,
     replay: &mut Replay,
-) -> Result<Chain, Fault> {
-    if chain.number >= MOST_LINES {
-        return Err(unread_line(alloc, chain, lines)?);
-    }
-    let Some((entry, next)) = read_entry_line(alloc, chain, lines.line())? else {
-        return Err(unread_line(alloc, chain, lines)?);
+) -> Result<bool, Fault> {
+    let Some(entry) = journal.next_entry()? else {
+        return Ok(false);
     };
     match replay.take(alloc, &entry) {
-        Ok(()) => Ok(next),
-        Err(why) => Err(untaken(alloc, next.number, why, replay, &entry)),
-    }
-}
-
-// Sees that nothing stands behind the last line.
-fn read_nothing<R: io::Read>(alloc: Global, lines: &mut Lines<'_, R>) -> Result<(), Fault> {
-    if lines.read_next()? || !lines.line().is_empty() {
-        Err(Fault::of_end(alloc, lines.number(), BEHIND_END))
-    } else {
-        Ok(())
+        Ok(()) => Ok(true),
+        Err(why) => Err(untaken(alloc, journal.number(), why, replay, &entry)),
     }
 }
 
 // Replays the entries of a journal up to its end: how many there are.
-fn replay_lines<R: io::Read>(
+fn replay_entries<R: io::Read>(
     alloc: Global,
-    policies: Sequence<[u8; 32]>,
-    lines: &mut Lines<'_, R>,
+    journal: &mut JournalReader<'_, R>,
     replay: &mut Replay,
 ) -> Result<u64, Fault> {
-    let mut chain = read_first(alloc, policies, lines)?;
-    for _ in 0..MOST_LINES {
-        next_line(alloc, lines)?;
-        if is_end(alloc, &chain, lines.line())? {
-            read_nothing(alloc, lines)?;
-            return Ok(chain.number);
+    for _ in 0..MOST_ENTRIES {
+        if !take_next(alloc, journal, replay)? {
+            break;
         }
-        chain = take_line(alloc, &chain, lines, replay)?;
     }
-    Err(Fault::of_end(alloc, lines.number(), NO_END))
+    Ok(journal.number())
 }
 
 // What is told of a legal journal.
@@ -146,8 +72,8 @@ fn replayed<R: io::Read>(
 ) -> Result<String, Fault> {
     let mut replay = open_replay(alloc, text, further)?;
     let policies = digests_of(alloc, text, further)?;
-    let mut lines = Lines::new(alloc, journal);
-    let count = replay_lines(alloc, policies, &mut lines, &mut replay)?;
+    let mut entries = JournalReader::begin(alloc, policies, journal)?;
+    let count = replay_entries(alloc, &mut entries, &mut replay)?;
     legal_text(alloc, count, tells_state, &mut replay)
 }
 
@@ -164,9 +90,24 @@ pub fn replay_policies<R: io::Read, O: io::Write, E: io::Write>(
     out: &mut O,
     err: &mut E,
 ) -> Status {
-    match replayed(alloc, text, further, tells_state, journal) {
-        Ok(told) => {
-            if out.write_all(told.as_bytes()).is_err() || out.flush().is_err() {
+    pass_on(
+        alloc,
+        replayed(alloc, text, further, tells_state, journal),
+        out,
+        err,
+    )
+}
+
+/// Writes what is told of a journal on `out`, or on `err` why it isn't let pass, and says how the command ends.
+pub fn pass_on<O: io::Write, E: io::Write>(
+    alloc: Global,
+    told: Result<String, Fault>,
+    out: &mut O,
+    err: &mut E,
+) -> Status {
+    match told {
+        Ok(text) => {
+            if out.write_all(text.as_bytes()).is_err() || out.flush().is_err() {
                 tell_fault(alloc, Fault::Failure(Failure::Write), err)
             } else {
                 Status::Done

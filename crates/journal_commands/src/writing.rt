@@ -91,12 +91,11 @@ impl<'a, J: io::Write> JournalWriter<'a, J> {
     /// Writes the entries of a world that aren't written yet. Those before its audit's were.
     pub fn note(&mut self, world: &World) -> Result<(), JournalFault> {
         let core = world.core();
-        let mut number = core.entries_before();
-        for entry in core.audit() {
-            number = number.saturating_add(1);
-            if number > self.chain.number {
-                self.put(entry)?;
-            }
+        let entries = core.audit();
+        let written = self.chain.number.saturating_sub(core.entries_before());
+        let first = written.min(entries.len() as u64) as usize;
+        for entry in entries.split_at(first).1 {
+            self.put(entry)?;
         }
         Ok(())
     }

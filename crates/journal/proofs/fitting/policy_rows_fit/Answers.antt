@@ -1,0 +1,8 @@
+use Rattle.std.proofs.Common.{rules}
+use Rattle.journal.specs.Entries.{words_of_list, words_of_row}
+use Rattle.journal.proofs.Ranges.{joined}
+use Rattle.journal.proofs.fitting.policy_rows_fit.Goals as goal
+
+pub returns : goal.returns
+returns c =
+    joined (words_of_list words_of_row c.args.rows.now.allows) (words_of_list words_of_row c.args.rows.now.denies) (search rules) (search rules)

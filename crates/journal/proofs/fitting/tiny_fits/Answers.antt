@@ -1,0 +1,6 @@
+use Rattle.std.proofs.Common.{arith}
+use Rattle.journal.proofs.Ranges.{number_in_range}
+use Rattle.journal.proofs.fitting.tiny_fits.Goals as goal
+
+pub returns : goal.returns
+returns c = number_in_range 8 c.args._number c.ranges._number.fits (omega (arith, c.ranges._number.fits))

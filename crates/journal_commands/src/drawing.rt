@@ -1,0 +1,101 @@
+//! The command that draws a journal.
+
+ghost use Rattle.std.specs.Prelude.{◌≡◌, ◌<◌, ◌^◌, IfOk, length, string_bytes};
+ghost use Rattle.picture.specs.Pages.{text_of_page};
+
+use crate::fault::Fault;
+use crate::policies::{digests_of, open_replay};
+use crate::reading::JournalReader;
+use crate::replaying::pass_on;
+use commands::{Failure, PolicyText, Span, Status};
+use core_model::{Entry, Origin};
+use picture::write_page;
+use std::alloc::{AllocError, Global};
+use std::io;
+
+// The most entries of a page (own).
+const MOST_OF_PAGE: u32 = u32::MAX;
+
+// The page of entries behind a beginning, of which these are asked for.
+fn page_of(
+    alloc: Global,
+    start: &Origin,
+    entries: &[Entry],
+    span: Span,
+) -> Result<String, AllocError>
+    requires { length entries.now < 2 ^ 32 }
+    ensures { IfOk result (λ page. string_bytes page ≡ text_of_page start.now entries.now span) }
+{
+    let mut page = String::new(alloc);
+    write_page(alloc, &mut page, start, entries, span)?;
+    Ok(page)
+}
+
+/// Reads the entries of a journal up to its end, and keeps those up to a number.
+pub fn read_entries<R: io::Read>(
+    alloc: Global,
+    journal: &mut JournalReader<'_, R>,
+    last: u64,
+) -> Result<Vec<Entry>, Fault> {
+    let mut entries = Vec::new(alloc);
+    for _ in 0..MOST_OF_PAGE {
+        let Some(entry) = journal.next_entry()? else {
+            return Ok(entries);
+        };
+        if journal.number() <= last {
+            keep(&mut entries, entry)?;
+        }
+    }
+    Err(Fault::Failure(Failure::OutOfMemory))
+}
+
+// Keeps an entry.
+fn keep(entries: &mut Vec<Entry>, entry: Entry) -> Result<(), Fault> {
+    match entries.push(entry) {
+        Ok(()) => Ok(()),
+        Err(_) => Err(Fault::Failure(Failure::OutOfMemory)),
+    }
+}
+
+// The page of entries that are few enough for one.
+fn drawn(alloc: Global, start: &Origin, entries: &[Entry], span: Span) -> Result<String, Fault> {
+    if entries.len() >= MOST_OF_PAGE as usize {
+        return Err(Fault::Failure(Failure::OutOfMemory));
+    }
+    Ok(page_of(alloc, start, entries, span)?)
+}
+
+// The page of a journal.
+fn page_told<R: io::Read>(
+    alloc: Global,
+    text: &[u8],
+    further: &[PolicyText],
+    span: Span,
+    journal: &mut R,
+) -> Result<String, Fault> {
+    let opened = open_replay(alloc, text, further)?;
+    let policies = digests_of(alloc, text, further)?;
+    let mut reader = JournalReader::begin(alloc, policies, journal)?;
+    let entries = read_entries(alloc, &mut reader, span.last)?;
+    drawn(alloc, opened.core().start(), entries.as_slice(), span)
+}
+
+/// Draws a journal over the policy in a text, with the further policies that it may put in force, without making its calls:
+/// on `out` stands the page of its entries, of which these are asked for; else on `err` why there is none: a fault of the
+/// policies as `check_policy` names it, or the first line that can't be read.
+pub fn draw_journal<R: io::Read, O: io::Write, E: io::Write>(
+    alloc: Global,
+    text: &[u8],
+    further: &[PolicyText],
+    span: Span,
+    journal: &mut R,
+    out: &mut O,
+    err: &mut E,
+) -> Status {
+    pass_on(
+        alloc,
+        page_told(alloc, text, further, span, journal),
+        out,
+        err,
+    )
+}

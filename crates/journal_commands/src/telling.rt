@@ -1,0 +1,108 @@
+//! The command that tells what happened in a journal, and why.
+
+use crate::drawing::read_entries;
+use crate::fault::Fault;
+use crate::policies::{digests_of, open_replay};
+use crate::reading::JournalReader;
+use crate::replaying::pass_on;
+use access_core::AccessCore;
+use commands::{PolicyText, Status};
+use core_model::{Answer, Entry};
+use explain::failure_told;
+use script::{LineAnswer, NumberMeaning, write_line};
+use sequences::Sequence;
+use std::alloc::{AllocError, Global};
+use std::io;
+
+// Of a journal, the line of the first entry: the head stands before it.
+const LINE_BEHIND: u64 = 2;
+
+// An entry as `audit` shows it, behind so many others.
+fn write_shown(
+    alloc: Global,
+    out: &mut String,
+    core: &AccessCore,
+    before: u64,
+    entry: &Entry,
+) -> Result<(), AllocError> {
+    let mut entries = Sequence::new(alloc);
+    entries.push(entry.copy(alloc)?)?;
+    let answer = world::Answer::Core(Answer::Audit { before, entries });
+    let reply = Ok(LineAnswer::Answered {
+        meaning: NumberMeaning::Plain,
+        answer,
+    });
+    let mut told = String::new(alloc);
+    write_line(&mut told, core.policy(), &reply)?;
+    out.push_str(behind_first_line(told.as_str()))
+}
+
+// What stands behind the first line of a text: `audit 1`, the count.
+fn behind_first_line(text: &str) -> &str {
+    match text.split_once('\n') {
+        Some((_, behind)) => behind,
+        None => text,
+    }
+}
+
+// Tells the last of some entries, and if it failed why.
+fn tell_last(
+    alloc: Global,
+    out: &mut String,
+    core: &AccessCore,
+    before: u64,
+    entries: &[Entry],
+) -> Result<(), AllocError> {
+    let Some(entry) = entries.last() else {
+        return Ok(());
+    };
+    write_shown(alloc, out, core, before, entry)?;
+    let line = before.saturating_add(LINE_BEHIND);
+    let told = failure_told(alloc, core.policy(), core.start(), entries, line)?;
+    out.push_str(told.as_str())
+}
+
+// Tells entries in order.
+fn tell_entries(alloc: Global, core: &AccessCore, entries: &[Entry]) -> Result<String, AllocError> {
+    let mut out = String::new(alloc);
+    for place in 0..entries.len() {
+        let so_far = place.saturating_add(1).min(entries.len());
+        tell_last(
+            alloc,
+            &mut out,
+            core,
+            place as u64,
+            entries.split_at(so_far).0,
+        )?;
+    }
+    Ok(out)
+}
+
+// What is told of a journal.
+fn journal_told<R: io::Read>(
+    alloc: Global,
+    text: &[u8],
+    further: &[PolicyText],
+    journal: &mut R,
+) -> Result<String, Fault> {
+    let opened = open_replay(alloc, text, further)?;
+    let policies = digests_of(alloc, text, further)?;
+    let mut reader = JournalReader::begin(alloc, policies, journal)?;
+    let entries = read_entries(alloc, &mut reader, u64::MAX)?;
+    Ok(tell_entries(alloc, opened.core(), entries.as_slice())?)
+}
+
+/// Tells a journal over the policy in a text, with the further policies that it may put in force, without making its calls:
+/// on `out` stands each entry as `audit` shows it, and behind one that was denied, faulted or failed why, as a run that
+/// explains tells it; else on `err` why there is nothing to tell: a fault of the policies as `check_policy` names it, or the
+/// first line that can't be read.
+pub fn tell_journal<R: io::Read, O: io::Write, E: io::Write>(
+    alloc: Global,
+    text: &[u8],
+    further: &[PolicyText],
+    journal: &mut R,
+    out: &mut O,
+    err: &mut E,
+) -> Status {
+    pass_on(alloc, journal_told(alloc, text, further, journal), out, err)
+}
