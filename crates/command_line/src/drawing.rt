@@ -15,8 +15,8 @@ pub struct Drawn {
     pub span: Span,
 }
 
-// What is told of the policies of a run: of the first with a fault.
-fn policies_told(
+/// What is told of the policies of a run: of the first with a fault.
+pub fn policies_told(
     alloc: Global,
     file: PolicyFile<'_>,
     further: Further<'_>,
