@@ -49,8 +49,6 @@ def main(program):
     trials.every("the help lists the forms in the order of the table", lists, [["--help"], ["-h"], ["help"]])
     untold = lambda words: None if (it := run([program, *words])).status == 0 and begin.encode() not in it.out else "it lists them"
     trials.every("the help of a command doesn't", untold, [["help", "run"], ["check", "--help"]])
-    alone = lambda words: None if (it := run([program, *words])).status == 2 and not it.out and begin.encode() in it.err else f"{it}"
-    trials.every("no command is told all of it", alone, [[]])
     trials.end()
 
 

@@ -7,6 +7,7 @@ import os
 import sys
 
 from trial import TOP, Ended, Trials, run
+from words import COMMANDS
 
 # the pages by the names that help knows them by, with their files and what they are about
 PAGES = {"scripts": ("scripts", "on scripts"), "policy": ("policy", "on policies"), "kernels": ("kernels", "on how a kernel runs"), "readable": ("assemble", "on readable lines")}
@@ -58,15 +59,17 @@ def main(program):
     printed = lambda name: None if (it := run([program, "help", name])) == Ended(0, page(name).encode(), b"") else f"it ended otherwise: {it}"
     trials.every("help of a page prints it", printed, PAGES)
 
-    def tells(word):
-        """That help of a first word of a line tells its rows."""
-        rows = [it for name in ("scripts", "readable") for it in line_rows(name).get(word, [])]
+    def tells(case):
+        """That a command tells the rows of a first word of a line, of these pages."""
+        command, word, names = case
+        rows = [it for name in names for it in line_rows(name).get(word, [])]
         wanted = "".join(f"{cells[0]}\n" + "".join(f"  {it}\n" for it in cells[1:]) for cells in rows)
-        it = run([program, "help", word])
+        it = run([program, command, word])
         return None if wanted and it == Ended(0, wanted.encode(), b"") else f"it ended otherwise: {it}"
 
-    commands = ("run", "check")
-    trials.every("help of a first word of a line tells it", tells, [it for name in ("scripts", "readable") for it in line_rows(name) if it not in commands])
+    both = ("scripts", "readable")
+    trials.every("help of a first word of a line tells it", tells, [("help", it, both) for name in both for it in line_rows(name) if it not in COMMANDS])
+    trials.every("explain of a first word of a readable line tells it", tells, [("explain", it, ("readable",)) for it in line_rows("readable")])
     helped = lambda words: None if (it := run([program, *words])).status == 0 and b"Usage: brokerd" in it.out and not it.err else f"{it}"
     trials.every("help of a command is as ever", helped, [["help"], ["help", "run"], ["help", "check"]])
     unknown = lambda words: None if (it := run([program, *words])).status == 2 and not it.out and it.err else f"{it}"

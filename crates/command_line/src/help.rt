@@ -18,11 +18,11 @@ Q is the number of a queue, T a ticket; KIND is agent, region, signal or kernel;
 or LAUNCH, and - for none; OP is store, add, subtract, and, or, xor or exchange; CONDITION is EQ, NE, LT or GTE.
 
 Lines that assemble and run --readable read beside these (docs/assemble.md):
-  dispatch C? Q P KERNEL grid N,N,N group N,N,N arguments VALUE.. at ADDRESS signal NAME ..
+  dispatch CLIENT? Q P KERNEL grid N,N,N group N,N,N arguments VALUE.. at ADDRESS signal NAME ..
   fill Q P ADDRESS length N with BYTE ..       copy Q P ADDRESS to ADDRESS length N ..
   add Q P N to ADDRESS ..                      all-of Q P SIGNAL.. ..       any-of Q P SIGNAL.. ..
   drain, drain Q (of run --readable alone): what can move in all open queues, or in one, is brought to its end
-ADDRESS may be a region there, as buf or buf+16; # begins a comment at a line's end.
+P is the number of a producer; ADDRESS may be a region there, as buf or buf+16; # begins a comment at a line's end.
 
 Pages that help prints: brokerd help scripts, brokerd help policy, brokerd help kernels, brokerd help readable; and
 brokerd help WORD tells of the first word of a line.

@@ -9,7 +9,7 @@ mod readable_page;
 mod rows;
 mod scripts_page;
 
-pub use rows::rows_of;
+pub use rows::{readable_rows_of, rows_of};
 
 /// A page.
 #[derive(Clone, Copy, Debug, PartialEq, Eq)]

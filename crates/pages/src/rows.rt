@@ -52,6 +52,14 @@ fn push_readable_rows(out: &mut String, word: &str) -> Result<(), AllocError> {
     Ok(())
 }
 
+/// The rows of the tables of lines on the page on readable lines whose first word in back quotes is this one: the cells of
+/// each, a line each. None where there is no such row.
+pub fn readable_rows_of(alloc: Global, word: &str) -> Result<String, AllocError> {
+    let mut out = String::new(alloc);
+    push_readable_rows(&mut out, word)?;
+    Ok(out)
+}
+
 /// The rows of the pages' tables whose first word in back quotes is this one, as a verb of a line, a reply or a cause: the
 /// cells of each, a line each. Rows on readable lines stand behind those on lines of scripts. None where there is no such
 /// row.
