@@ -327,14 +327,14 @@ goes_replied later old new held holds text h handed = (h.0, h.1, subst (λ all. 
 outcome_by_line : (says : Told → Flow → Type 0) (later : List Declared) (old new : Joined) (held holds left : Option (List ℕ)) (script : List ℕ) (ended : Result ⊤ ScriptFault) →
     Outcome (watched says later) old new held holds left script ended → RunsByLine false later old new held holds ended
 outcome_by_line says later old new held holds left script (Ok done) o =
-    goes_replied later old new held holds o.1 (of_runs says later old (lines_of script) o.1 new o.2) o.3
+    goes_replied later old new held holds o.1.0 (of_runs says later old (lines_of script) o.1.0 new o.1.1) o.1.2
 outcome_by_line says later old new held holds left script (Err OutOfMemory) o =
     let stop = of_stop says later o.2 new o.1 o.5 in
     (o.2, stop.0, goes_replied later old o.2 held holds o.4.0 (of_runs says later old o.0 o.4.0 o.2 o.4.1) o.4.2, stop.1)
 outcome_by_line says later old new held holds left script (Err (BadLine number)) o =
-    goes_replied later old new held holds o.6 (of_runs says later old o.0 o.6 new o.7) o.8
+    goes_replied later old new held holds o.6.0 (of_runs says later old o.0 o.6.0 new o.6.1) o.6.2
 outcome_by_line says later old new held holds left script (Err Read) o =
-    goes_replied later old new held holds o.5 (of_runs says later old o.0 o.5 new o.6) o.7
+    goes_replied later old new held holds o.5.0 (of_runs says later old o.0 o.5.0 new o.5.1) o.5.2
 outcome_by_line says later old new held holds left script (Err Write) o =
     let near = of_near says later o.2 new o.1 o.5 in
     let begun = of_runs (λ told flow. ⊤) later old o.0 o.4.0 o.2 o.4.1 in
