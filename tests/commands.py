@@ -7,6 +7,9 @@ import hashlib
 
 from trial import BARRIER, FILL, KERNEL, PRELUDE, SAMPLE
 
+# how a reply tells that memory was wanted
+WANT = "refused 0 OutOfMemory"
+
 # every form of line, most of them answered, some refused
 FORMS = [
     *PRELUDE,
@@ -179,7 +182,7 @@ READABLE = [
     "audit",
 ]
 
-# readable lines that are all done, each with one reply
+# readable lines that are all done, each with one reply; what a drain leaves waits, and is not refused
 TYPED = [
     *PRELUDE,
     "write alice buf+0x10 01020304",
@@ -192,6 +195,10 @@ TYPED = [
     "drain 1",
     "read alice buf+16 4",
     "drain",
+    "all-of 1 1 go signal done",
+    "drain",
+    "signal alice go store 0",
+    "drain 1",
     "audit",
 ]
 
@@ -382,6 +389,13 @@ def files(room):
         it.write(b"".join(bytes.fromhex(packet) for packet in (FILL, KERNEL, BARRIER, "01" + "00" * 63)))
 
 
+def is_want(reply):
+    """Whether a reply tells that memory was wanted: a drain's where a request that waits was refused for it."""
+    if reply.startswith("{"):
+        return '"name":"OutOfMemory"' in reply
+    return reply == WANT or reply.startswith("drained ") and any(line.endswith(f" {WANT}") for line in reply.split("\n"))
+
+
 class Row:
     """A command: its words, the lines of its standard input, and what these are.
 
@@ -406,6 +420,7 @@ def rows(room):
         Row("check of a fault", ["check", file("bad.toml")]),
         Row("check of a fault of a kernel", ["check", file("bad_kernel.toml")]),
         Row("the help", ["--help"]),
+        Row("the help of a line", ["help", "drain"], is_new=True),
         Row("a bad command line", ["run", "--loud"]),
         Row("check that lists", ["check", file("large.toml"), "--list"], is_new=True),
         Row("check that lists as JSON", ["check", SAMPLE, "--json"], is_new=True),
@@ -423,7 +438,9 @@ def rows(room):
         Row("a script of kernels", ["run", SAMPLE, *few], KERNELS, "script", shares_front=True),
         Row("a script of groups", ["run", file("reverse.toml"), *few], GROUPS, "script"),
         Row("a strict run", ["run", SAMPLE, "--strict", *few], DONE, "strict"),
-        Row("a readable run", ["run", SAMPLE, "--readable", "--strict", *few], [it for it in TYPED if not it.startswith("drain")], "strict", is_new=True),
+        Row("a readable run", ["run", SAMPLE, "--readable", "--strict", *few], TYPED, "strict", is_new=True),
+        Row("replies as JSON", ["run", SAMPLE, "--json", "--strict", *few], DONE, "strict", is_new=True),
+        Row("replies to readable lines as JSON", ["run", SAMPLE, "--readable", "--json", "--strict", *few], TYPED, "strict", is_new=True),
         Row("a script of rotations", ["run", SAMPLE, *few], ROTATIONS, "script", is_new=True),
         Row("a script of reloads", ["run", SAMPLE, file("first.toml"), file("second.toml"), *few], RELOADS, "script", is_new=True),
         Row("picture", ["picture", SAMPLE], DONE, "picture", is_new=True),

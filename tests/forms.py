@@ -1,16 +1,14 @@
 #!/usr/bin/env python3
 """The table of the forms of lines is told as it stands, on the page on scripts and in the help: forms.py PROGRAM
 
-The table is `FORMS` of crates/script/src/forms.rt, by which lines are read. Each row is shown as `stop Q`; the two forms of
-`signal` share a row of the page, whose text names the second one's word.
+The table is `FORMS` of crates/script/src/forms.rt, by which lines are read, and of which the help is made. Each row is shown
+as `stop Q`; the two forms of `signal` share a row of the page, whose text names the second one's word.
 """
 import re
 
 from trial import TOP, Trials, program_given, run
 
 ROW = re.compile(r'^    [A-Z]\w* "(\w+)"((?: "[^"]+" \w+,?)*) ?;$', re.M)
-# how the help's shorter words are spelled in the table, where one differs from its first letter
-SHORT = {"CONDITION": "COND", "RIGHT,RIGHT": "R,R", "CLIENT": "C", "PRODUCER": "P"}
 
 
 def table():
@@ -39,10 +37,18 @@ def main(program):
     told = lambda form: None if form in rows or (shown[form][0] == "signal" and f"`{shown[form][3]}`" in rows["signal CLIENT NAME OP V"]) else "no row"
     trials.every("each form has its row on the page", told, shown)
     trials.every("each row of the page is a form", lambda row: None if row in shown else "no form", rows)
-    help_text = re.sub(r"\s+", " ", run([program, "--help"]).out.decode())
-    short = lambda words: " ".join([words[0], *(SHORT.get(it, it) for it in words[1:])])
-    in_help = lambda words: None if f" {short(words)} " in help_text or words[0] == "signal" and words[3] in help_text else f"not there: {short(words)}"
-    trials.every("the help has each form", in_help, forms)
+    begin, end = "Lines of a script (docs/scripts.md):\n", "Q is the number of a queue"
+    wanted = [" ".join(it) for it in forms]
+
+    def lists(words):
+        ended = run([program, *words])
+        listed = ended.out.decode().split(begin)[-1].split(end)[0]
+        found = [it for line in listed.splitlines() for it in re.split(r" {2,}", line.strip())]
+        return None if ended.status == 0 and found == wanted else f"{found}"
+
+    trials.every("the help lists the forms in the order of the table", lists, [["--help"], ["-h"], ["help"]])
+    untold = lambda words: None if (it := run([program, *words])).status == 0 and begin.encode() not in it.out else "it lists them"
+    trials.every("the help of a command doesn't", untold, [["help", "run"], ["check", "--help"]])
     trials.end()
 
 

@@ -112,7 +112,7 @@ class TextTrial:
         """What is wrong with the end of a strict run behind a line that was refused for want of memory."""
         asked = [it for it in self.row.lines if it and not it.startswith("#")]
         replies, whole = blocks(asked, ended.out), blocks(asked, self.whole.out)
-        if ended.err or not replies or replies[-1] != WANT or replies[:-1] != whole[: len(replies) - 1]:
+        if ended.err or not replies or not commands.is_want(replies[-1]) or replies[:-1] != whole[: len(replies) - 1]:
             return f"it ended otherwise: {ended}"
         return None if may_want(asked[len(replies) - 1], whole[len(replies) - 1]) else f"{ended}: refused, though it takes no memory"
 

@@ -168,6 +168,17 @@ def wrong_look(page):
     return f"off the page: {out[:3]}" if out else None
 
 
+def wrong_lanes(page):
+    """Why a lane isn't just as high as the rows that its packets stand in, or none. A lane has 16 above its rows, and a row 22."""
+    marks = [box(it) for it in page.groups if it.get("class").split(" ")[0] in ("bar", "denial")]
+    for _, top, _, height in (box(it) for it in page.groups if it.get("class") == "lane"):
+        rows = [(at - top - 16) // 22 for _, at, _, _ in marks if top <= at < top + height]
+        wanted = 16 + 22 * (1 + max(rows, default=0))
+        if height != wanted:
+            return f"a lane at {top} is {height} high, and not {wanted}"
+    return None
+
+
 def wrong_page(parts, text, skipped=0):
     """Why a page isn't a picture of what an audit tells behind what was handed out, or none."""
     if isinstance(text, Ended):
@@ -202,7 +213,7 @@ def wrong_page(parts, text, skipped=0):
         wrong = wrong_element(entry, number, x(number), step, (ending, before + last), groups[0])
         if wrong:
             return wrong
-    more = [] if skipped else [wrong_start(handed, entries, page), wrong_arrows(handed, entries, page, step)]
+    more = [] if skipped else [wrong_start(handed, entries, page), wrong_arrows(handed, entries, page, step), wrong_lanes(page)]
     return next((it for it in (*more, wrong_look(page)) if it), None)
 
 

@@ -78,23 +78,25 @@ def has(ended, status, out, told, untold=()):
 
 def explained(trials, program, room):
     """Where standard error is a terminal, faults are explained unasked."""
-    files = {"wrong.toml": b"[[client]]\nname = 1\n", "a.script": b"# a script\n\ngrant alice agent gpu USE\n", "not.toml": b"= 1\n", "wrong.hsail": b"module"}
+    files = {"wrong.toml": b"[[client]]\nname = 1\n", "a.script": b"# a script\n\ngrant alice agent gpu USE\n", "not.toml": b"= 1\n", "wrong.hsail": b"module", "readable.script": b"dispatch 1 1 inc grid 4 group 2\n"}
     for name, given in files.items():
         with open(f"{room}/{name}", "wb") as it:
             it.write(given)
     wrong, script, absent, other = (f"{room}/{it}" for it in ("wrong.toml", "a.script", "nothing", "not.toml"))
+    readable = f"{room}/readable.script"
     why = [f"{wrong}, line 2"]
     looks = [f"{script}: this looks like a script, as its line 3 begins with `grant`"]
     rows = [
         (["run", SAMPLE], DENIED, 0, ["alice has no WRITE on region buf", "grant alice region buf WRITE"]),
         (["run", SAMPLE], b"nonsense\n", 1, ["line 1: bad request", "line 1: `nonsense` is no word that a line begins with"]),
         (["picture", SAMPLE], b"\ngrant alice\n", 1, ["line 2: bad request", "line 2: the form is `grant CLIENT KIND NAME RIGHT,RIGHT`"]),
-        *(([*it, wrong], b"", 1, ["policy: 3 BadValue client 1", *why]) for it in (["check"], ["check", "--list"], ["run"], ["run", "--strict"], ["picture"], ["assemble"])),
+        *(([*it, wrong], b"", 1, ["policy: 3 BadValue client 1", *why]) for it in (["check"], ["check", "--list"], ["run"], ["run", "--strict"], ["picture"], ["assemble"], ["replay"])),
         (["threads", wrong, "--producers", "1"], b"", 1, why),
-        *(([it, SAMPLE, SAMPLE, wrong], b"", 1, why) for it in ("run", "picture")),
-        *(([*it, script], b"", 1, ["policy: 1 NotToml", *looks]) for it in (["check"], ["run"], ["picture"], ["assemble"])),
-        *(([*it, absent], b"", 3, ["read fault", f"{absent}: there is no such file"]) for it in (["check"], ["check", "--json"], ["run"], ["picture"], ["assemble"], ["kernel"], ["decode", "--slots"], ["threads", "--producers", "1"], ["run", SAMPLE])),
-        *(([*it, room], b"", 3, ["read fault", f"{room}: it is a directory"]) for it in (["check"], ["run"], ["picture"], ["assemble"], ["kernel"], ["run", SAMPLE])),
+        *(([it, SAMPLE, SAMPLE, wrong], b"", 1, why) for it in ("run", "picture", "replay")),
+        *(([*it, script], b"", 1, ["policy: 1 NotToml", *looks]) for it in (["check"], ["run"], ["picture"], ["assemble"], ["replay"])),
+        (["check", readable], b"", 1, ["policy: 1 NotToml", f"{readable}: this looks like a script, as its line 1 begins with `dispatch`"]),
+        *(([*it, absent], b"", 3, ["read fault", f"{absent}: there is no such file"]) for it in (["check"], ["check", "--json"], ["run"], ["picture"], ["assemble"], ["kernel"], ["decode", "--slots"], ["threads", "--producers", "1"], ["run", SAMPLE], ["replay"], ["replay", SAMPLE])),
+        *(([*it, room], b"", 3, ["read fault", f"{room}: it is a directory"]) for it in (["check"], ["run"], ["picture"], ["assemble"], ["kernel"], ["run", SAMPLE], ["replay"], ["replay", SAMPLE])),
     ]
     told = lambda it: has(at_terminal([program, *it[0]], it[1]), it[2], None, it[3])
     trials.every("a fault is explained on a terminal", told, rows)
@@ -119,6 +121,7 @@ def sessions(trials, program):
     """Where standard input is a terminal too, a person is prompted, and a bad line ends nothing."""
     forms = pages.first_rows("scripts")
     row = lambda verb: [cell.strip() for cells in forms[verb] for cell in cells]
+    readable_row = lambda verb: [cell for cells in pages.line_rows("readable")[verb] for cell in cells]
 
     def session(it):
         given, words, status, out, told, untold = it
@@ -141,6 +144,7 @@ def sessions(trials, program):
         (["x", "list bob"], ["--strict"], 1, b"", ["line 1: bad request"], []),
         (["fill 1", "list bob # nobody", "drain"], ["--readable"], 1, b"list 0\ndrained launched 0 denied 0 ran 0 faulted 0 ready 0 failed 0 finished 0 waiting 0\n",
          ["line 1: bad request", "line 1: end of line: wanted is the number of a producer"], ["line 2:"]),
+        (["help drain", "help drain 1", "help dispatch", "help fill 1 1 buf", "list bob"], ["--readable"], 0, b"list 0\n", ["`drain`", "`drain Q`", *readable_row("drain"), *readable_row("dispatch"), *readable_row("fill")], ["bad request", "nothing is called"]),
         (["help drain", "load alice done", "list bob"], ["--json"], 0, b'{"line":2,"reply":"refused","number":3,"name":"Denied","right":"WAIT"}\n{"line":3,"reply":"list","objects":[]}\n', ["line 2: alice has no WAIT"], []),
         ([*DENIED.decode().splitlines(), "y"], [], 1, REPLIES, ["line 4: alice has no WRITE", "line 5: bad request"], []),
     ]
@@ -161,18 +165,19 @@ def counts(trials, program):
 
     rows = [(words, lines, lines // 10_000) for words in (["run", SAMPLE], ["run", SAMPLE, "--explain=never"], ["picture", SAMPLE]) for lines in (0, 9_999, 10_500, 35_000)]
     trials.every("a script of over ten thousand lines is counted", counted, rows)
+    lines = 11_000
+    with tempfile.TemporaryDirectory(prefix="terminal-") as room:
+        run([program, "run", SAMPLE, "--journal", f"{room}/journal"], text(["grant alice signal done CHANGE", *["signal alice done add 1"] * lines]))
+        with open(f"{room}/journal", "rb") as it:
+            journal = it.read()
 
-    def replayed(entries):
-        """How a long journal is counted: its lines are the entries, and two more."""
-        journal = text(commands.journal(["grant 1 agent 1 1 accepted 0"] * entries))
-        ended = at_terminal([program, "replay", SAMPLE], journal)
-        found = [int(part.split(b" ")[0]) for part in ended.err.split(b"\r") if part.endswith(b" lines")]
-        wanted = len(found) == (entries + 2) // 10_000 and all(number >= 10_000 * place for place, number in enumerate(found, 1))
-        alone = run([program, "replay", SAMPLE], journal)
-        well = ended.status == 0 and ended.out == alone.out == b"legal %d entries\n" % entries and not alone.err
-        return None if well and wanted and (found or not ended.err) else f"{found}: {ended}"
+    def replayed(words):
+        """A replay is counted the same way, and tells what it tells elsewhere."""
+        ended, elsewhere = at_terminal([program, "replay", SAMPLE, *words], journal), run([program, "replay", SAMPLE], journal)
+        wanted = ended.out == elsewhere.out == b"legal %d entries\n" % (lines + 1) and ended.status == elsewhere.status == 0 and not elsewhere.err
+        return None if wanted and ended.err.count(b" lines\r") == len(journal.splitlines()) // 10_000 else f"{ended}, elsewhere {elsewhere}"
 
-    trials.every("a journal of over ten thousand lines is counted as it is replayed", replayed, [0, 9_000, 10_500, 35_000])
+    trials.every("a replay of over ten thousand lines is counted", replayed, [[], ["--explain=never"]])
     silent = lambda it: None if run([program, "run", SAMPLE], b"#\n" * it) == Ended(0, b"", b"") else "it tells something"
     trials.every("where standard error is no terminal it isn't", silent, [35_000])
 

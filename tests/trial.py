@@ -94,7 +94,7 @@ class Trials:
 
 
 def blocks(script, out):
-    """The replies to a script's lines, one a line: what follows `list N`, `errors N`, `audit N` and `rotated N` belongs to it."""
+    """The replies to a script's lines, one a line: what follows `list N`, `errors N`, `audit N`, `rotated N` and `drained .. N` belongs to it."""
     lines = out.decode(errors="replace").split("\n")
     if lines.pop() != "":
         return None
@@ -102,7 +102,7 @@ def blocks(script, out):
     while at < len(lines):
         words = lines[at].split(" ")
         asked = script[len(found)].split(" ")[0] if len(found) < len(script) else ""
-        count = int(words[1]) if COUNTED.get(asked) == words[0] else 0
+        count = int(words[1]) if COUNTED.get(asked) == words[0] else int(words[-1]) if words[0] == "drained" else 0
         found.append("\n".join(lines[at : at + 1 + count]))
         at += 1 + count
     return found

@@ -10,7 +10,7 @@ from trial import FILL, PRELUDE, SAMPLE, TOP, Ended, Trials, run, text
 KERNEL_TEXT = f"{TOP}/crates/cases/data/inc.hsail"
 # how many entries an audit has place for at the most, and where none is named
 MOST, DEFAULT = 1_048_576, 65_536
-COMMANDS = ("check", "run", "picture", "kernel", "assemble", "explain", "decode", "threads")
+COMMANDS = ("check", "run", "picture", "kernel", "assemble", "replay", "explain", "decode", "threads")
 
 
 def is_told(words):

@@ -10,7 +10,7 @@ use assemble::{Book, BookError};
 use commands::{Failure, PolicyText, Status, check_kernels, name_failure, tell_end};
 use explain::{Asked, asked_by, bad_line, policy_fault, retold};
 use policy::{Policy, ReadPolicyError, read_policy};
-use readable::{Style, serve_line};
+use readable::{Style, run_by_line};
 use script::{
     Command, Flow, IoLog, LineAnswer, LineReply, ScriptFault, Watch, run_watched, strictly,
 };
@@ -167,32 +167,6 @@ fn tell_of_line<E: io::Write>(explainer: &Explainer, err: &mut E) -> Option<Stat
     }
 }
 
-// Does what is left of a script line by line, up to the next explanation.
-fn run_by_line<R: io::Read, O: io::Write>(
-    world: &mut World,
-    later: &[Policy],
-    explainer: &mut Explainer,
-    style: Style<'_>,
-    lines: &mut LineReader<'_, R>,
-    out: &mut O,
-    wanted: &mut String,
-) -> Result<(), ScriptFault> {
-    let alloc = explainer.alloc;
-    for _ in 0..MOST_RUNS {
-        match lines.next_line() {
-            Ok(true) => {}
-            Ok(false) => return Ok(()),
-            Err(_) => return Err(ScriptFault::Read),
-        }
-        let number = lines.number();
-        let line = lines.line();
-        serve_line(
-            alloc, world, later, explainer, style, number, line, out, wanted,
-        )?;
-    }
-    Err(ScriptFault::Read)
-}
-
 // Runs what is left of a script up to the next explanation.
 fn run_on<R: io::Read, O: io::Write>(
     world: &mut World,
@@ -204,7 +178,16 @@ fn run_on<R: io::Read, O: io::Write>(
 ) -> Result<(), ScriptFault> {
     if explainer.is_by_line {
         let mut wanted = String::new(explainer.alloc);
-        let ended = run_by_line(world, later, explainer, style, lines, out, &mut wanted);
+        let ended = run_by_line(
+            explainer.alloc,
+            world,
+            later,
+            explainer,
+            style,
+            lines,
+            out,
+            &mut wanted,
+        );
         explainer.wanted = wanted;
         return ended;
     }

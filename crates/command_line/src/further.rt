@@ -207,6 +207,15 @@ fn run_behind(rt: &HostRuntime, file: PolicyFile<'_>, names: &[&str], manner: Ma
     }
 }
 
+/// What is written beside lines that no person is prompted for, where standard error is a terminal.
+pub fn beside_input(rt: &HostRuntime) -> Beside {
+    if rt.stderr().is_terminal() {
+        Beside::Count
+    } else {
+        Beside::Nothing
+    }
+}
+
 // What is written beside the lines of a script on standard input, where standard error is a terminal.
 fn beside(rt: &HostRuntime) -> Beside {
     match (rt.stderr().is_terminal(), rt.stdin().is_terminal()) {

@@ -1,33 +1,33 @@
 //! What the help and the version say beside the commands.
 
-/// The program's version, and the kit that it is proved with.
-pub const VERSION: &str = "0.1.0 (rattle-kit-13b logic dac8208d650f15bf)";
+use script::line_forms;
+use std::alloc::{AllocError, Global};
 
-/// What stands below the commands in the help.
-pub const HELP: &str = "\
-Lines of a script (docs/scripts.md):
-  grant C KIND NAME R,R        revoke C KIND NAME R,R      queue C AGENT SIZE PRODUCERS
-  stop Q                       reserve Q P                 room Q P T
-  word Q P T K WORD            publish Q P T PACKET        submit Q P PACKET
-  look Q                       part Q K                    peek Q
-  take Q                       clear Q                     advance Q
-  retire Q                     serve Q                     run Q ID
-  poll Q ID                    finish Q ID                 write C ADDRESS BYTES
-  read C ADDRESS N             signal C NAME OP V          load C NAME
-  test C NAME COND V           list C                      errors Q
-  audit                        rotate                      reload N
-KIND is agent, region, signal or kernel; R is USE, READ, WRITE, WAIT, CHANGE or LAUNCH, and - for none;
-OP is store, add, subtract, and, or, xor, exchange or cas (which has two V); COND is EQ, NE, LT or GTE.
+/// The program's version, and the kit that it is proved with.
+pub const VERSION: &str = "0.1.0 (rattle-kit-13f logic dac8208d650f15bf)";
+
+// What stands above the forms of lines.
+const FORMS_TITLE: &str = "Lines of a script (docs/scripts.md):\n";
+
+// Where the second of two forms on a line begins, behind the indent.
+const COLUMN: usize = 40;
+
+// What stands below the forms of lines.
+const BELOW_FORMS: &str = "\
+Q is the number of a queue, T a ticket; KIND is agent, region, signal or kernel; RIGHT is USE, READ, WRITE, WAIT, CHANGE
+or LAUNCH, and - for none; OP is store, add, subtract, and, or, xor or exchange; CONDITION is EQ, NE, LT or GTE.
 
 Lines that assemble and run --readable read beside these (docs/assemble.md):
-  dispatch C? Q P KERNEL grid N,N,N group N,N,N arguments VALUE.. at ADDRESS signal NAME ..
+  dispatch CLIENT? Q P KERNEL grid N,N,N group N,N,N arguments VALUE.. at ADDRESS signal NAME ..
   fill Q P ADDRESS length N with BYTE ..       copy Q P ADDRESS to ADDRESS length N ..
   add Q P N to ADDRESS ..                      all-of Q P SIGNAL.. ..       any-of Q P SIGNAL.. ..
-and run --readable alone: drain, drain Q. ADDRESS may be a region, as buf or buf+16; # begins a comment at a line's end.
+  drain, drain Q (of run --readable alone): what can move in all open queues, or in one, is brought to its end
+P is the number of a producer; ADDRESS may be a region there, as buf or buf+16; # begins a comment at a line's end.
 
-Pages that help prints: brokerd help scripts, brokerd help policy, brokerd help kernels.
+Pages that help prints: brokerd help scripts, brokerd help policy, brokerd help kernels, brokerd help readable; and
+brokerd help WORD tells of the first word of a line.
 A file that is called - is standard input. On a terminal faults are explained unasked (--explain=never), run prompts,
-goes on behind a line of no form, and knows help and help WORD.
+goes on after a line of no form, and knows help and help WORD.
 
 Names that explain tells:
   rules      L1 to L10, A1 to A7, B1
@@ -43,3 +43,41 @@ Names that explain tells:
 
 Exit status: 0 all went well; 1 the policy, a kernel or a line is refused; 2 the command line isn't understood;
 3 reading, writing or memory failed.";
+
+// Puts a form behind those before it, where the line has one of that width already, or none.
+fn put_form(out: &mut String, form: &str, before: usize) -> Result<usize, AllocError> {
+    if before == 0 {
+        out.push_str("  ")?;
+        out.push_str(form)?;
+        return Ok(form.len());
+    }
+    for _ in before..COLUMN {
+        out.push_str(" ")?;
+    }
+    out.push_str(form)?;
+    out.push_str("\n")?;
+    Ok(0)
+}
+
+// Puts the forms of lines in the order of their table, two on a line.
+fn put_forms(alloc: Global, out: &mut String) -> Result<(), AllocError> {
+    let mut before = 0;
+    for form in line_forms() {
+        let form = format!(in alloc; "{form}")?;
+        before = put_form(out, form.as_str(), before)?;
+    }
+    if before == 0 {
+        Ok(())
+    } else {
+        out.push_str("\n")
+    }
+}
+
+/// What stands below the commands in the help: the forms of lines, as their table has them, and what else there is to know.
+pub fn further_help(alloc: Global) -> Result<String, AllocError> {
+    let mut out = String::new(alloc);
+    out.push_str(FORMS_TITLE)?;
+    put_forms(alloc, &mut out)?;
+    out.push_str(BELOW_FORMS)?;
+    Ok(out)
+}

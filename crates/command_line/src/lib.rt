@@ -21,6 +21,7 @@ mod perform;
 mod recording;
 mod replayed;
 mod request;
+mod retelling;
 mod session;
 mod syntax;
 mod terminal;

@@ -2,6 +2,7 @@
 
 ghost use Rattle.std.specs.Prelude.{◌≤◌};
 
+use readable::Lines;
 use script::LONGEST_LINE;
 use std::io;
 use std::io::Read;
@@ -158,5 +159,19 @@ impl<'a, R: io::Read> LineReader<'a, R> {
             }
         }
         Ok(())
+    }
+}
+
+impl<'a, R: io::Read> Lines for LineReader<'a, R> {
+    fn next_line(&mut self) -> io::Result<bool> {
+        LineReader::next_line(self)
+    }
+
+    fn line(&self) -> &[u8] {
+        LineReader::line(self)
+    }
+
+    fn number(&self) -> u64 {
+        LineReader::number(self)
     }
 }

@@ -8,11 +8,12 @@ use crate::listing::{ListForm, list_policy};
 use crate::recording::Recorded;
 use crate::replayed::{Shown, replay, run_with_journal, show_journal};
 use crate::request::{Asked, Request, Unread, read_words};
+use crate::retelling::replay_telling;
 use crate::syntax::MOST_NEXT;
 use crate::threads::{AskedLoad, run_threads};
 use clap::Error;
 use commands::{Status, check_policy};
-use pages::Page;
+use pages::{Page, rows_of};
 use policy::MOST_POLICY_BYTES;
 use std::fs::File;
 use std::io::{self, IsTerminal, Read};
@@ -199,11 +200,19 @@ fn run_load_of<R: Threads + Wait + Sync>(
     }
 }
 
-// Prints a page.
-fn print_page(rt: &HostRuntime, page: Page) -> Status {
-    match told(&mut rt.stdout(), page.text(), Status::Done) {
+// Prints a text.
+fn print_text(rt: &HostRuntime, text: &str) -> Status {
+    match told(&mut rt.stdout(), text, Status::Done) {
         Status::Failed => failed(rt, "write fault"),
         status => status,
+    }
+}
+
+// Prints what the pages tell of the first word of a line.
+fn print_line(rt: &HostRuntime, verb: &str) -> Status {
+    match rows_of(rt.alloc(), verb) {
+        Ok(rows) => print_text(rt, rows.as_str()),
+        Err(_) => failed(rt, "no memory"),
     }
 }
 
@@ -281,7 +290,14 @@ fn perform_journal(rt: &HostRuntime, asked: &Asked<'_>) -> Option<Status> {
         Request::Replay {
             policy,
             tells_state,
-        } => Some(replay(rt, policy, further, tells_state)),
+            explains,
+        } => {
+            if explains || rt.stderr().is_terminal() {
+                Some(replay_telling(rt, policy, further, tells_state, explains))
+            } else {
+                Some(replay(rt, policy, further, tells_state))
+            }
+        }
         _ => None,
     }
 }
@@ -302,7 +318,8 @@ fn perform_alone(rt: &HostRuntime, asked: &Asked<'_>) -> u8 {
         Request::Decode { slots, explains } => {
             decode(rt, slots, asked.further.as_slice(), explains)
         }
-        Request::Page { page } => print_page(rt, page).number(),
+        Request::Page { page } => print_text(rt, page.text()).number(),
+        Request::Line { verb } => print_line(rt, verb).number(),
         _ => NOT_UNDERSTOOD,
     }
 }

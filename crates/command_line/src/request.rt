@@ -1,15 +1,16 @@
 //! What the words of a command line ask for.
 
+use crate::help::further_help;
 use crate::listing::ListForm;
 use crate::syntax::{
-    ALWAYS, ASSEMBLE, AUDIT, CHECK, DECODE, DIGITS, EXPLAIN, FILE, FROM, HELP, JOURNAL, JSON,
-    KERNEL, LIST, MOST_NEXT, NEXT, PICTURE, POLICY, PRODUCERS, READABLE, REPLAY, RUN, SLOTS, STATE,
-    STRICT, THREADS, TO, WORD, program,
+    ALWAYS, ASSEMBLE, AUDIT, CHECK, COMMANDS, DECODE, DIGITS, EXPLAIN, FILE, FROM, HELP, JOURNAL,
+    JSON, KERNEL, LIST, MOST_NEXT, NEXT, PICTURE, POLICY, PRODUCERS, READABLE, REPLAY, RUN, SLOTS,
+    STATE, STRICT, THREADS, TO, WORD, program,
 };
 use clap::error::ErrorKind;
 use clap::{ArgMatches, Error};
 use commands::Span;
-use pages::Page;
+use pages::{Page, rows_of};
 use std::alloc::{AllocError, Global};
 
 /// How many entries an audit has place for, if the command line doesn't say.
@@ -75,11 +76,12 @@ pub enum Request<'a> {
         explains: bool,
         journal: &'a str,
     },
-    /// `replay POLICY [NEXT..] [--state]`: to replay the journal on standard input, and to print the state that it leads to,
-    /// if that is asked for.
+    /// `replay POLICY [NEXT..] [--state] [--explain]`: to replay the journal on standard input, and to print the state that
+    /// it leads to, if that is asked for.
     Replay {
         policy: &'a str,
         tells_state: bool,
+        explains: bool,
     },
     /// `picture POLICY [NEXT..] [--audit N] [--from N] [--to N]`: to run it the same way, and to draw what the audit tells
     /// in place of the replies, of which the entries from one number to another.
@@ -127,6 +129,10 @@ pub enum Request<'a> {
     /// `help PAGE`: to print a page of the documentation.
     Page {
         page: Page,
+    },
+    /// `help WORD`: to print what the pages tell of the first word of a line.
+    Line {
+        verb: &'a str,
     },
     /// `threads POLICY --producers N [--explain]`: to run the load of threads over the policy in this file, with so many
     /// producers a queue, 1 to 16, and, if it explains, to tell beside a fault or the report why.
@@ -312,6 +318,7 @@ fn policy_request<'a>(
         REPLAY => Some(Request::Replay {
             policy,
             tells_state: asked.get_flag(STATE),
+            explains,
         }),
         THREADS => Some(Request::Threads {
             policy,
@@ -403,6 +410,64 @@ fn page_asked(words: &[String]) -> Option<Page> {
     }
 }
 
+// What `help` is asked of a word that is no command, if it is the first word of a line.
+fn line_asked<'a>(alloc: Global, words: &'a [String]) -> Result<Option<&'a str>, AllocError> {
+    match (words.get(1), words.get(2), words.len()) {
+        (Some(command), Some(verb), 3) if command.as_str() == HELP => named_line(
+            alloc,
+            verb.as_str(),
+        ),
+        _ => Ok(None),
+    }
+}
+
+// A word that is no command, if it is the first word of a line.
+fn named_line<'a>(alloc: Global, verb: &'a str) -> Result<Option<&'a str>, AllocError> {
+    if COMMANDS.contains(&verb) || rows_of(alloc, verb)?.is_empty() {
+        Ok(None)
+    } else {
+        Ok(Some(verb))
+    }
+}
+
+// Reads the words once more, with this text below the commands: they ask for nothing.
+fn told_with<'a>(alloc: Global, further: &'a str, words: &'a [String]) -> Result<Unread, Error> {
+    program(alloc, further)?.try_get_matches_from(words)?;
+    Ok(Unread::NoCommand)
+}
+
+// The help as it is told, with all that stands below the commands.
+fn help_told(alloc: Global, words: &[String]) -> Result<Unread, Unread> {
+    let further = further_help(alloc)?;
+    let told = told_with(alloc, further.as_str(), words)?;
+    Ok(told)
+}
+
+// Why the words ask for nothing. The help is told with all that stands below the commands, which is made for it alone.
+fn unread(alloc: Global, words: &[String], error: Error) -> Unread {
+    match error.kind() {
+        ErrorKind::DisplayHelp | ErrorKind::DisplayHelpOnMissingArgumentOrSubcommand => {
+            match help_told(alloc, words) {
+                Ok(why) => why,
+                Err(why) => why,
+            }
+        }
+        _ => error.into(),
+    }
+}
+
+// What the words ask for that were read.
+fn asked_in<'a>(
+    alloc: Global,
+    matches: &ArgMatches<'a>,
+    unasked: bool,
+) -> Result<Asked<'a>, Unread> {
+    match matches.subcommand() {
+        Some((command, asked)) => asked_by(alloc, command, asked, unasked),
+        None => Err(Unread::NoCommand),
+    }
+}
+
 /// Reads the words of a command line, the program's own name first. Where they don't say whether faults are explained, they
 /// are if `unasked`.
 pub fn read_words<'a>(
@@ -416,9 +481,14 @@ pub fn read_words<'a>(
             further: Vec::new(alloc),
         });
     }
-    let matches = program(alloc)?.try_get_matches_from(words)?;
-    match matches.subcommand() {
-        Some((command, asked)) => asked_by(alloc, command, asked, unasked),
-        None => Err(Unread::NoCommand),
+    if let Some(verb) = line_asked(alloc, words)? {
+        return Ok(Asked {
+            request: Request::Line { verb },
+            further: Vec::new(alloc),
+        });
+    }
+    match program(alloc, "")?.try_get_matches_from(words) {
+        Ok(matches) => asked_in(alloc, &matches, unasked),
+        Err(error) => Err(unread(alloc, words, error)),
     }
 }

@@ -1,6 +1,6 @@
 //! What a person at a terminal may ask beside the lines of a script: `help`, and `help WORD`.
 
-use crate::help::HELP;
+use crate::help::further_help;
 use crate::meanings::explained;
 use pages::rows_of;
 use std::alloc::{AllocError, Global};
@@ -9,17 +9,17 @@ use std::alloc::{AllocError, Global};
 pub const GREETING: &str =
     "a line is a request: `help` lists them, `help WORD` tells of one; the end of input, Ctrl-D, ends";
 
-// What is asked of `help`, if a line asks it: nothing, or a word.
+// What is asked of `help`, if a line asks it: nothing, or the first of the words behind it.
 fn help_asked(line: &str) -> Option<&str> {
     let rest = line.trim().strip_prefix("help")?;
     if rest.is_empty() || rest.starts_with(' ') {
-        Some(rest.trim())
+        rest.trim().split(' ').next()
     } else {
         None
     }
 }
 
-// What is told of a word: the rows on it of the page on scripts, or what a rule, a refusal or a cause of this name means.
+// What is told of a word: the rows on it of the pages on scripts and readable lines, or what a rule, a refusal or a cause of this name means.
 fn word_told(alloc: Global, word: &str) -> Result<String, AllocError> {
     let mut told = rows_of(alloc, word)?;
     if told.is_empty() {
@@ -33,7 +33,9 @@ fn word_told(alloc: Global, word: &str) -> Result<String, AllocError> {
 
 // What is told where nothing is asked: the forms of all lines.
 fn forms_told(alloc: Global) -> Result<String, AllocError> {
-    format!(in alloc; "{HELP}\n")
+    let mut told = further_help(alloc)?;
+    told.push_str("\n")?;
+    Ok(told)
 }
 
 /// What is told of a line that asks for help; none of another line.

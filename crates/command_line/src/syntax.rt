@@ -1,6 +1,6 @@
 //! The commands and arguments that the command line may have.
 
-use crate::help::{HELP as FURTHER_HELP, VERSION};
+use crate::help::VERSION;
 use clap::builder::ValueParser;
 use clap::{Arg, ArgAction, Command, Error};
 use std::alloc::Global;
@@ -96,6 +96,11 @@ pub const SLOTS: &str = "slots";
 /// The option that says how many producers each queue has.
 pub const PRODUCERS: &str = "producers";
 
+/// The names of all commands.
+pub const COMMANDS: [&str; 10] = [
+    CHECK, RUN, PICTURE, KERNEL, ASSEMBLE, REPLAY, EXPLAIN, DECODE, THREADS, HELP,
+];
+
 /// How many entries an audit has place for at the most.
 const MOST_PLACES: u64 = 1_048_576;
 
@@ -152,7 +157,7 @@ fn strictly<'a>(alloc: Global) -> Arg<'a> {
     Arg::new(alloc, STRICT)
         .long(STRICT)
         .action(ArgAction::SetTrue)
-        .help("Ends with status 1 behind the first line that is refused, denied, faulted or failed")
+        .help("Ends with status 1 after the first line that is refused, denied, faulted or failed")
 }
 
 fn journal_file<'a>(alloc: Global) -> Arg<'a> {
@@ -194,7 +199,7 @@ fn final_state<'a>(alloc: Global) -> Arg<'a> {
     Arg::new(alloc, STATE)
         .long(STATE)
         .action(ArgAction::SetTrue)
-        .help("Prints the state behind the last entry, too")
+        .help("Prints the state after the last entry, too")
 }
 
 fn explaining<'a>(alloc: Global) -> Arg<'a> {
@@ -207,7 +212,7 @@ fn explaining<'a>(alloc: Global) -> Arg<'a> {
         .default_missing_value(ALWAYS)
         .value_parser(ValueParser::Names(&[NEVER, ALWAYS]))
         .help(
-            "Tells on standard error behind each fault, refusal and denial why, and what mends it: `always` or `never`; if not given, where standard error is a terminal",
+            "Tells on standard error after each fault, refusal and denial why, and what mends it: `always` or `never`; if not given, where standard error is a terminal",
         )
 }
 
@@ -288,7 +293,8 @@ fn replay_command<'a>(alloc: Global) -> Result<Command<'a>, Error> {
         .about("Replays the journal on standard input, and tells whether it is a legal history")
         .arg(policy_file(alloc))?
         .arg(further_files(alloc))?
-        .arg(final_state(alloc))?;
+        .arg(final_state(alloc))?
+        .arg(explaining(alloc))?;
     Ok(replay)
 }
 
@@ -382,48 +388,48 @@ fn threads_command<'a>(alloc: Global) -> Result<Command<'a>, Error> {
 }
 
 // The program with one of its commands.
-fn with_check<'a>(alloc: Global) -> Result<Command<'a>, Error> {
+fn with_check<'a>(alloc: Global, further: &'a str) -> Result<Command<'a>, Error> {
     let check = check_command(alloc)?;
     let program = Command::new(alloc, "brokerd")
         .about("A broker for user-mode queues")
         .version(VERSION)
-        .after_help(FURTHER_HELP)
+        .after_help(further)
         .subcommand_required(true)
         .subcommand(check)?;
     Ok(program)
 }
 
 // The program with its commands on policies.
-fn with_run<'a>(alloc: Global) -> Result<Command<'a>, Error> {
+fn with_run<'a>(alloc: Global, further: &'a str) -> Result<Command<'a>, Error> {
     let run = run_command(alloc)?;
-    let program = with_check(alloc)?.subcommand(run)?;
+    let program = with_check(alloc, further)?.subcommand(run)?;
     Ok(program)
 }
 
 // With the one that draws a run, too.
-fn with_picture<'a>(alloc: Global) -> Result<Command<'a>, Error> {
+fn with_picture<'a>(alloc: Global, further: &'a str) -> Result<Command<'a>, Error> {
     let picture = picture_command(alloc)?;
-    let program = with_run(alloc)?.subcommand(picture)?;
+    let program = with_run(alloc, further)?.subcommand(picture)?;
     Ok(program)
 }
 
 // With those that read a kernel's text or a readable script, too.
-fn with_authoring<'a>(alloc: Global) -> Result<Command<'a>, Error> {
+fn with_authoring<'a>(alloc: Global, further: &'a str) -> Result<Command<'a>, Error> {
     let kernel = kernel_command(alloc)?;
     let assemble = assemble_command(alloc)?;
-    let program = with_picture(alloc)?
+    let program = with_picture(alloc, further)?
         .subcommand(kernel)?
         .subcommand(assemble)?;
     Ok(program)
 }
 
-/// The program with its commands.
-pub fn program<'a>(alloc: Global) -> Result<Command<'a>, Error> {
+/// The program with its commands, and what its help says below them.
+pub fn program<'a>(alloc: Global, further: &'a str) -> Result<Command<'a>, Error> {
     let explain = explain_command(alloc)?;
     let decode = decode_command(alloc)?;
     let threads = threads_command(alloc)?;
     let replay = replay_command(alloc)?;
-    let program = with_authoring(alloc)?
+    let program = with_authoring(alloc, further)?
         .subcommand(replay)?
         .subcommand(explain)?
         .subcommand(decode)?

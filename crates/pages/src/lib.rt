@@ -5,10 +5,11 @@
 
 mod kernels_page;
 mod policy_page;
+mod readable_page;
 mod rows;
 mod scripts_page;
 
-pub use rows::rows_of;
+pub use rows::{readable_rows_of, rows_of};
 
 /// A page.
 #[derive(Clone, Copy, Debug, PartialEq, Eq)]
@@ -19,6 +20,8 @@ pub enum Page {
     Policy,
     /// On how a kernel runs.
     Kernels,
+    /// On readable lines.
+    Readable,
 }
 
 impl Page {
@@ -28,6 +31,7 @@ impl Page {
             "scripts" => Some(Page::Scripts),
             "policy" => Some(Page::Policy),
             "kernels" => Some(Page::Kernels),
+            "readable" => Some(Page::Readable),
             _ => None,
         }
     }
@@ -38,6 +42,7 @@ impl Page {
             Page::Scripts => scripts_page::TEXT,
             Page::Policy => policy_page::TEXT,
             Page::Kernels => kernels_page::TEXT,
+            Page::Readable => readable_page::TEXT,
         }
     }
 }

@@ -199,7 +199,12 @@ With 0 where all lines were done or answered, with 2 where the command line isn'
 ```console
 $ brokerd picture crates/brokerd/data/sample.toml < examples/two_queues.script | cmp - docs/picture.svg
 ```
-The colours are told on top. The numbers below them are those of the audit's entries, of the whole history: after a `rotate` they go on, and the queues and packets in flight with which the rest of the audit begins have their lanes and bars from the left edge on. The first lane is the administrator's and the clients'; below it each queue has one, from its opening on. A bar is a packet from its launch to its release, in the first row of its lane that is free, with its id and its kernel or function where there is room for it: green where it completed, red where it faulted, grey where its queue was stopped, blue where it is still in flight. Ticks in its lower part are its groups, the dark end its completion. A red mark is a denial or a fault, with its rule after it. A violet tick is a poll of a barrier packet that saw a signal at 0, and an arrow leads there from what set it to 0. In the first lane green marks are grants, orange ones revocations, blue ones a client's writes and violet ones its changes of signals. A line across all lanes is a reload. Under the pointer each mark tells its entry: queue and packet, rights, how many bytes of which region were written, and signals with the values before and after.
+- **Entries.** The colours are told on top. The numbers below them are those of the audit's entries, of the whole history. After a `rotate` they go on, and the queues and packets in flight with which the rest of the audit begins have their lanes and bars from the left edge on.
+- **Lanes.** The first is the administrator's and the clients'. Below it each queue has one, from its opening on, as high as its packets need. A line across all lanes is a reload.
+- **Packets.** A bar is a packet from its launch to its release, in the first row of its lane that is free. It has its id and its kernel or function where there is room: green where it completed, red where it faulted, grey where its queue was stopped, blue where it is still in flight. Ticks in its lower part are its groups, the dark end its completion. A red mark is a denial or a fault, with its rule after it.
+- **Signals.** A violet tick is a poll of a barrier packet that saw a signal at 0, and an arrow leads there from what set it to 0.
+- **In the first lane** green marks are grants, orange ones revocations, blue ones a client's writes and violet ones its changes of signals.
+- **Under the pointer** each mark tells its entry: queue and packet, rights, how many bytes of which region were written, and signals with the values before and after.
 
 The more entries there are, the closer they stand: 200 packets fit on a screen. `--from N` and `--to N` draw the entries from one number to another; what is in flight before the first has its bar from the left edge on. Of more than 5,000 entries the last 5,000 are drawn.
 
@@ -211,7 +216,7 @@ A page is that of a whole script or there is none: where a line has no form, or 
 
 ## Every form once
 
-Behind the first seven requests of `examples/fill.script`, which grant Alice what the sample policy allows and open queue 1 with two slots for two producers. Lines that begin with `>` are asked, the others are the replies; the whole is a case in `crates/cases/data/forms.case`, where `{FILL}` stands for the packet of that script.
+After the first seven requests of `examples/fill.script`, which grant Alice what the sample policy allows and open queue 1 with two slots for two producers. Lines that begin with `>` are asked, the others are the replies; the whole is a case in `crates/cases/data/forms.case`, where `{FILL}` stands for the packet of that script.
 ```script over=crates/brokerd/data/sample.toml behind=examples/fill.script:7 names=crates/cases/data/packets.names
 > reserve 1 1
 ticket 0

@@ -14,7 +14,7 @@ use Rattle.picture.specs.declared.element.Spot.{Spot}
 use Rattle.picture.specs.declared.seats.Seat.{Seat}
 use Rattle.picture.specs.Arrows.{last_zero, zeros_after}
 use Rattle.picture.specs.Frames.{is_opening, lanes_in, one_lane_more}
-use Rattle.picture.specs.Reading.{deepest_in, deepest_of, ending_of, end_of, greater, spot_of}
+use Rattle.picture.specs.Reading.{deepened, deepened_to, depths_in, depths_of, ending_of, end_of, lane_of_queue, spot_of}
 use Rattle.picture.specs.Seats.{releases, seats_after, seats_of, with_seat}
 use Rattle.picture.specs.Pages.{text_of_entry, text_of_entries, text_of_queue, text_of_queues}
 
@@ -71,29 +71,30 @@ pub lanes_end : (n i : ℕ) (entries : List Entry) → length entries ≤ i → 
 unfolding lanes_in
 lanes_end n i entries le = rw (drop_all i entries le) refl
 
--- ---- the lowest row
+-- ---- the lowest rows
 
 -- one seat more
-pub deepest_step : (row i : ℕ) (seats : List Seat) (seat : Seat) → i < length seats
-    → deepest_of row (drop i seats) ≡ deepest_of (greater row (get_or seats i seat).row) (drop (i + 1) seats)
-unfolding deepest_of
-deepest_step row i seats seat lt = rw (add-one, drop-cons seats i seat) refl
+pub depths_step : (depths : List ℕ) (i : ℕ) (seats : List Seat) (seat : Seat) → i < length seats
+    → depths_of depths (drop i seats)
+    ≡ depths_of (deepened depths (lane_of_queue (get_or seats i seat).flying.queue) (get_or seats i seat).row) (drop (i + 1) seats)
+unfolding depths_of
+depths_step depths i seats seat lt = rw (add-one, drop-cons seats i seat) refl
 
 -- none left
-pub deepest_end : (row i : ℕ) (seats : List Seat) → length seats ≤ i → deepest_of row (drop i seats) ≡ row
-unfolding deepest_of
-deepest_end row i seats le = rw (drop_all i seats le) refl
+pub depths_end : (depths : List ℕ) (i : ℕ) (seats : List Seat) → length seats ≤ i → depths_of depths (drop i seats) ≡ depths
+unfolding depths_of
+depths_end depths i seats le = rw (drop_all i seats le) refl
 
 -- one entry more
-pub lower_step : (row i : ℕ) (seats : List Seat) (entries : List Entry) (entry : Entry) → i < length entries → entry ≡ get_or entries i entry
-    → deepest_in row seats (drop i entries) ≡ deepest_in (greater row (spot_of seats 0 entry).row) (seats_after seats entry) (drop (i + 1) entries)
-unfolding deepest_in
-lower_step row i seats entries entry lt is = rw (at_index entries i entry lt is) refl
+pub lower_step : (depths : List ℕ) (i : ℕ) (seats : List Seat) (entries : List Entry) (entry : Entry) → i < length entries → entry ≡ get_or entries i entry
+    → depths_in depths seats (drop i entries) ≡ depths_in (deepened_to depths (spot_of seats 0 entry)) (seats_after seats entry) (drop (i + 1) entries)
+unfolding depths_in
+lower_step depths i seats entries entry lt is = rw (at_index entries i entry lt is) refl
 
 -- none left
-pub lower_end : (row i : ℕ) (seats : List Seat) (entries : List Entry) → length entries ≤ i → deepest_in row seats (drop i entries) ≡ row
-unfolding deepest_in
-lower_end row i seats entries le = rw (drop_all i entries le) refl
+pub lower_end : (depths : List ℕ) (i : ℕ) (seats : List Seat) (entries : List Entry) → length entries ≤ i → depths_in depths seats (drop i entries) ≡ depths
+unfolding depths_in
+lower_end depths i seats entries le = rw (drop_all i entries le) refl
 
 -- ---- the seats of packets
 

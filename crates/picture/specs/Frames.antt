@@ -8,7 +8,7 @@ use Rattle.core_model.specs.declared.origin.Origin.{Origin}
 use Rattle.picture.specs.declared.element.Span.{Span}
 use Rattle.picture.specs.declared.element.Frame.{Frame}
 use Rattle.picture.specs.declared.frame.TheConstants.{MOST_DRAWN, ROOM, WIDEST, NARROWEST, THREE, SIX, ALL}
-use Rattle.picture.specs.Reading.{deepest_in, deepest_of, greater}
+use Rattle.picture.specs.Reading.{depths_in, depths_of, flat, greater}
 use Rattle.picture.specs.Seats.{seats_of}
 
 -- the lesser of two numbers
@@ -62,7 +62,7 @@ frame_of origin entries span = record {
   before = origin.before;
   skipped = skipped_of origin.before (length entries) span;
   lanes = lanes_in (lesser most_queues (length origin.queues)) entries;
-  deepest = deepest_in (deepest_of 0 (seats_of [] origin.packets)) (seats_of [] origin.packets) entries;
+  depths = depths_in (depths_of flat (seats_of [] origin.packets)) (seats_of [] origin.packets) entries;
   step = step_of (length entries - skipped_of origin.before (length entries) span);
   bare = bare_for
       (step_of (length entries - skipped_of origin.before (length entries) span)) (room_of_number (origin.before + length entries));

@@ -1,5 +1,5 @@
 -- What is drawn of an audit, entry by entry (own). This file alone speaks of events.
-use Rattle.std.specs.Prelude.{ℕ, ◌+◌, nat_lt, List, [], ◌∷◌, length, Option, Some, None, if◌then◌else◌}
+use Rattle.std.specs.Prelude.{ℕ, ◌+◌, ◌-◌, ◌&&◌, nat_lt, nat_le, List, [], ◌∷◌, length, replicate, slice_index, slice_set, Option, Some, None, if◌then◌else◌}
 use Rattle.aql_packet.specs.declared.ids.QueueId.{QueueId}
 use Rattle.aql_packet.specs.declared.ids.PacketId.{PacketId}
 use Rattle.aql_packet.specs.declared.packet.Packet.{Packet}
@@ -74,15 +74,27 @@ spot_of_event seats at (event.Reload rows) out = at_hosts at
 abbrev pub spot_of : List Seat → ℕ → Entry → Spot
 spot_of seats at entry = spot_of_event seats at entry.event entry.outcome
 
--- the lowest row that entries stand in, where so low a one is needed anyway, by the seats before them
-unfoldable pub deepest_in : ℕ → List Seat → List Entry → ℕ
-deepest_in row seats [] = row
-deepest_in row seats (entry ∷ entries) = deepest_in (greater row (spot_of seats 0 entry).row) (seats_after seats entry) entries
+-- the lowest row that each lane of a queue needs, where a lane needs one more; the others have one row
+abbrev pub deepened : List ℕ → ℕ → ℕ → List ℕ
+deepened depths lane row =
+    if nat_lt 0 lane && nat_le lane 64 then slice_set depths (lane - 1) (greater (slice_index depths (lane - 1)) row) else depths
 
--- the lowest row that seats are in, where so low a one is needed anyway
-unfoldable pub deepest_of : ℕ → List Seat → ℕ
-deepest_of row [] = row
-deepest_of row (seat ∷ seats) = deepest_of (greater row seat.row) seats
+abbrev pub deepened_to : List ℕ → Spot → List ℕ
+deepened_to depths spot = deepened depths spot.lane spot.row
+
+-- the lowest rows that entries stand in, where so low ones are needed anyway, by the seats before them
+unfoldable pub depths_in : List ℕ → List Seat → List Entry → List ℕ
+depths_in depths seats [] = depths
+depths_in depths seats (entry ∷ entries) = depths_in (deepened_to depths (spot_of seats 0 entry)) (seats_after seats entry) entries
+
+-- the lowest rows that seats are in, where so low ones are needed anyway
+unfoldable pub depths_of : List ℕ → List Seat → List ℕ
+depths_of depths [] = depths
+depths_of depths (seat ∷ seats) = depths_of (deepened depths (lane_of_queue seat.flying.queue) seat.row) seats
+
+-- each lane has one row
+abbrev pub flat : List ℕ
+flat = replicate 64 0
 
 -- ---- how far a packet's bar reaches
 

@@ -1,5 +1,5 @@
 -- What is drawn, as text of SVG (Scalable Vector Graphics 1.1; the measures are own).
-use Rattle.std.specs.Prelude.{ℕ, ◌+◌, ◌-◌, ◌*◌, ◌/◌, ◌%◌, ◌==◌, ◌&&◌, ◌||◌, not, Bool, true, false, nat_lt, List, [], ◌++◌, codes, decimal, length, Option, Some, None, if◌then◌else◌}
+use Rattle.std.specs.Prelude.{ℕ, ◌+◌, ◌-◌, ◌*◌, ◌/◌, ◌%◌, ◌==◌, ◌&&◌, ◌||◌, not, Bool, true, false, nat_lt, List, [], ◌++◌, codes, decimal, length, Option, Some, None, slice_index, zero, suc, if◌then◌else◌}
 use Rattle.policy.specs.Policy.{Declared}
 use Rattle.core_model.specs.declared.entry.Effect.{Effect}
 use Rattle.picture.specs.declared.element.Ending.{Ending}
@@ -17,17 +17,30 @@ use Rattle.picture.specs.Words.{told_of, words_of}
 abbrev pub left_of : Frame → ℕ → ℕ
 left_of frame at = MARGIN + frame.step * (at - frame.skipped)
 
--- how high the lane of a queue is: a head, and its rows
-abbrev pub height_of_lane : Frame → ℕ
-height_of_lane frame = HEAD + ROW * (frame.deepest + 1)
+-- the lowest row of a queue's lane, by its place among these, from 0
+abbrev pub depth_at : List ℕ → ℕ → ℕ
+depth_at depths place = if nat_lt place 64 then slice_index depths place else 0
+
+-- how high such a lane is: a head, and its rows
+abbrev pub height_at : List ℕ → ℕ → ℕ
+height_at depths place = HEAD + ROW * (depth_at depths place + 1)
+
+-- how high so many lanes are, each with the gap below it
+unfoldable pub height_of_lanes : List ℕ → ℕ → ℕ
+height_of_lanes depths zero = 0
+height_of_lanes depths (suc count) = height_of_lanes depths count + (height_at depths count + GAP)
+
+-- how high the lane of a queue is
+abbrev pub height_of_lane : Frame → ℕ → ℕ
+height_of_lane frame lane = height_at frame.depths (lane - 1)
 
 -- where a lane begins; below that of the administrator and of clients stand those of queues
 abbrev pub top_of_lane : Frame → ℕ → ℕ
-top_of_lane frame lane = if lane == 0 then HOSTS else LANES + (height_of_lane frame + GAP) * (lane - 1)
+top_of_lane frame lane = if lane == 0 then HOSTS else LANES + height_of_lanes frame.depths (lane - 1)
 
 -- where the lanes end
 abbrev pub foot_of : Frame → ℕ
-foot_of frame = LANES + (height_of_lane frame + GAP) * frame.lanes
+foot_of frame = LANES + height_of_lanes frame.depths frame.lanes
 
 -- where a row of a lane begins
 abbrev pub top_of_row : Frame → Spot → ℕ
@@ -77,17 +90,17 @@ drop_of s = if is_tick s then DROP else 0
 abbrev pub top_of : Frame → Element → ℕ
 top_of frame e = if is_behind e.sign then top_of_lane frame e.spot.lane else top_of_row frame e.spot + drop_of e.sign
 
--- how high it is
-abbrev pub height_of : Frame → Sign → ℕ
-height_of frame (sign.Lane queue client agent) = height_of_lane frame
-height_of frame sign.Stop = height_of_lane frame
-height_of frame (sign.Reload allows denies) = foot_of frame - (HOSTS + GAP)
-height_of frame (sign.Bar packet work ending) = BAR
-height_of frame (sign.Group packet group) = TICK
-height_of frame (sign.Look packet seen) = TICK
-height_of frame (sign.Completion packet) = TICK
-height_of frame (sign.Fault error) = TICK
-height_of frame _ = MARK
+-- how high a sign in a lane is
+abbrev pub height_of : Frame → ℕ → Sign → ℕ
+height_of frame lane (sign.Lane queue client agent) = height_of_lane frame lane
+height_of frame lane sign.Stop = height_of_lane frame lane
+height_of frame lane (sign.Reload allows denies) = foot_of frame - (HOSTS + GAP)
+height_of frame lane (sign.Bar packet work ending) = BAR
+height_of frame lane (sign.Group packet group) = TICK
+height_of frame lane (sign.Look packet seen) = TICK
+height_of frame lane (sign.Completion packet) = TICK
+height_of frame lane (sign.Fault error) = TICK
+height_of frame lane _ = MARK
 
 -- how a bar's packet ended
 abbrev pub class_of_ending : Ending → List ℕ
@@ -169,7 +182,7 @@ text_of_opening frame e told =
 
 -- an element's rectangle
 unfoldable pub text_of_outline : Frame → Element → List ℕ
-text_of_outline frame e = text_of_rectangle (left_of frame e.spot.at) (top_of frame e) (width_of frame e e.sign) (height_of frame e.sign)
+text_of_outline frame e = text_of_rectangle (left_of frame e.spot.at) (top_of frame e) (width_of frame e e.sign) (height_of frame e.spot.lane e.sign)
 
 -- an element with what is said under the pointer and words
 unfoldable pub text_with : Frame → Element → List ℕ → List ℕ → List ℕ

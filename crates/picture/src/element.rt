@@ -118,8 +118,8 @@ pub struct Frame {
     pub skipped: u32,
     /// How many queues have a lane.
     pub lanes: u8,
-    /// The lowest row that is needed in a lane, from 0.
-    pub deepest: u8,
+    /// The lowest row, from 0, that the lane of each queue needs: the first is queue 1's.
+    pub depths: [u8; 64],
     /// How far entries are from each other.
     pub step: u8,
     /// Of how many entries between two numbers on the axis none has its own there.

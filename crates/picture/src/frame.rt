@@ -6,7 +6,7 @@ ghost use Rattle.picture.specs.Frames.{lesser, asked_of, skipped_of, step_of, ro
 ghost use Rattle.picture.specs.Reading.{greater};
 
 use crate::element::{Frame, Span};
-use crate::reading::deepest_in;
+use crate::reading::depths_in;
 use crate::seats::seats_of;
 use core_model::{Entry, Event, Origin, QUEUES};
 use std::alloc::{AllocError, Global};
@@ -197,7 +197,7 @@ pub(crate) fn frame_of(
         before,
         skipped,
         lanes: lanes_in(lanes_of(origin.queues.len()), entries),
-        deepest: deepest_in(seats, entries)?,
+        depths: depths_in(seats, entries)?,
         step: step as u8,
         bare: bare_for(step, room_of_number(before as u128 + count as u128)),
     })

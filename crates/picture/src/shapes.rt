@@ -1,7 +1,7 @@
 //! What is drawn, as text of SVG.
 
 ghost use Rattle.std.specs.Prelude.{◌≡◌, ◌++◌, ◌<◌, ◌^◌, ◌+◌, ◌*◌, OnOk, IfOk, not, nat_lt, string_bytes};
-ghost use Rattle.picture.specs.Shapes.{left_of, height_of_lane, top_of_lane, foot_of, top_of_row, width_of_mark, width_of_tick, reach_of, width_of, is_behind, is_tick, drop_of, top_of, height_of, class_of_ending, class_of, is_labelled, left_of_words, line_of_words, label_of, text_of_rectangle, text_of_words, text_of_label, number_of, text_of_place, text_of_opening, text_of_outline, text_with, is_in_layer, is_shown, text_of_element, text_of_arrow, is_numbered, text_of_number};
+ghost use Rattle.picture.specs.Shapes.{left_of, depth_at, height_at, height_of_lane, height_of_lanes, top_of_lane, foot_of, top_of_row, width_of_mark, width_of_tick, reach_of, width_of, is_behind, is_tick, drop_of, top_of, height_of, class_of_ending, class_of, is_labelled, left_of_words, line_of_words, label_of, text_of_rectangle, text_of_words, text_of_label, number_of, text_of_place, text_of_opening, text_of_outline, text_with, is_in_layer, is_shown, text_of_element, text_of_arrow, is_numbered, text_of_number};
 ghost use Rattle.picture.specs.Words.{words_of, told_of};
 ghost use Rattle.picture.specs.declared.shapes.TheConstants.{LETTER, THIN};
 
@@ -62,38 +62,69 @@ pub(crate) fn left_of(frame: &Frame, at: u32) -> u64
     MARGIN + frame.step as u64 * at.saturating_sub(frame.skipped) as u64
 }
 
-// How high the lane of a queue is.
-fn height_of_lane(frame: &Frame) -> u64
-    ensures exact { result ≡ height_of_lane frame.now }
+// The lowest row of a queue's lane, by its place, from 0.
+fn depth_at(depths: &[u8; 64], place: u8) -> u8
+    ensures { result ≡ depth_at depths.now place }
+{
+    if place < 64 {
+        depths[place as usize]
+    } else {
+        0
+    }
+}
+
+// How high such a lane is.
+fn height_at(depths: &[u8; 64], place: u8) -> u64
+    ensures exact { result ≡ height_at depths.now place }
     ensures bound { result < 2 ^ 13 }
 {
-    HEAD + ROW * (frame.deepest as u64 + 1)
+    HEAD + ROW * (depth_at(depths, place) as u64 + 1)
+}
+
+// How high so many lanes are, each with the gap below it.
+fn height_of_lanes(depths: &[u8; 64], count: u8) -> u64
+    ensures exact { result ≡ height_of_lanes depths.now count }
+    ensures bound { result < 2 ^ 22 }
+{
+    let mut height = 0;
+    'lanes: for place in 0..count {
+        height += height_at(depths, place) + GAP;
+    }
+    height
+}
+
+// How high the lane of a queue is.
+fn height_of_lane(frame: &Frame, lane: u8) -> u64
+    ensures exact { result ≡ height_of_lane frame.now lane }
+    ensures bound { result < 2 ^ 13 }
+{
+    height_at(&frame.depths, lane.saturating_sub(1))
 }
 
 // Where a lane begins.
 fn top_of_lane(frame: &Frame, lane: u8) -> u64
     ensures exact { result ≡ top_of_lane frame.now lane }
-    ensures bound { result < 2 ^ 22 }
+    ensures bound { result < 2 ^ 23 }
 {
     if lane == 0 {
         HOSTS
     } else {
-        LANES + (height_of_lane(frame) + GAP) * (lane as u64 - 1)
+        LANES + height_of_lanes(&frame.depths, lane - 1)
     }
 }
 
 /// Where the lanes end.
 pub(crate) fn foot_of(frame: &Frame) -> u64
     ensures exact { result ≡ foot_of frame.now }
-    ensures bound { result < 2 ^ 22 }
+    ensures bound { result < 2 ^ 23 }
 {
-    LANES + (height_of_lane(frame) + GAP) * frame.lanes as u64
+    LANES + height_of_lanes(&frame.depths, frame.lanes)
 }
 
 // Where a row of a lane begins.
 fn top_of_row(frame: &Frame, spot: Spot) -> u64
     ensures exact { result ≡ top_of_row frame.now spot }
-    ensures bound { result < 2 ^ 23 }
+    ensures bound { result < 2 ^ 24 }
 {
     top_of_lane(frame, spot.lane) + HEAD + ROW * spot.row as u64
 }
@@ -176,12 +207,12 @@ fn top_of(frame: &Frame, element: &Element) -> u64
     }
 }
 
-// How high a sign is.
-fn height_of(frame: &Frame, sign: &Sign) -> u64
-    ensures { result ≡ height_of frame.now sign.now }
+// How high a sign in a lane is.
+fn height_of(frame: &Frame, lane: u8, sign: &Sign) -> u64
+    ensures { result ≡ height_of frame.now lane sign.now }
 {
     match sign {
-        Sign::Lane { .. } | Sign::Stop => height_of_lane(frame),
+        Sign::Lane { .. } | Sign::Stop => height_of_lane(frame, lane),
         Sign::Reload { .. } => foot_of(frame).saturating_sub(HOSTS + GAP),
         Sign::Bar { .. } => BAR,
         Sign::Group { .. } | Sign::Look { .. } | Sign::Completion(_) | Sign::Fault(_) => TICK,
@@ -387,7 +418,8 @@ fn write_outline(out: &mut String, frame: &Frame, element: &Element) -> Result<(
     let x = left_of(frame, element.spot.at);
     let y = top_of(frame, element);
     let width = width_of(frame, element);
-    write_rectangle(out, x, y, width, height_of(frame, &element.sign))
+    let height = height_of(frame, element.spot.lane, &element.sign);
+    write_rectangle(out, x, y, width, height)
 }
 
 // Writes an element with what is said under the pointer and words.

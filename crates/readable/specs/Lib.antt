@@ -1,3 +1,5 @@
 pub mod Moves
 pub mod Tallies
 pub mod Drains
+pub mod Runs
+pub mod inner

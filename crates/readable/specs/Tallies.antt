@@ -1,5 +1,5 @@
 -- How often the requests of a drain came to what (own).
-use Rattle.std.specs.Prelude.{ℕ, ◌+◌, ◌-◌, ◌^◌, nat_lt, List, [], ◌∷◌, if◌then◌else◌}
+use Rattle.std.specs.Prelude.{ℕ, ◌+◌, ◌-◌, ◌^◌, nat_lt, List, [], ◌∷◌, ◌++◌, codes, decimal, if◌then◌else◌}
 use Rattle.core_model.specs.declared.outcome.Outcome.{Outcome}
 use Rattle.core_model.specs.declared.outcome.Outcome.TheVariants as outcome
 use Rattle.core_model.specs.declared.outcome.Polled.{Polled}
@@ -57,3 +57,18 @@ with_came t (came.Refused why) = t
 unfoldable pub tallied : Tally → List Made → Tally
 tallied t [] = t
 tallied t (made ∷ later) = tallied (with_came t (came_of made.told)) later
+
+-- ---- how the counts are told
+
+-- what became of packets, of groups, of barrier packets, and how many were finished
+abbrev pub text_of_taken : Tally → List ℕ
+text_of_taken t = codes "drained launched " ++ decimal t.launched ++ codes " denied " ++ decimal t.denied
+
+abbrev pub text_of_worked : Tally → List ℕ
+text_of_worked t = codes " ran " ++ decimal t.ran ++ codes " faulted " ++ decimal t.faulted
+
+abbrev pub text_of_polled : Tally → List ℕ
+text_of_polled t = codes " ready " ++ decimal t.ready ++ codes " failed " ++ decimal t.failed ++ codes " finished " ++ decimal t.finished
+
+unfoldable pub text_of_tally : Tally → List ℕ
+text_of_tally t = text_of_taken t ++ text_of_worked t ++ text_of_polled t

@@ -1,5 +1,8 @@
 //! What a drain comes to, and how it is told.
 
+ghost use Rattle.std.specs.Prelude.{◌≡◌, ◌++◌, ℕ, List, OnOk, string_bytes};
+ghost use Rattle.readable.specs.Tallies.{text_of_polled, text_of_taken, text_of_tally, text_of_worked};
+
 use crate::moves::{Came, Move, reply_of};
 use crate::tally::Tally;
 use aql_packet::{PacketId, QueueId, SignalHandle};
@@ -10,7 +13,7 @@ use json_replies::{
 };
 use policy::{Object, Policy};
 use script::write_line;
-use std::alloc::AllocError;
+use std::alloc::{AllocError, Global};
 
 /// What waits as a drain ends: what was asked of it last, what that came to, and of a barrier packet the signals that it
 /// depends on.
@@ -86,25 +89,67 @@ fn write_wait(out: &mut String, policy: &Policy, wait: &Wait) -> Result<(), Allo
     }
 }
 
+// Writes what became of packets.
+fn write_taken(out: &mut String, tally: &Tally) -> Result<(), AllocError>
+    ensures { OnOk result (string_bytes out.new ≡ string_bytes out.old ++ text_of_taken tally.now) }
+{
+    let launched = tally.launched;
+    let denied = tally.denied;
+    write!(out, "drained launched {launched} denied {denied}")
+}
+
+// Writes what became of groups.
+fn write_worked(out: &mut String, tally: &Tally) -> Result<(), AllocError>
+    ensures { OnOk result (string_bytes out.new ≡ string_bytes out.old ++ text_of_worked tally.now) }
+{
+    let ran = tally.ran;
+    let faulted = tally.faulted;
+    write!(out, " ran {ran} faulted {faulted}")
+}
+
+// Writes what became of barrier packets, and how many packets were finished.
+fn write_polled(out: &mut String, tally: &Tally) -> Result<(), AllocError>
+    ensures { OnOk result (string_bytes out.new ≡ string_bytes out.old ++ text_of_polled tally.now) }
+{
+    let ready = tally.ready;
+    let failed = tally.failed;
+    let finished = tally.finished;
+    write!(out, " ready {ready} failed {failed} finished {finished}")
+}
+
 // Writes how often requests came to what.
-fn write_tally(out: &mut String, tally: &Tally) -> Result<(), AllocError> {
-    write!(out, "launched {} denied {} ", tally.launched, tally.denied)?;
-    write!(out, "ran {} faulted {} ", tally.ran, tally.faulted)?;
-    write!(out, "ready {} failed {} ", tally.ready, tally.failed)?;
-    write!(out, "finished {}", tally.finished)
+#[tactic(auto, unfolding(crate::specs::Tallies::text_of_tally))]
+fn write_tally(out: &mut String, tally: &Tally) -> Result<(), AllocError>
+    ensures { OnOk result (string_bytes out.new ≡ string_bytes out.old ++ text_of_tally tally.now) }
+{
+    write_taken(out, tally)?;
+    write_worked(out, tally)?;
+    write_polled(out, tally)
+}
+
+// How many wait, and a line for each of these.
+fn waits_told(alloc: Global, policy: &Policy, waits: &[Wait]) -> Result<String, AllocError> {
+    let count = waits.len();
+    let mut out = format!(in alloc; " waiting {count}\n")?;
+    for wait in waits {
+        write_wait(&mut out, policy, wait)?;
+    }
+    Ok(out)
 }
 
 impl Drained {
     /// Writes it as text: the counts, how many wait, and a line for each of these.
-    pub fn write_text(&self, out: &mut String, policy: &Policy) -> Result<(), AllocError> {
-        out.push_str("drained ")?;
+    pub fn write_text(
+        &self,
+        alloc: Global,
+        out: &mut String,
+        policy: &Policy,
+    ) -> Result<(), AllocError>
+        ensures { OnOk result ((rest : List ℕ) × (string_bytes out.new ≡ string_bytes out.old ++ (text_of_tally self.now.tally ++ rest))) }
+    {
+        let waits = waits_told(alloc, policy, self.waits.as_slice())?;
         write_tally(out, &self.tally)?;
-        let count = self.waits.len();
-        writeln!(out, " waiting {count}")?;
-        for wait in self.waits.as_slice() {
-            write_wait(out, policy, wait)?;
-        }
-        Ok(())
+        out.push_str(waits.as_str())
     }
 
     /// Writes it as an object of JSON: the reply to the line of this number.

@@ -1,20 +1,31 @@
-//! A line of a run is done and replied to.
+//! A line of a run is done and replied to, and a run does its lines in turn.
+
+ghost use Rattle.std.specs.Prelude.{◌≡◌, ◌++◌, [], IfOk, ℕ, List, string_bytes, true, false};
+ghost use Rattle.core_model.specs.declared.event.Query.TheVariants as query;
+ghost use Rattle.world.specs.declared.request.Request.TheVariants as request;
+ghost use Rattle.script.specs.declared.command.Command.TheVariants as command;
+ghost use Rattle.readable.specs.Runs.{AsText, RunsByLine};
+ghost use Rattle.readable.specs.Tallies.{text_of_tally};
+ghost use Rattle.readable.specs.inner.Ends.{TellsDrain, with_number};
 
 use crate::drained::Drained;
 use crate::draining::drain;
 use crate::moves::{command_of, reply_of};
+use crate::telling::{follow, hand_over, tell_audit, tell_reply};
 use aql_packet::QueueId;
-use assemble::{Book, LineError, Turned, fault_text, put_lines, without_comment};
+use assemble::{Book, Fault, LineError, Turned, fault_text, put_lines, without_comment};
 use core_model::Query;
-use json_replies::{write_audit, write_reply};
 use policy::Policy;
 use script::{
-    Command, Flow, IoLog, LONGEST_LINE, Line, LineReply, ScriptFault, Watch, flush_once, perform,
-    read_line, run_watched, write_through,
+    Command, Flow, IoLog, LONGEST_LINE, Line, LineReply, ScriptFault, Watch, perform, read_line,
+    run_watched,
 };
 use std::alloc::{AllocError, Global};
 use std::io;
 use world::{Request, World};
+
+// The most lines of a run (own).
+const MOST_LINES: u64 = 1 << 40;
 
 /// How the lines of a run are read and replied to.
 #[derive(Clone, Copy)]
@@ -53,11 +64,13 @@ impl<'a, V: Watch> Watch for Numbered<'a, V> {
     }
 }
 
-// What a run of the lines of one line ended with, by that line's number.
-fn with_number(number: u64, fault: ScriptFault) -> ScriptFault {
-    match fault {
-        ScriptFault::BadLine(_) => ScriptFault::BadLine(number),
-        ScriptFault::Stopped(_) => ScriptFault::Stopped(number),
+// How a run of the lines of one line ended, by that line's number.
+fn with_number(number: u64, ended: Result<(), ScriptFault>) -> Result<(), ScriptFault>
+    ensures { result ≡ with_number number ended }
+{
+    match ended {
+        Err(ScriptFault::BadLine(_)) => Err(ScriptFault::BadLine(number)),
+        Err(ScriptFault::Stopped(_)) => Err(ScriptFault::Stopped(number)),
         other => other,
     }
 }
@@ -71,7 +84,9 @@ fn run_lines<W: io::Write, V: Watch>(
     number: u64,
     lines: &[u8],
     writer: &mut W,
-) -> Result<(), ScriptFault> {
+) -> Result<(), ScriptFault>
+    ensures { RunsByLine false later.now world.old world.new (W.contents writer.old) (W.contents writer.new) result }
+{
     let mut watcher = Numbered { watcher, number };
     let mut rest = lines;
     let ended = run_watched(
@@ -83,74 +98,17 @@ fn run_lines<W: io::Write, V: Watch>(
         &mut watcher,
         &mut IoLog::none(),
     );
-    match ended {
-        Ok(()) => Ok(()),
-        Err(fault) => Err(with_number(number, fault)),
-    }
-}
-
-// Hands a reply over to the writer.
-fn hand_over<W: io::Write>(writer: &mut W, text: &str) -> Result<(), ScriptFault> {
-    let mut answers = IoLog::none();
-    write_through(writer, text.as_bytes(), &mut answers)?;
-    flush_once(writer, &mut answers)
-}
-
-// What follows from what a watcher says.
-fn follow(number: u64, said: Flow) -> Result<(), ScriptFault> {
-    match said {
-        Flow::GoOn => Ok(()),
-        Flow::End => Err(ScriptFault::Stopped(number)),
-    }
+    with_number(number, ended)
 }
 
 // Whether a line asks for the audit.
-fn asks_for_audit(command: &Command) -> bool {
+fn asks_for_audit(command: &Command) -> bool
+    ensures { result ≡ true → command.now ≡ command.Ask (request.Query query.Audit) }
+{
     match command {
         Command::Ask(Request::Query(Query::Audit)) => true,
         _ => false,
     }
-}
-
-// The audit as JSON.
-fn audit_told(alloc: Global, world: &World, number: u64) -> Result<String, AllocError> {
-    let mut out = String::new(alloc);
-    let core = world.core();
-    write_audit(
-        &mut out,
-        world.policy(),
-        number,
-        core.entries_before(),
-        core.audit(),
-    )?;
-    Ok(out)
-}
-
-// A reply as JSON.
-fn reply_told(
-    alloc: Global,
-    world: &World,
-    number: u64,
-    reply: &LineReply,
-) -> Result<String, AllocError> {
-    let mut out = String::new(alloc);
-    write_reply(&mut out, world.policy(), number, reply)?;
-    Ok(out)
-}
-
-// Tells a reply as JSON, and shows it to the watcher.
-fn tell_reply<W: io::Write, V: Watch>(
-    alloc: Global,
-    world: &World,
-    watcher: &mut V,
-    number: u64,
-    reply: LineReply,
-    writer: &mut W,
-) -> Result<(), ScriptFault> {
-    let told = reply_told(alloc, world, number, &reply);
-    let said = watcher.seen(world, number, reply);
-    hand_over(writer, told?.as_str())?;
-    follow(number, said)
 }
 
 // Does what a line of a script asks, and replies with JSON.
@@ -162,9 +120,11 @@ fn do_command<W: io::Write, V: Watch>(
     number: u64,
     command: Command,
     writer: &mut W,
-) -> Result<(), ScriptFault> {
+) -> Result<(), ScriptFault>
+    ensures { RunsByLine true later.now world.old world.new (W.contents writer.old) (W.contents writer.new) result }
+{
     if asks_for_audit(&command) {
-        return hand_over(writer, audit_told(alloc, world, number)?.as_str());
+        return tell_audit(alloc, world, number, writer);
     }
     watcher.asks(&command);
     let reply = perform(alloc, world, later, command);
@@ -180,11 +140,14 @@ fn do_line<W: io::Write, V: Watch>(
     number: u64,
     line: &[u8],
     writer: &mut W,
-) -> Result<(), ScriptFault> {
-    match read_line(alloc, world.policy(), later.len(), line)? {
-        None => Err(ScriptFault::BadLine(number)),
-        Some(Line::Quiet) => Ok(()),
-        Some(Line::Asks(command)) => {
+) -> Result<(), ScriptFault>
+    ensures { RunsByLine true later.now world.old world.new (W.contents writer.old) (W.contents writer.new) result }
+{
+    match read_line(alloc, world.policy(), later.len(), line) {
+        Err(_) => Err(ScriptFault::OutOfMemory),
+        Ok(None) => Err(ScriptFault::BadLine(number)),
+        Ok(Some(Line::Quiet)) => Ok(()),
+        Ok(Some(Line::Asks(command))) => {
             do_command(alloc, world, later, watcher, number, command, writer)
         }
     }
@@ -210,11 +173,17 @@ fn do_lines<W: io::Write, V: Watch>(
     number: u64,
     lines: &[u8],
     writer: &mut W,
-) -> Result<(), ScriptFault> {
+) -> Result<(), ScriptFault>
+    ensures { RunsByLine true later.now world.old world.new (W.contents writer.old) (W.contents writer.new) result }
+{
     let (line, further) = split_line(lines);
-    do_line(alloc, world, later, watcher, number, line, writer)?;
-    let (line, _) = split_line(further);
-    do_line(alloc, world, later, watcher, number, line, writer)
+    match do_line(alloc, world, later, watcher, number, line, writer) {
+        Ok(()) => {
+            let (line, _) = split_line(further);
+            do_line(alloc, world, later, watcher, number, line, writer)
+        }
+        Err(fault) => Err(fault),
+    }
 }
 
 // Does lines of a script, one or two, and replies as is asked.
@@ -226,7 +195,9 @@ fn serve_lines<W: io::Write, V: Watch>(
     place: Place,
     lines: &[u8],
     writer: &mut W,
-) -> Result<(), ScriptFault> {
+) -> Result<(), ScriptFault>
+    ensures { RunsByLine place.is_json later.now world.old world.new (W.contents writer.old) (W.contents writer.new) result }
+{
     let number = place.number;
     if place.is_json {
         do_lines(alloc, world, later, watcher, number, lines, writer)
@@ -241,12 +212,14 @@ fn drained_told(
     world: &World,
     place: Place,
     drained: &Drained,
-) -> Result<String, AllocError> {
+) -> Result<String, AllocError>
+    ensures { IfOk result (λ text. AsText place.is_json ((rest : List ℕ) × (string_bytes text ≡ text_of_tally drained.now.tally ++ rest))) }
+{
     let mut out = String::new(alloc);
     if place.is_json {
         drained.write_json(&mut out, world.policy(), place.number)?;
     } else {
-        drained.write_text(&mut out, world.policy())?;
+        drained.write_text(alloc, &mut out, world.policy())?;
     }
     Ok(out)
 }
@@ -262,20 +235,61 @@ fn show_drained<V: Watch>(world: &World, watcher: &mut V, number: u64, drained: 
     }
 }
 
+// Replies to a drain.
+fn reply_to_drain<W: io::Write, V: Watch>(
+    alloc: Global,
+    world: &World,
+    watcher: &mut V,
+    place: Place,
+    drained: &Drained,
+    writer: &mut W,
+) -> Result<(), ScriptFault>
+    ensures { TellsDrain place.is_json drained.now.tally (W.contents writer.old) (W.contents writer.new) result }
+{
+    let told = drained_told(alloc, world, place, drained);
+    let said = show_drained(world, watcher, place.number, drained);
+    match told {
+        Ok(text) => match hand_over(writer, text.as_str()) {
+            Ok(()) => follow(place.number, said),
+            Err(fault) => Err(fault),
+        },
+        Err(_) => Err(ScriptFault::OutOfMemory),
+    }
+}
+
 // Drains a queue, or all.
 fn serve_drain<W: io::Write, V: Watch>(
     alloc: Global,
     world: &mut World,
+    later: &[Policy],
     watcher: &mut V,
     place: Place,
     queue: Option<QueueId>,
     writer: &mut W,
-) -> Result<(), ScriptFault> {
-    let drained = drain(alloc, world, queue)?;
-    let told = drained_told(alloc, world, place, &drained);
-    let said = show_drained(world, watcher, place.number, &drained);
-    hand_over(writer, told?.as_str())?;
-    follow(place.number, said)
+) -> Result<(), ScriptFault>
+    ensures { RunsByLine place.is_json later.now world.old world.new (W.contents writer.old) (W.contents writer.new) result }
+{
+    match drain(alloc, world, queue) {
+        Ok(drained) => reply_to_drain(alloc, world, watcher, place, &drained, writer),
+        Err(_) => Err(ScriptFault::OutOfMemory),
+    }
+}
+
+// What is wanted in a readable line of no form.
+fn tell_wanted(
+    alloc: Global,
+    place: Place,
+    line: &[u8],
+    fault: Fault,
+    wanted: &mut String,
+) -> ScriptFault {
+    match fault_text(alloc, place.number, line, fault) {
+        Ok(text) => {
+            *wanted = text;
+            ScriptFault::BadLine(place.number)
+        }
+        Err(_) => ScriptFault::OutOfMemory,
+    }
 }
 
 // Does a readable line, without the comment at its end.
@@ -289,7 +303,9 @@ fn serve_readable<W: io::Write, V: Watch>(
     line: &[u8],
     writer: &mut W,
     wanted: &mut String,
-) -> Result<(), ScriptFault> {
+) -> Result<(), ScriptFault>
+    ensures { RunsByLine place.is_json later.now world.old world.new (W.contents writer.old) (W.contents writer.new) result }
+{
     let mut lines = Vec::new(alloc);
     match put_lines(alloc, book, line, &mut lines) {
         Ok(Turned::Itself) => { serve_lines(alloc, world, later, watcher, place, line, writer) }
@@ -304,20 +320,21 @@ fn serve_readable<W: io::Write, V: Watch>(
                 writer,
             )
         }
-        Ok(Turned::Drain(queue)) => serve_drain(alloc, world, watcher, place, queue, writer),
-        Err(LineError::OutOfMemory) => Err(ScriptFault::OutOfMemory),
-        Err(LineError::Fault(fault)) => {
-            *wanted = fault_text(alloc, place.number, line, fault)?;
-            Err(ScriptFault::BadLine(place.number))
+        Ok(Turned::Drain(queue)) => {
+            serve_drain(alloc, world, later, watcher, place, queue, writer)
         }
+        Err(LineError::OutOfMemory) => Err(ScriptFault::OutOfMemory),
+        Err(LineError::Fault(fault)) => Err(tell_wanted(alloc, place, line, fault, wanted)),
     }
 }
 
 /// Does the line of a number, from 1, in the style of its run: replies go to the writer, and each is shown to the watcher,
 /// who may end the run behind it (`Stopped`). A readable line is done by way of the lines that it comes to, and these are
 /// replied to in turn; a drain is replied to once, and its first fault or else its first wait shown. A line of no form is
-/// told as `BadLine`, and what is wanted in it, where it is a readable one, is put in `wanted`. What is asked is done
-/// as `run_script` does it; where memory is wanted for a reply, it may have been done.
+/// told as `BadLine`, and what is wanted in it, where it is a readable one, is put in `wanted`. Whatever it is, it does
+/// some requests in turn, each as a script's line does it, and hands over just their replies: as text the lines that a
+/// script is replied, and to a drain what begins with the counts of its requests. Where memory is wanted, the requests that
+/// were made last aren't replied to; where the writer fails, a beginning of the replies is handed over.
 pub fn serve_line<W: io::Write, V: Watch>(
     alloc: Global,
     world: &mut World,
@@ -328,7 +345,9 @@ pub fn serve_line<W: io::Write, V: Watch>(
     line: &[u8],
     writer: &mut W,
     wanted: &mut String,
-) -> Result<(), ScriptFault> {
+) -> Result<(), ScriptFault>
+    ensures { RunsByLine style.is_json later.now world.old world.new (W.contents writer.old) (W.contents writer.new) result }
+{
     let place = Place {
         number,
         is_json: style.is_json,
@@ -345,4 +364,71 @@ pub fn serve_line<W: io::Write, V: Watch>(
             )
         }
     }
+}
+
+/// Who gives a run its lines, one behind the other.
+pub trait Lines {
+    /// Reads the next line whole: false where there is none.
+    fn next_line(&mut self) -> io::Result<bool>;
+
+    /// The line that was given last, without its line feed; of one that is too long at least so much that this is seen.
+    fn line(&self) -> &[u8];
+
+    /// The number of that line, from 1.
+    fn number(&self) -> u64;
+}
+
+// Does the line that was given last.
+fn serve_given<L: Lines, W: io::Write, V: Watch>(
+    alloc: Global,
+    world: &mut World,
+    later: &[Policy],
+    watcher: &mut V,
+    style: Style<'_>,
+    lines: &L,
+    writer: &mut W,
+    wanted: &mut String,
+) -> Result<(), ScriptFault>
+    ensures { RunsByLine style.is_json later.now world.old world.new (W.contents writer.old) (W.contents writer.new) result }
+{
+    serve_line(
+        alloc,
+        world,
+        later,
+        watcher,
+        style,
+        lines.number(),
+        lines.line(),
+        writer,
+        wanted,
+    )
+}
+
+/// Does lines as `serve_line` does each, up to the last, or to the first that ends the run. All in all it does some requests
+/// in turn, each as a script's line does it, and hands over just their replies. At most 2^40 lines are done; behind them the
+/// run ends as if reading failed.
+pub fn run_by_line<L: Lines, W: io::Write, V: Watch>(
+    alloc: Global,
+    world: &mut World,
+    later: &[Policy],
+    watcher: &mut V,
+    style: Style<'_>,
+    lines: &mut L,
+    writer: &mut W,
+    wanted: &mut String,
+) -> Result<(), ScriptFault>
+    ensures { RunsByLine style.is_json later.now world.old world.new (W.contents writer.old) (W.contents writer.new) result }
+{
+    'lines: for _ in 0..MOST_LINES {
+        match lines.next_line() {
+            Ok(true) => {}
+            Ok(false) => return Ok(()),
+            Err(_) => return Err(ScriptFault::Read),
+        }
+        let ended = serve_given(alloc, world, later, watcher, style, lines, writer, wanted);
+        if let Err(fault) = ended {
+            return Err(fault);
+        }
+    }
+    Err(ScriptFault::Read)
 }

@@ -1,0 +1,124 @@
+//! The page on readable lines: docs/assemble.md, which `tests/pages.py --write` puts here.
+
+/// The page's text.
+pub const TEXT: &str = "# Readable packets
+
+A script's packet is 128 hexadecimal digits. In a readable script packets stand in words, and addresses by the names of regions:
+```
+brokerd run --readable policy.toml < script
+```
+`brokerd assemble POLICY` writes such a script with the digits in their place, and passes every other line on byte for byte, but for a comment at its end. So two commands in a row do the same:
+```
+brokerd assemble policy.toml < script | brokerd run policy.toml
+```
+
+Over the sample policy, after the seven first requests of `examples/fill.script` (they grant Alice what the policy allows, and open queue 1):
+```
+fill 1 1 buf length 4 with 0x5a signal done
+serve 1
+run 1 0
+finish 1 0
+read alice 0000000100000000 8
+```
+The first line is written as
+```
+submit 1 1 04140080000000000000000000000000000000000100000004000000000000005a00000000000000000000000000000000000000000000000100000000000000
+```
+and `brokerd run` replies `published 0`, `launched 0`, `ran 0 left 0`, `ok`, `bytes 5a5a5a5a00000000`. A kernel is as short:
+```
+write alice 0000000100000000 010000000200000003000000ffffffff
+dispatch alice 1 1 inc grid 4 group 2 arguments buf at args signal done
+```
+Of the second line come two: Alice writes the argument block, and the packet is submitted.
+```
+write alice 0000000200000000 0000000001000000
+submit 1 1 02140100020001000100000004000000010000000100000000000000000000000100000000000000000000000200000000000000000000000100000000000000
+```
+Both are cases in `crates/cases/data/readable.case`, with all their replies.
+
+## The lines
+Q is a queue's number, P that of a producer; what stands in capitals is put in.
+
+| Line | Packet |
+|---|---|
+| `dispatch CLIENT? Q P KERNEL grid SIZES group SIZES` | a kernel dispatch. After the sizes may stand `arguments VALUE..`, and then options |
+| `fill Q P ADDRESS length N with BYTE` | an agent dispatch of FILL: N bytes become the low byte of BYTE |
+| `copy Q P ADDRESS to ADDRESS length N` | of COPY: N bytes, as if by a copy aside |
+| `add Q P N to ADDRESS` | of ADD64: the 64-bit number there gains N |
+| `all-of Q P SIGNAL..` | a barrier-AND on up to five signals; those not named are null |
+| `any-of Q P SIGNAL..` | a barrier-OR |
+
+Any line of a script is a readable line too. `read CLIENT ADDRESS N` and `write CLIENT ADDRESS BYTES` take their address as below besides the 16 digits that it has in a script. From a word that begins with `#` on a line is a comment. A line that begins with no word of this table or of that of `docs/scripts.md` is a fault; `drain` is told below.
+
+Options stand after, in any order; of one that stands twice the last counts.
+
+| Option | Of | Says | Else |
+|---|---|---|---|
+| `signal NAME` | all | the completion signal | none |
+| `barrier` | all | the barrier bit | not set |
+| `acquire=SCOPE`, `release=SCOPE` | all | a fence's scope: `none`, `agent`, `system` | `system` |
+| `return ADDRESS` | fill, copy, add | where the result goes | nowhere |
+| `at ADDRESS` | dispatch | where the argument block lies | address 0 |
+| `group-bytes N` | dispatch | `group_segment_size` | what the kernel's group variables take |
+| `private-bytes N` | dispatch | `private_segment_size` | 0 |
+
+- **Names** are those of the policy. A name that isn't there is a fault: what is to be denied for its name is written in digits.
+- **SIZES** are one to three decimal numbers with commas, as `4` or `4,2,1`: as many as the dispatch has dimensions, for the grid and for the work-group alike.
+- **ADDRESS** is a region (`buf`), a region with an offset (`buf+16`, `buf+0x10`), or a number; of `read` and `write` a word of 16 hexadecimal digits is one as in a script, whatever else it may be. Whether the region is long enough is not asked: a packet past its end is a packet that is denied.
+- **Numbers** are decimal, or hexadecimal after `0x`.
+- **`arguments`** takes as many VALUEs as the kernel has arguments, in their order: a number that fits the argument's bits, with `-` before it if negative, or an ADDRESS. They are laid out as the kernel's own text says: each at the next multiple of its size, or of its `align`, with zeros between. CLIENT, who is named in front of the queue, writes the block where `at` says. Without `arguments` nothing is written, and CLIENT may be left out; the block then is what lies there.
+- A first word that is a number is the queue's: a client whose name is a number can't be named here. Nor can a signal of the name `signal` or `barrier` be one of `all-of` and `any-of`.
+
+## What isn't a form
+ends the run with status 1, after what the lines before it came to. The word is named, and what is wanted in its place; where no line begins with a word, the nearest that one begins with:
+```
+line 3: buff: wanted is an address: a region as buf or buf+16, or a number
+line 5: end of line: wanted is `at` and where the arguments lie, as at args
+line 7: serv: wanted is a word that lines begin with, as serve
+```
+A line of over 16,384 bytes is one too. The policy and its kernels are read and checked first; their faults are told as `brokerd check` tells them. Status 3 is as for `run`.
+
+`run --readable` tells it after its own `line 3: bad request`, with the same number. All that it tells, a bad request, an explanation and the end of a strict run, has the number of the line as it was typed. Of the two commands in a row the second counts the lines that it reads: after a `dispatch` with arguments, which comes to two, its `line N` is one further.
+
+## Draining queues
+Two lines bring to their ends what can be:
+
+| Line | Does |
+|---|---|
+| `drain` | serves, runs, polls and finishes in all open queues, until nothing moves |
+| `drain Q` | the same in one queue |
+
+They are lines of `run --readable` alone: what they ask depends on what is replied, so `assemble` refuses them.
+```text file=drain.script
+all-of 1 1 go signal done
+fill 1 1 buf length 4 with 0x5a
+drain
+signal alice go store 0   # what packet 0 waits for
+drain 1
+read alice buf 4
+```
+After the first seven requests of `examples/fill.script`:
+```console
+$ cat examples/fill.script | head -n 8 | cat - drain.script | brokerd run --readable crates/brokerd/data/sample.toml | tail -n +8
+published 0
+published 1
+drained launched 1 denied 0 ran 0 faulted 0 ready 0 failed 0 finished 0 waiting 2
+queue 1 waiting 1 Barrier
+queue 1 packet 0 pending on go
+ok
+drained launched 1 denied 0 ran 1 faulted 0 ready 1 failed 0 finished 2 waiting 0
+bytes 5a5a5a5a
+```
+A drain makes the requests that `serve`, `run`, `poll` and `finish` make, one after the other, and replies once. In rounds each queue is served as far as it comes; then each packet in flight is run group by group, or polled, and finished once its work is done. After a round in which nothing moved it is over. Its first line counts what its requests came to: packets `launched` and `denied`, groups that `ran` and `faulted`, barrier packets that were `ready` and `failed`, packets `finished`. `waiting N` counts the lines that follow, one for each request of the last round that moved nothing though something is there: the queue, the packet where the request named one, and the reply to the request; behind `pending on` stand the signals that a barrier packet depends on. What is refused, as `refused 7 QueueDown` of a stopped queue, waits too.
+
+It ends: each round but the last makes entries in the audit, which has at most 1,048,576, and where it is full what would make one is refused. At most 8 packets of a queue are in flight, and what is launched has at most 4,294,967,295 groups.
+
+A strict run ends after a drain in which a packet was denied or failed or a group faulted, or in whose last round a request was refused. With `--explain` the first such fault is explained, or else the first wait.
+
+## What is proved
+A line that `assemble` passes on begins with a word of a script's table, has none, or is a comment, and nothing is put before it (`put_lines`); the policy by whose names lines go is that of the text (`Book::read`). Of a line that submits a packet it is proved that it has the digits of the 64 bytes that lay the packet out, by the layout of `docs/aql_packets.md` (`put_packet` in `crates/assemble`, its clause `Submits`); which packet each form is, field by field, from its operands and options (`dispatch_packet`, `fill_packet`, `copy_packet`, `add_packet`, `all_of_packet`, `any_of_packet`, with their definitions in `specs/Packets.antt`); which numbers words stand for, and where a line's words begin and end. Which of them a line uses, that operands are read in the order above, and the argument block is only tested, by `assembled.case`, `argument_blocks.case` and `readable.case` in `crates/cases/data`.
+
+A drain is a list of requests in turn, each that of a line `serve Q`, `run Q ID`, `poll Q ID` or `finish Q ID` and replied to as that line is, and its counts are just those of these replies (`drain` in `crates/readable`, its clauses `Makes` and `Drains`). That it goes on while something moves, and what it tells of what waits, is tested: `tests/readable.py`.
+
+A whole run by line, of readable lines or with replies as JSON, is a list of requests in turn as well, each done and replied to as a script's line is; just their replies are handed over, and that to a drain begins with its counts (`run_by_line`, its clause `RunsByLine`). Which requests a readable line makes is tested, as above.
+";
