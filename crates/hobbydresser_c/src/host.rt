@@ -8,8 +8,9 @@ ghost use Rattle.core_model.specs.declared.event.Query.TheVariants as query;
 ghost use Rattle.core_model.specs.declared.outcome.Outcome.TheVariants as outcome;
 ghost use Rattle.core_model.specs.Legal.{RepliesOrLacks};
 ghost use Rattle.policy.specs.Results.{map_ok};
-ghost use Rattle.hobbydresser_c.specs.Statuses.{closed, out_of_memory};
-ghost use Rattle.hobbydresser_c.specs.Calls.{Answered, IsMade, IsSame, IsUnknown, Replied, Tells, WhereKnown, is_open, operation_of_number};
+ghost use Rattle.hobbydresser_c.specs.Statuses.{closed, no_such, out_of_memory};
+ghost use Rattle.hobbydresser_c.specs.Told.{number_of_test};
+ghost use Rattle.hobbydresser_c.specs.Calls.{Answered, IsMade, IsSame, Keeps, IsUnknown, Replied, Tells, WhereKnown, condition_of_number, is_open, operation_of_number};
 
 use crate::broker::Broker;
 use crate::granting::status_of;
@@ -18,7 +19,7 @@ use access_core::AccessCore;
 use aql_packet::{Address, ClientId, SignalHandle};
 use core_model::Refusal;
 use sequences::Sequence;
-use signals::SignalOp;
+use signals::{Condition, SignalOp};
 use std::alloc::Global;
 
 /// Writes bytes to memory, as a client.
@@ -31,7 +32,7 @@ pub extern "C" fn hd_write(
     bytes: &[u8],
 ) -> u32
     ensures closed { is_open broker.old ≡ false → (result ≡ closed) × IsSame broker.old broker.new }
-    ensures open { is_open broker.new ≡ is_open broker.old }
+    ensures open { Keeps broker.old broker.new }
     ensures met { is_open broker.old ≡ true →
         IsMade (event.Call (call.HostWrite (record { 0 = client }) (record { 0 = address }) bytes.now)) broker.old broker.new result
         ⊎ ((result ≡ out_of_memory) × IsSame broker.old broker.new) }
@@ -93,7 +94,7 @@ pub extern "C" fn hd_signal(
     old: &mut i64,
 ) -> u32
     ensures closed { is_open broker.old ≡ false → (result ≡ closed) × IsSame broker.old broker.new × (old.new ≡ old.old) }
-    ensures open { is_open broker.new ≡ is_open broker.old }
+    ensures open { Keeps broker.old broker.new }
     ensures met { is_open broker.old ≡ true → WhereKnown (operation_of_number operation value expected)
         (IsUnknown broker.old broker.new result × (old.new ≡ old.old))
         (λ change. Answered (event.Call (call.ChangeSignal (record { 0 = client }) (record { 0 = signal }) change)) outcome.Changed broker.old broker.new
@@ -124,6 +125,54 @@ pub extern "C" fn hd_load(broker: &mut Broker, client: u32, signal: u64, value: 
     let core = &mut broker.pointer.session_mut().core;
     let answer = core.signal_load(ClientId(client), SignalHandle(signal));
     tell_value(answer, value)
+}
+
+// Tells whether a condition held, as 1 or 0.
+fn tell_test(answer: Result<bool, Refusal>, out: &mut u32) -> u32
+    ensures { Tells number_of_test result out.old out.new answer }
+{
+    match answer {
+        Ok(held) => {
+            *out = if held { 1 } else { 0 };
+            status::OK
+        }
+        Err(why) => status::of_refusal(why),
+    }
+}
+
+// The condition of a number.
+fn condition_of_number(number: u32) -> Option<Condition>
+    ensures { result ≡ condition_of_number number }
+{
+    let conditions = [Condition::Eq, Condition::Ne, Condition::Lt, Condition::Gte];
+    conditions.get(number as usize).copied()
+}
+
+/// Tests a signal's value against another, as a client.
+#[unsafe(no_mangle)]
+pub extern "C" fn hd_test(
+    broker: &mut Broker,
+    client: u32,
+    signal: u64,
+    condition: u32,
+    value: i64,
+    held: &mut u32,
+) -> u32
+    ensures closed { is_open broker.old ≡ false → (result ≡ closed) × (held.new ≡ held.old) }
+    ensures same { IsSame broker.old broker.new }
+    ensures met { is_open broker.old ≡ true → WhereKnown (condition_of_number condition) ((result ≡ no_such) × (held.new ≡ held.old))
+        (λ asked. Replied (query.TestSignal (record { 0 = client }) (record { 0 = signal }) asked value) answers.Test broker.old
+        (Tells number_of_test result held.old held.new)) }
+{
+    if !broker.is_open() {
+        return status::CLOSED;
+    }
+    let Some(asked) = condition_of_number(condition) else {
+        return status::NO_SUCH;
+    };
+    let core = &mut broker.pointer.session_mut().core;
+    let answer = core.signal_test(ClientId(client), SignalHandle(signal), asked, value);
+    tell_test(answer, held)
 }
 
 // Tells bytes.
