@@ -27,7 +27,7 @@ install: $(WHOLE) $(BROKERD)
 	install -m 644 $(WHOLE) $(TO)/lib
 	install -m 644 packaging/hobbydresser.pc $(TO)/lib/pkgconfig
 	install -m 644 packaging/hobbydresser-config.cmake packaging/hobbydresser-config-version.cmake $(TO)/lib/cmake/hobbydresser
-	install -m 755 $(BROKERD) $(TO)/bin
+	install -m 755 $(BROKERD) $(TO)/bin/brokerd
 
 uninstall:
 	rm -f $(TO)/include/hobbydresser.h $(TO)/lib/libhobbydresser.a $(TO)/lib/pkgconfig/hobbydresser.pc $(TO)/bin/brokerd

@@ -12,7 +12,7 @@
    Each call that takes a handle, but hd_open, takes an open one; any other is answered HD_CLOSED, and nothing is changed. Each answers a
    status. Unless it is HD_OK, all is as before: the broker, and what the out-parameters point to, but for those that a
    call names beside a status. Each such call can answer HD_CLOSED; those of the core's refusals that a call can answer are
-   named in docs/scripts.md at the line of the same name. Links: libhobbydresser.a, then the toolchain's liblibc_c.a. */
+   named in docs/scripts.md at the line of the same name. A program links libhobbydresser.a, as `make install` puts it. */
 #ifndef HOBBYDRESSER_H
 #define HOBBYDRESSER_H
 

@@ -9,6 +9,7 @@ the program crates/brokerd/out/brokerd; where that isn't there, what needs it is
 The last line is `N passed, M failed`, and the exit status is 0 where none failed."""
 import glob
 import os
+import re
 import shutil
 import subprocess
 import sys
@@ -24,6 +25,8 @@ INCLUDE = f"-I{TOP}/include"
 STRICT = ["-O1", "-g", "-Wall", "-Wextra", "-Wpedantic", "-Werror"]
 SANITIZED = ["-fsanitize=address,undefined", "-fno-sanitize-recover=all"]
 
+# The most instructions of a packet that is taken, run and finished, by callgrind.
+CEILING = 4000
 # The lines that step a ring, of which the library has none.
 LEFT_OUT = dict.fromkeys(("reserve", "room", "word", "publish", "look", "part", "peek", "take", "clear", "advance", "retire"), "steps a ring")
 # Cases whose lines are calls, and that ask for more than the library answers: by file, with the reason.
@@ -150,6 +153,28 @@ def try_valgrind(counts, room, driver):
     counts.add("a script under valgrind", ended([*watched, driver, SAMPLE, "1000"], spelled(commands.KERNELS), JOURNAL=f"{room}/watched"))
 
 
+def instructions(program, packets):
+    """How many instructions a program takes for so many packets."""
+    with tempfile.TemporaryDirectory(prefix="c-count-") as room:
+        words = ["valgrind", "--tool=callgrind", f"--callgrind-out-file={room}/out", program, str(packets)]
+        ran = subprocess.run(words, capture_output=True, text=True, timeout=300)
+        return int(re.search(r"Collected : (\d+)", ran.stderr)[1])
+
+
+def try_speed(counts, room, links):
+    """Packets through the library and through the plain broker by hand: both come to their end, and the library's packet takes no more
+    instructions than its ceiling."""
+    plain = ["gcc", "-std=c11", "-O2", "-Wall", "-Wextra", "-Wpedantic", "-Werror", INCLUDE, f"{TOP}/examples/bench/c_speed.c"]
+    for name, more in (("speed", links), ("plain_speed", [f"{TOP}/examples/bench/plain_broker.c"])):
+        counts.add(f"{name}: compiles without a warning", built([*plain, "-o", f"{room}/{name}", *more]))
+        counts.add(f"{name}: runs", ended([f"{room}/{name}", "1000", "2"]))
+        if shutil.which("valgrind"):
+            packet = (instructions(f"{room}/{name}", 2000) - instructions(f"{room}/{name}", 1000)) / 1000
+            print(f"{name}: {packet:.0f} instructions a packet")
+            if name == "speed":
+                counts.add(f"a packet takes at most {CEILING} instructions", f"{packet:.0f}" if packet > CEILING else None)
+
+
 def spelled(script):
     return "".join(f"{line}\n" for line in script)
 
@@ -239,6 +264,7 @@ def main(archive=None, brokerd=None):
             counts.add(f"the {os.path.basename(driver)} of C11 compiles without a warning", built(words))
         try_programs(counts, room, links)
         try_valgrind(counts, room, drivers[0])
+        try_speed(counts, room, links)
         try_journals(counts, room, drivers[1], brokerd)
         try_page(counts, room, os.path.abspath(archive), brokerd)
         hold_cases(counts, drivers[1])

@@ -1,5 +1,5 @@
 -- What each call for C is answered, and what it leaves (own).
-use Rattle.std.specs.Prelude.{ℕ, ℤ, ◌≡◌, Bool, ◌&&◌, nat_lt, ◌-◌, List, [], ◌∷◌, length, slice_get, Option, Some, None, option_map, Result, Ok, Err, if◌then◌else◌}
+use Rattle.std.specs.Prelude.{ℕ, ℤ, ◌≡◌, Bool, ◌&&◌, true, nat_lt, ◌-◌, List, [], ◌∷◌, length, slice_get, Option, Some, None, option_map, Result, Ok, Err, if◌then◌else◌}
 use Rattle.core_model.specs.declared.answer.Answer.{Answer}
 use Rattle.core_model.specs.declared.entry.Effect.{Effect}
 use Rattle.core_model.specs.declared.entry.Entry.{Entry}
@@ -10,9 +10,12 @@ use Rattle.core_model.specs.declared.outcome.Outcome.TheVariants as outcomes
 use Rattle.core_model.specs.declared.outcome.Taken.{Taken}
 use Rattle.core_model.specs.declared.refusal.Refusal.{Refusal}
 use Rattle.core_model.specs.declared.refusal.Refusal.TheVariants as refusal
-use Rattle.core_model.specs.History.{History}
+use Rattle.core_model.specs.History.{History, beginning}
+use Rattle.core_model.specs.Owed.{is_host_size}
 use Rattle.core_model.specs.Legal.{MeetsOrLacks, RepliesOrLacks}
 use Rattle.policy.specs.Results.{map_ok}
+use Rattle.policy.specs.Policy.{rules_of}
+use Rattle.policy.specs.Rules.{knows_client}
 use Rattle.policy.specs.Object.{object_of, same_object}
 use Rattle.policy.specs.declared.object.Kind.{Kind}
 use Rattle.policy.specs.declared.object.Kind.TheVariants.{Agent, Region, Signal, Kernel}
@@ -121,6 +124,11 @@ pub record TellsTaken (status : ℕ) (before after : TakenRecord) (next_before n
   pub status_is : status ≡ status_of answer
   pub taken_is : after ≡ value_after taken_told before answer
   pub next_is : next_now ≡ next_after next_before answer
+
+-- bytes that a client would write are copied before anything else is asked: there is the client, and they may be so many
+abbrev pub IsCopied : History → ℕ → List ℕ → Type 0
+IsCopied history client bytes =
+    (knows_client (rules_of (beginning history).policy) (record { 0 = client }) ≡ true) × (is_host_size (length bytes) ≡ true)
 
 -- ---- numbers for which something stands
 

@@ -59,11 +59,10 @@ fn tell_line(
 ) -> u32
     ensures { TellsLine line.now next result out.old out.new needed.new chain.old chain.new }
 {
-    let told = fill(line.as_bytes(), out, needed);
-    if told == status::OK {
+    if line.len() <= out.len() {
         *chain = chain_told(next);
     }
-    told
+    fill(line.as_bytes(), out, needed)
 }
 
 // The digests of the policies of a journal: of the one that a broker was opened with, and of further ones.
