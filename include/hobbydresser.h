@@ -9,10 +9,10 @@
    - malloc, realloc and free are those of one C library. No call is made from a signal handler, or in a forked child of
      a process with threads.
 
-   Each call but hd_open takes an open handle; any other is answered HD_CLOSED, and nothing is changed. Each answers a
+   Each call that takes a handle, but hd_open, takes an open one; any other is answered HD_CLOSED, and nothing is changed. Each answers a
    status. Unless it is HD_OK, all is as before: the broker, and what the out-parameters point to, but for those that a
-   call names beside a status. Each call can answer HD_CLOSED; those of the core's refusals that a call can answer are
-   named in docs/scripts.md at the line of the same name. Links: libhobbydresser.a, then the toolchain's liblibc_c.a. */
+   call names beside a status. Each such call can answer HD_CLOSED; those of the core's refusals that a call can answer are
+   named in docs/scripts.md at the line of the same name. A program links libhobbydresser.a, as `make install` puts it. */
 #ifndef HOBBYDRESSER_H
 #define HOBBYDRESSER_H
 
@@ -51,6 +51,7 @@ enum {
     HD_BAD_SIZE = 12,       /* a queue's size is no power of two from 2 to 4096, or a range isn't 1 to 65536 bytes */
     HD_TOO_MANY = 13,       /* 64 queues were opened */
     HD_UNKNOWN_OBJECT = 14, /* no object of its kind has this number */
+    HD_OTHER_OBJECTS = 17,  /* the policy declares other clients or objects */
 
     HD_NOT_TOML = 101,      /* the text is no TOML in UTF-8 */
     HD_MISSING_KEY = 102,   /* a row lacks a key */
@@ -76,7 +77,7 @@ enum {
     HD_OPEN_ALREADY = 402,  /* the broker is open */
     HD_NO_ENTRY = 403,      /* a kernel's text has no kernel of its entry's name */
     HD_BAD_PLACES = 404,    /* an audit has 1 to 1048576 places */
-    HD_NO_SUCH = 405,       /* nothing stands for a number: a kind, a set of rights, an operation, a name's, an effect's */
+    HD_NO_SUCH = 405,       /* nothing stands for a number: a kind, a set of rights, a change, a condition, or one of those that are asked for */
     HD_TOO_SHORT = 406      /* the buffer is too short */
 };
 
@@ -89,6 +90,9 @@ enum { HD_USE = 1, HD_READ = 2, HD_WRITE = 4, HD_WAIT = 8, HD_CHANGE = 16, HD_LA
 
 /* Changes of a signal; arithmetic wraps at 64 bits. */
 enum { HD_STORE = 0, HD_ADD = 1, HD_SUBTRACT = 2, HD_AND = 3, HD_OR = 4, HD_XOR = 5, HD_EXCHANGE = 6, HD_CAS = 7 };
+
+/* Conditions of a test: equal, not equal, less than, greater than or equal. */
+enum { HD_EQ = 0, HD_NE = 1, HD_LT = 2, HD_GTE = 3 };
 
 /* The rules that a packet or its work can break. */
 enum {
@@ -103,6 +107,30 @@ typedef struct hd_fault {
     uint64_t kernel;       /* its number */
     uint32_t line, column; /* of its text, from 1 */
 } hd_fault;
+
+/* A client's rights on an object. */
+typedef struct hd_held {
+    uint32_t kind;
+    uint64_t number;
+    uint32_t rights;
+} hd_held;
+
+/* How many bytes a kernel's argument block has, and its group variables together. */
+typedef struct hd_layout {
+    uint32_t kernarg, group;
+} hd_layout;
+
+/* A digest (FIPS 180-4, SHA-256). */
+typedef struct hd_digest {
+    uint8_t bytes[32];
+} hd_digest;
+
+/* Where a journal stands: the digest of its last line, and the number of the last entry. It is the program's, and a program that
+   goes on with a journal keeps it. */
+typedef struct hd_chain {
+    uint8_t digest[32];
+    uint64_t number;
+} hd_chain;
 
 /* An error of a queue: a packet broke a rule. */
 typedef struct hd_error {
@@ -179,6 +207,14 @@ hd_status hd_name(hd_broker *broker, uint32_t kind, uint32_t number, char *buffe
 /* The length of a region in bytes. HD_NO_SUCH: no such region. */
 hd_status hd_region_length(hd_broker *broker, uint32_t region, uint64_t *length);
 
+/* How large a kernel's segments are. HD_NO_SUCH: no such kernel. */
+hd_status hd_kernel_layout(hd_broker *broker, uint32_t kernel, hd_layout *layout);
+
+/* The text of a kernel's module, and the name in it of the kernel that packets launch, each as hd_name tells a name. HD_NO_SUCH: no
+   such kernel. HD_TOO_SHORT: as of hd_name. */
+hd_status hd_kernel_text(hd_broker *broker, uint32_t kernel, char *buffer, size_t length, uint64_t *needed);
+hd_status hd_kernel_entry(hd_broker *broker, uint32_t kernel, char *buffer, size_t length, uint64_t *needed);
+
 /* ---- the administrator */
 
 /* Gives a client rights on an object. HD_NO_SUCH: no such kind, or rights above 63. HD_UNKNOWN_CLIENT, HD_UNKNOWN_OBJECT,
@@ -188,6 +224,21 @@ hd_status hd_grant(hd_broker *broker, uint32_t client, uint32_t kind, uint32_t n
 /* Takes rights on an object from a client. As hd_grant, and HD_BUSY: *queue and *packet tell the packet in flight that holds
    one of the rights, of several the one with the least queue and then the least id. */
 hd_status hd_revoke(hd_broker *broker, uint32_t client, uint32_t kind, uint32_t number, uint32_t rights, uint64_t *queue, uint64_t *packet);
+
+/* The rights that a client has in force on an object, 0 where it has none or there is no such object. HD_NO_SUCH: no such kind.
+   HD_UNKNOWN_CLIENT, HD_OUT_OF_MEMORY. */
+hd_status hd_rights(hd_broker *broker, uint32_t client, uint32_t kind, uint32_t number, uint32_t *rights);
+
+/* Each object on which a client has a right in force, with those rights: agents, regions, signals and kernels, each kind by number.
+   *needed is how many there are. HD_UNKNOWN_CLIENT, HD_OUT_OF_MEMORY. HD_TOO_SHORT: there are more than length; *needed is told, and
+   the records are as before. Records after the last one that is told stay. */
+hd_status hd_list(hd_broker *broker, uint32_t client, hd_held *held, size_t length, uint64_t *needed);
+
+/* Puts the allow and deny rows of another policy, by its text, in force: grants that they don't allow go, and they decide from then
+   on. The policy declares the same clients and objects in the same order, with the same kernels' texts.
+   101 to 106, and *fault tells section and row; HD_OTHER_OBJECTS; HD_BUSY, and *queue and *packet tell as of hd_revoke; HD_AUDIT_FULL,
+   HD_OUT_OF_MEMORY. */
+hd_status hd_reload(hd_broker *broker, const uint8_t *policy, size_t length, hd_fault *fault, uint64_t *queue, uint64_t *packet);
 
 /* ---- queues and packets */
 
@@ -216,6 +267,9 @@ hd_status hd_poll(hd_broker *broker, uint64_t queue, uint64_t packet, hd_polled 
    HD_NOT_IN_FLIGHT, HD_NOT_FINISHED. */
 hd_status hd_finish(hd_broker *broker, uint64_t queue, uint64_t packet);
 
+/* The errors of a queue, in order; *needed is how many there are. HD_UNKNOWN_QUEUE, HD_OUT_OF_MEMORY. HD_TOO_SHORT: as of hd_list. */
+hd_status hd_errors(hd_broker *broker, uint64_t queue, hd_error *errors, size_t length, uint64_t *needed);
+
 /* ---- memory and signals, as a client */
 
 /* Writes bytes to memory from an address on. HD_UNKNOWN_CLIENT, HD_BAD_SIZE, HD_DENIED, HD_AUDIT_FULL, HD_OUT_OF_MEMORY. */
@@ -231,6 +285,10 @@ hd_status hd_signal(hd_broker *broker, uint32_t client, uint64_t signal, uint32_
 /* Loads a signal's value. HD_UNKNOWN_CLIENT, HD_DENIED. */
 hd_status hd_load(hd_broker *broker, uint32_t client, uint64_t signal, int64_t *value);
 
+/* Tests a signal's value against another: *held is 1 where the condition holds, else 0. HD_NO_SUCH: no such condition.
+   HD_UNKNOWN_CLIENT, HD_DENIED. */
+hd_status hd_test(hd_broker *broker, uint32_t client, uint64_t signal, uint32_t condition, int64_t value, uint32_t *held);
+
 /* ---- what the last call that was entered changed */
 
 /* How many changes the last entry of the audit tells, 0 where it has none. Queries, and calls that are refused or change nothing,
@@ -242,6 +300,35 @@ hd_status hd_effect_at(hd_broker *broker, size_t index, hd_effect *effect);
 
 /* The bytes of one that is HD_WROTE: *needed is how many. HD_NO_SUCH: there are fewer, or it is another's. HD_TOO_SHORT: as of hd_name. */
 hd_status hd_effect_bytes(hd_broker *broker, size_t index, uint8_t *buffer, size_t length, uint64_t *needed);
+
+/* ---- the audit and the journal */
+
+/* How many entries came before those of the audit, and how many the audit has: their numbers go from *before + 1 to
+   *before + *count. */
+hd_status hd_audit_count(hd_broker *broker, uint64_t *before, uint64_t *count);
+
+/* The line of an entry by its number, as a script's `audit` prints it, with the line feed at its end; *needed is how many bytes it
+   has. HD_NO_SUCH: the audit has no such entry. HD_TOO_SHORT: as of hd_name. HD_OUT_OF_MEMORY. */
+hd_status hd_audit_line(hd_broker *broker, uint64_t number, char *buffer, size_t length, uint64_t *needed);
+
+/* Empties the audit, which has place for as many entries as at the opening then; their numbers go on. An entry that is to be told is
+   told before. HD_AUDIT_FULL: more than 2^62 entries would have come before. HD_OUT_OF_MEMORY. */
+hd_status hd_rotate(hd_broker *broker);
+
+/* The digest of a text. It takes no broker, and is answered HD_OK. */
+hd_status hd_digest_of(const uint8_t *text, size_t length, hd_digest *digest);
+
+/* The first line of a journal that begins with the audit's first entry, with its line feed, over the policy that the broker was opened
+   with and those of the digests, which may be put in force later; where the journal stands after it goes to *chain. HD_TOO_SHORT: as
+   of hd_name, and *chain is as before. HD_OUT_OF_MEMORY. (`brokerd replay` reads journals that begin with entry 1.) */
+hd_status hd_journal_head(hd_broker *broker, const hd_digest *further, size_t count, char *buffer, size_t length, uint64_t *needed, hd_chain *chain);
+
+/* The journal's line of the entry after the one that *chain stands at, with its line feed; *chain stands after it then.
+   HD_NO_SUCH: the audit has no such entry. HD_TOO_SHORT: as of hd_name, and *chain is as before. HD_OUT_OF_MEMORY. */
+hd_status hd_journal_line(hd_broker *broker, char *buffer, size_t length, uint64_t *needed, hd_chain *chain);
+
+/* The last line of a journal that stands so, with its line feed. It takes no broker. HD_TOO_SHORT: as of hd_name. HD_OUT_OF_MEMORY. */
+hd_status hd_journal_end(const hd_chain *chain, char *buffer, size_t length, uint64_t *needed);
 
 #ifdef __cplusplus
 }

@@ -1,29 +1,34 @@
 #!/usr/bin/env python3
-"""Holds the library for C against the cases, a program of C++17, and the misuses that its header says are answered:
+"""Holds the library for C against the cases, a program of C++17, the structs of hsa.h, the misuses that its header says are
+answered, a second reader of journals, and the page docs/c.md, whose commands are typed in a checkout of their own:
 
-    tests/c.py [ARCHIVE]
+    tests/c.py [ARCHIVE [BROKERD]]
 
-Without a path the archive is crates/hobbydresser_c/out/libhobbydresser_c.a, which is built with `rt lib` where it isn't there.
+Without a path the archive is crates/hobbydresser_c/out/libhobbydresser_c.a, which is built with `rt lib` where it isn't there, and
+the program crates/brokerd/out/brokerd; where that isn't there, what needs it is told as skipped.
 The last line is `N passed, M failed`, and the exit status is 0 where none failed."""
 import glob
 import os
+import re
 import shutil
 import subprocess
 import sys
 import tempfile
 
 import against
-from trial import HERE, SAMPLE, TOP
+import commands
+from docs import blocks_of
+from trial import FILL, HERE, PRELUDE, SAMPLE, TOP
 
 CRATE = f"{TOP}/crates/hobbydresser_c"
 INCLUDE = f"-I{TOP}/include"
 STRICT = ["-O1", "-g", "-Wall", "-Wextra", "-Wpedantic", "-Werror"]
+SANITIZED = ["-fsanitize=address,undefined", "-fno-sanitize-recover=all"]
 
-# The lines that are no call of the library yet, or step a ring, which the library has none of.
-LEFT_OUT = {
-    **dict.fromkeys(("reserve", "room", "word", "publish", "look", "part", "peek", "take", "clear", "advance", "retire"), "steps a ring"),
-    **dict.fromkeys(("test", "list", "errors", "audit", "rotate", "reload"), "has no call yet"),
-}
+# The most instructions of a packet that is taken, run and finished, by callgrind.
+CEILING = 4000
+# The lines that step a ring, of which the library has none.
+LEFT_OUT = dict.fromkeys(("reserve", "room", "word", "publish", "look", "part", "peek", "take", "clear", "advance", "retire"), "steps a ring")
 # Cases whose lines are calls, and that ask for more than the library answers: by file, with the reason.
 NO_FORM = "a line is of no form, which the driver doesn't look for"
 OF_A_RING = "a ring answers, and not the core"
@@ -80,8 +85,6 @@ def left_in(path):
     for case in cases:
         script = setting.after_front(setting.asked(case, 0))
         reasons = [f"`{line.split()[0].decode(errors='replace')}` {why_not(line)}" for line in script.split(b"\n") if why_not(line)]
-        if any(it.startswith("further ") for it in case.settings):
-            reasons.append("`reload` has no call yet")
         if reasons:
             left[case.name] = reasons[0]
     return left
@@ -97,44 +100,177 @@ def hold_cases(counts, driver):
             continue
         paths.append(path)
         left[title] = {**found, **ASKS_MORE.get(title, {})}
-    passed, failed = against.hold({"scripts": [driver, "{POLICY}", "{AUDIT}"]}, paths, left=left)
+    passed, failed = against.hold({"scripts": [driver, "{POLICY}", "{NEXT}..", "{AUDIT}"]}, paths, left=left)
     counts.passed, counts.failed = counts.passed + passed, counts.failed + failed
 
 
-def main(archive=None):
+def has_hsa():
+    """Whether there is an hsa.h, if need be from Debian."""
+    found = "/usr/include/hsa/hsa.h"
+    if not os.path.exists(found) and os.geteuid() == 0 and shutil.which("apt-get"):
+        for words in (["apt-get", "update"], ["apt-get", "install", "-y", "libhsa-runtime-dev"]):
+            subprocess.run(words, stdin=subprocess.DEVNULL, capture_output=True)
+    return os.path.exists(found)
+
+
+def try_programs(counts, room, links):
+    """The programs of C and C++: that each compiles without a warning, and ends well."""
+    plain = ["gcc", "-std=c11", *STRICT, INCLUDE]
+    programs = [
+        ("misuses", [*plain, "-o", f"{room}/misuses", f"{HERE}/c_misuses.c", *links]),
+        ("misuses with the sanitizers of addresses and undefined behaviour", [*plain, *SANITIZED, "-o", f"{room}/sanitized", f"{HERE}/c_misuses.c", *links]),
+        ("memory refused in turn", [*plain, "-Wl,--wrap=malloc,--wrap=realloc", "-o", f"{room}/memory", f"{HERE}/c_memory.c", *links]),
+        ("two threads with the sanitizer of threads", [*plain, "-fsanitize=thread", "-o", f"{room}/threads", f"{HERE}/c_threads.c", *links, "-lpthread"]),
+        ("C++17", ["g++", "-std=c++17", *STRICT, INCLUDE, "-o", f"{room}/cpp", f"{HERE}/c_program.cpp", *links]),
+        ("the example", [*plain, "-o", f"{room}/device", f"{TOP}/examples/c/device.c", *links]),
+    ]
+    if has_hsa():
+        programs.append(("packets of hsa.h", [*plain, "-o", f"{room}/hsa", f"{HERE}/c_hsa.c", *links]))
+    else:
+        print("skipped: libhsa-runtime-dev is not installed")
+    for name, words in programs:
+        wrong = built(words)
+        counts.add(f"{name}: compiles without a warning", wrong)
+        if not wrong:
+            # (the sanitizer of threads wants addresses that aren't drawn by lot)
+            front = ["setarch", "-R"] * ("-fsanitize=thread" in words)
+            counts.add(f"{name}: runs", ended([*front, words[words.index("-o") + 1], SAMPLE]))
+
+
+def ended(words, script="", room=None, **environment):
+    """How a command ended, where it didn't end well."""
+    ran = subprocess.run(words, input=script, capture_output=True, text=True, timeout=300, cwd=room, env={**os.environ, **environment})
+    return f"status {ran.returncode}\n{ran.stdout}{ran.stderr}" if ran.returncode else None
+
+
+def try_valgrind(counts, room, driver):
+    """The misuses and a script under valgrind."""
+    if not shutil.which("valgrind"):
+        print("skipped: valgrind is not installed")
+        return
+    watched = ["valgrind", "-q", "--error-exitcode=9", "--leak-check=full"]
+    counts.add("misuses under valgrind", ended([*watched, f"{room}/misuses", SAMPLE]))
+    counts.add("a script under valgrind", ended([*watched, driver, SAMPLE, "1000"], spelled(commands.KERNELS), JOURNAL=f"{room}/watched"))
+
+
+def instructions(program, packets):
+    """How many instructions a program takes for so many packets."""
+    with tempfile.TemporaryDirectory(prefix="c-count-") as room:
+        words = ["valgrind", "--tool=callgrind", f"--callgrind-out-file={room}/out", program, str(packets)]
+        ran = subprocess.run(words, capture_output=True, text=True, timeout=300)
+        return int(re.search(r"Collected : (\d+)", ran.stderr)[1])
+
+
+def try_speed(counts, room, links):
+    """Packets through the library and through the plain broker by hand: both come to their end, and the library's packet takes no more
+    instructions than its ceiling."""
+    plain = ["gcc", "-std=c11", "-O2", "-Wall", "-Wextra", "-Wpedantic", "-Werror", INCLUDE, f"{TOP}/examples/bench/c_speed.c"]
+    for name, more in (("speed", links), ("plain_speed", [f"{TOP}/examples/bench/plain_broker.c"])):
+        counts.add(f"{name}: compiles without a warning", built([*plain, "-o", f"{room}/{name}", *more]))
+        counts.add(f"{name}: runs", ended([f"{room}/{name}", "1000", "2"]))
+        if shutil.which("valgrind"):
+            packet = (instructions(f"{room}/{name}", 2000) - instructions(f"{room}/{name}", 1000)) / 1000
+            print(f"{name}: {packet:.0f} instructions a packet")
+            if name == "speed":
+                counts.add(f"a packet takes at most {CEILING} instructions", f"{packet:.0f}" if packet > CEILING else None)
+
+
+def spelled(script):
+    return "".join(f"{line}\n" for line in script)
+
+
+def try_journals(counts, room, driver, brokerd):
+    """The journals that the library writes of scripts are read by a second reader, and are those that the program writes."""
+    other = f"{room}/other.toml"
+    with open(SAMPLE, encoding="utf-8") as it, open(other, "w", encoding="utf-8") as out:
+        out.write("version = 2\n" + it.read() + '[[deny]]\nclient = "bob"\nkind = "agent"\nobject = "*"\nrights = ["USE"]\n')
+    for name, script, further in (
+        ("nothing", [], []),
+        ("kernels", commands.KERNELS, []),
+        ("reloads", [*PRELUDE, "reload 1", "grant bob agent gpu USE", "reload 1"], [other]),
+        ("rotations", [*PRELUDE, "rotate", f"submit 1 1 {FILL}", "serve 1", "rotate", "run 1 0", "finish 1 0"], []),
+    ):
+        made, wanted = f"{room}/{name}.journal", f"{room}/{name}.wanted"
+        wrong = ended([driver, SAMPLE, *further, "1000"], spelled(script), JOURNAL=made)
+        counts.add(f"the journal of {name} is written", wrong)
+        if wrong:
+            continue
+        with open(made, encoding="utf-8") as it:
+            counts.add(f"the journal of {name} is read", ended([sys.executable, "-B", f"{TOP}/examples/replay.py", SAMPLE, *further], it.read()))
+        if os.path.exists(brokerd):
+            words = [brokerd, "run", SAMPLE, *further, "--audit", "1000", "--journal", wanted]
+            wrong = ended(words, spelled(script)) or ended(["cmp", made, wanted])
+            counts.add(f"the journal of {name} is the program's", wrong)
+
+
+class Checkout:
+    """A checkout of its own, in which the commands of docs/c.md are typed. What `rt` would prove and build is there already: it only puts
+    it in its place."""
+
+    def __init__(self, room, archive, brokerd):
+        self.top = f"{room}/checkout"
+        for name in ("include", "examples", "packaging", "crates/brokerd/data", "crates/hobbydresser_c/src"):
+            shutil.copytree(f"{TOP}/{name}", f"{self.top}/{name}")
+        shutil.copy(f"{TOP}/Makefile", self.top)
+        kit = f"{room}/kit"
+        os.makedirs(f"{kit}/bin")
+        os.makedirs(f"{kit}/c")
+        os.symlink(library_of_c(), f"{kit}/c/liblibc_c.a")
+        with open(f"{kit}/bin/rt", "w", encoding="utf-8") as it:
+            it.write(f'#!/bin/sh\nmkdir -p out\ncase "$1" in lib) cp {archive} out/libhobbydresser_c.a;; run) cp {brokerd or "/bin/true"} out/brokerd;; *) exit 2;; esac\n')
+        os.chmod(f"{kit}/bin/rt", 0o755)
+        os.makedirs(f"{room}/home")
+        self.has_brokerd = brokerd is not None
+        self.environment = {**os.environ, "PATH": f"{kit}/bin:{os.environ['PATH']}", "HOME": f"{room}/home"}
+
+    def type(self, counts, page):
+        """Types the commands of a page, block by block: each ends well, and writes what the block below it has."""
+        came = None
+        for block in blocks_of(page):
+            if "file" in block.marks:
+                path = f"{self.top}/{block.marks['file']}"
+                os.makedirs(os.path.dirname(path), exist_ok=True)
+                with open(path, "w", encoding="utf-8") as it:
+                    it.write(spelled(block.lines))
+            elif block.kind == "sh" and not self.has_brokerd and any("/brokerd" in line for line in block.lines):
+                print(f"skipped: docs/c.md, line {block.line}: brokerd is not built")
+                came = None
+            elif block.kind == "sh":
+                ran = subprocess.run(["sh", "-e"], input=spelled(block.lines), cwd=self.top, env=self.environment, capture_output=True, text=True, timeout=300)
+                came = ran.stdout.splitlines()
+                counts.add(f"docs/c.md, line {block.line}: what is typed ends well", f"status {ran.returncode}\n{ran.stdout}{ran.stderr}" if ran.returncode else None)
+            elif block.kind == "came" and came is not None:
+                count = len(block.lines)
+                well = any(came[at : at + count] == block.lines for at in range(len(came) - count + 1))
+                counts.add(f"docs/c.md, line {block.line}: it writes this", None if well else "\n".join(came or ["nothing"]))
+
+
+def try_page(counts, room, archive, brokerd):
+    """Where brokerd isn't built, another program is installed in its place, and what it would be asked is left out."""
+    with open(f"{TOP}/docs/c.md", encoding="utf-8") as page:
+        Checkout(room, archive, os.path.abspath(brokerd) if os.path.exists(brokerd) else None).type(counts, page.read())
+
+
+def main(archive=None, brokerd=None):
     counts = Counts()
-    archive = archive or f"{CRATE}/out/libhobbydresser_c.a"
+    archive, brokerd = archive or f"{CRATE}/out/libhobbydresser_c.a", brokerd or f"{TOP}/crates/brokerd/out/brokerd"
     if not os.path.exists(archive):
         subprocess.run(["rt", "lib"], cwd=CRATE, check=True)
     links = [archive, library_of_c()]
     with tempfile.TemporaryDirectory(prefix="c-") as room:
-        driver = f"{room}/driver"
-        counts.add("the driver of C11 compiles without a warning", built(["gcc", "-std=c11", *STRICT, INCLUDE, "-o", driver, f"{HERE}/c_driver.c", *links]))
-        for name, words in (
-            ("misuses", ["gcc", "-std=c11", *STRICT, INCLUDE, "-o", f"{room}/misuses", f"{HERE}/c_misuses.c", *links]),
-            ("misuses with the sanitizers of addresses and undefined behaviour", ["gcc", "-std=c11", *STRICT, "-fsanitize=address,undefined", "-fno-sanitize-recover=all", INCLUDE, "-o", f"{room}/sanitized", f"{HERE}/c_misuses.c", *links]),
-            ("memory refused in turn", ["gcc", "-std=c11", *STRICT, "-Wl,--wrap=malloc,--wrap=realloc", INCLUDE, "-o", f"{room}/memory", f"{HERE}/c_memory.c", *links]),
-            ("two threads with the sanitizer of threads", ["gcc", "-std=c11", *STRICT, "-fsanitize=thread", INCLUDE, "-o", f"{room}/threads", f"{HERE}/c_threads.c", *links, "-lpthread"]),
-            ("C++17", ["g++", "-std=c++17", *STRICT, INCLUDE, "-o", f"{room}/cpp", f"{HERE}/c_program.cpp", *links]),
-            ("the example", ["gcc", "-std=c11", *STRICT, INCLUDE, "-o", f"{room}/device", f"{TOP}/examples/c/device.c", *links]),
-        ):
-            wrong = built(words)
-            counts.add(f"{name}: compiles without a warning", wrong)
-            if not wrong:
-                # (the sanitizer of threads wants addresses that aren't drawn by lot)
-                front = ["setarch", "-R"] * ("-fsanitize=thread" in words)
-                ran = subprocess.run([*front, words[words.index("-o") + 1], SAMPLE], capture_output=True, text=True, timeout=60)
-                counts.add(f"{name}: runs", f"status {ran.returncode}\n{ran.stdout}{ran.stderr}" if ran.returncode else None)
-        if shutil.which("valgrind"):
-            words = ["valgrind", "-q", "--error-exitcode=9", "--leak-check=full", f"{room}/misuses", SAMPLE]
-            ran = subprocess.run(words, capture_output=True, text=True, timeout=300)
-            counts.add("misuses under valgrind", f"status {ran.returncode}\n{ran.stderr}" if ran.returncode else None)
-        else:
-            print("skipped: valgrind is not installed")
-        hold_cases(counts, driver)
+        drivers = f"{room}/driver", f"{room}/sanitized_driver"
+        for driver, more in zip(drivers, ([], SANITIZED)):
+            words = ["gcc", "-std=c11", *STRICT, *more, INCLUDE, "-o", driver, f"{HERE}/c_driver.c", *links]
+            counts.add(f"the {os.path.basename(driver)} of C11 compiles without a warning", built(words))
+        try_programs(counts, room, links)
+        try_valgrind(counts, room, drivers[0])
+        try_speed(counts, room, links)
+        try_journals(counts, room, drivers[1], brokerd)
+        try_page(counts, room, os.path.abspath(archive), brokerd)
+        hold_cases(counts, drivers[1])
     print(f"{counts.passed} passed, {counts.failed} failed")
     sys.exit(1 if counts.failed else 0)
 
 
 if __name__ == "__main__":
-    main(*sys.argv[1:2])
+    main(*sys.argv[1:3])

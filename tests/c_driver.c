@@ -1,5 +1,6 @@
-/* Runs a script over a policy as `brokerd run` does, by the library's calls alone: driver POLICY AUDIT. It knows the lines that are one of
-   these calls, and `submit` and `serve`, whose ring it keeps itself. Another line ends it with status 64, and its word told. */
+/* Runs a script over a policy as `brokerd run` does, by the library's calls alone: driver POLICY NEXT.. AUDIT, the further policies
+   in between. It knows the lines that are one of these calls, and `submit` and `serve`, whose ring it keeps itself. Another line
+   ends it with status 64, and its word told. Where JOURNAL names a file, it writes the journal there. */
 #include <inttypes.h>
 #include <stdio.h>
 #include <stdlib.h>
@@ -11,6 +12,12 @@ enum { QUEUES = 64, SLOTS = 4096, WORDS = 64 };
 
 static hd_broker broker = HD_BROKER;
 
+/* The further policies, and the journal. */
+static char **further;
+static int further_count;
+static FILE *journal;
+static hd_chain chain;
+
 /* The ring of each queue: what was published and not yet retired. */
 static struct {
     uint64_t size, producers, write, read;
@@ -19,13 +26,14 @@ static struct {
 
 static const char *const refusals[] = {
     "OutOfMemory", "UnknownClient", "UnknownQueue", "Denied", "Busy", "NotAllowed", "OutOfStep", "QueueDown", "NotInFlight",
-    "NotFinished", "AuditFull", "BadSize", "TooMany", "UnknownObject",
+    "NotFinished", "AuditFull", "BadSize", "TooMany", "UnknownObject", "", "", "OtherObjects",
 };
 static const char *const rules[] = {
     "", "L1", "L2", "L3", "L4", "L5", "L6", "L7", "L8", "L9", "L10", "A1", "A2", "A3", "A4", "A5", "A6", "A7", "B1",
 };
 static const char *const rights[] = { "USE", "READ", "WRITE", "WAIT", "CHANGE", "LAUNCH" };
 static const char *const kinds[] = { "agent", "region", "signal", "kernel" };
+static const char *const conditions[] = { "EQ", "NE", "LT", "GTE" };
 static const char *const changes[] = { "store", "add", "subtract", "and", "or", "xor", "exchange", "cas" };
 
 static void stop(const char *why)
@@ -40,6 +48,19 @@ static void *memory(size_t size)
     void *at = malloc(size ? size : 1);
     if (!at) stop("no memory");
     return at;
+}
+
+static uint8_t *file(const char *path, size_t *length)
+{
+    FILE *in = fopen(path, "rb");
+    if (!in) stop(path);
+    fseek(in, 0, SEEK_END);
+    *length = (size_t)ftell(in);
+    rewind(in);
+    uint8_t *bytes = memory(*length);
+    if (fread(bytes, 1, *length, in) != *length) stop(path);
+    fclose(in);
+    return bytes;
 }
 
 /* Which of some words a word is. */
@@ -82,7 +103,7 @@ static uint8_t *bytes_in(const char *word, size_t *length)
 /* A refusal, and the right that its call lacks. */
 static void refuse(hd_status status, const char *right)
 {
-    if (status < 1 || status > 14) {
+    if (status < 1 || status > 17 || !refusals[status - 1][0]) {
         char why[64];
         snprintf(why, sizeof why, "status %" PRIu32, status);
         stop(why);
@@ -104,6 +125,17 @@ static void tell_error(const hd_error *error)
     if (error->has_place) printf(" group %" PRIu32 " item %" PRIu32 " line %" PRIu32, error->group, error->item, error->line);
 }
 
+/* A call that was made or refused, and the packet that stands against it. */
+static void answer_holder(hd_status status, uint64_t queue, uint64_t packet)
+{
+    if (status != HD_BUSY) {
+        answer(status, "");
+        return;
+    }
+    refuse(status, "");
+    printf(" queue %" PRIu64 " packet %" PRIu64 "\n", queue, packet);
+}
+
 static void change_rights(int is_grant, char **words)
 {
     uint32_t kind = place(kinds, 4, words[2]);
@@ -114,12 +146,165 @@ static void change_rights(int is_grant, char **words)
         return;
     }
     hd_status status = hd_revoke(&broker, client, kind, object, bits, &queue, &packet);
-    if (status != HD_BUSY) {
+    answer_holder(status, queue, packet);
+}
+
+static void reload(char **words)
+{
+    uint64_t queue = 0, packet = 0, next = strtoull(words[1], NULL, 10);
+    hd_fault fault;
+    size_t length;
+    if (next < 1 || next > (uint64_t)further_count) stop("no such policy");
+    uint8_t *policy = file(further[next - 1], &length);
+    hd_status status = hd_reload(&broker, policy, length, &fault, &queue, &packet);
+    free(policy);
+    answer_holder(status, queue, packet);
+}
+
+static void tell_rights(uint32_t bits)
+{
+    const char *comma = "";
+    for (int i = 0; i < 6; i++) {
+        if (!(bits >> i & 1)) continue;
+        printf("%s%s", comma, rights[i]);
+        comma = ",";
+    }
+}
+
+static void list(char **words)
+{
+    uint32_t client = number(HD_CLIENT, words[1]), bits;
+    uint64_t count, needed;
+    hd_held none[1], *held = none;
+    hd_status status = hd_list(&broker, client, held, 0, &count);
+    if (status == HD_TOO_SHORT) {
+        held = memory(count * sizeof *held);
+        status = hd_list(&broker, client, held, count, &count);
+    }
+    if (status != HD_OK) {
         answer(status, "");
         return;
     }
-    refuse(status, "");
-    printf(" queue %" PRIu64 " packet %" PRIu64 "\n", queue, packet);
+    printf("list %" PRIu64 "\n", count);
+    for (uint64_t i = 0; i < count; i++) {
+        char name[256];
+        if (hd_name(&broker, held[i].kind, (uint32_t)held[i].number, name, sizeof name, &needed) != HD_OK) stop("hd_name");
+        if (hd_rights(&broker, client, held[i].kind, (uint32_t)held[i].number, &bits) != HD_OK || bits != held[i].rights) stop("hd_rights");
+        printf("%s %" PRIu64 " %.*s ", kinds[held[i].kind], held[i].number, (int)needed, name);
+        tell_rights(bits);
+        printf("\n");
+    }
+    if (held != none) free(held);
+}
+
+static void errors(char **words)
+{
+    uint64_t queue = strtoull(words[1], NULL, 10), count;
+    hd_error none[1], *told = none;
+    hd_status status = hd_errors(&broker, queue, told, 0, &count);
+    if (status == HD_TOO_SHORT) {
+        told = memory(count * sizeof *told);
+        status = hd_errors(&broker, queue, told, count, &count);
+    }
+    if (status != HD_OK) {
+        answer(status, "");
+        return;
+    }
+    printf("errors %" PRIu64 "\n", count);
+    for (uint64_t i = 0; i < count; i++) {
+        tell_error(&told[i]);
+        printf("\n");
+    }
+    if (told != none) free(told);
+}
+
+/* Room for a line of so many bytes. */
+static char *line_room(uint64_t needed, size_t *length)
+{
+    static char *room;
+    static size_t has;
+    if (!room || has < needed) {
+        free(room);
+        room = memory(has = needed + 256);
+    }
+    *length = has;
+    return room;
+}
+
+/* The audit's entries, as an `audit` or a `rotate` tells them. */
+static void tell_entries(const char *word)
+{
+    uint64_t before, count, needed = 0;
+    size_t length;
+    if (hd_audit_count(&broker, &before, &count) != HD_OK) stop("hd_audit_count");
+    printf("%s %" PRIu64 "\n", word, count);
+    for (uint64_t number = before + 1; number <= before + count; number++) {
+        char *line = line_room(0, &length);
+        hd_status status = hd_audit_line(&broker, number, line, length, &needed);
+        if (status == HD_TOO_SHORT) {
+            line = line_room(needed, &length);
+            status = hd_audit_line(&broker, number, line, length, &needed);
+        }
+        if (status != HD_OK) stop("hd_audit_line");
+        fwrite(line, 1, needed, stdout);
+    }
+}
+
+/* Writes what the journal has not yet. */
+static void go_on(void)
+{
+    uint64_t needed;
+    size_t length;
+    hd_status status = HD_OK;
+    while (journal && status == HD_OK) {
+        char *line = line_room(0, &length);
+        status = hd_journal_line(&broker, line, length, &needed, &chain);
+        if (status == HD_TOO_SHORT) {
+            line = line_room(needed, &length);
+            status = hd_journal_line(&broker, line, length, &needed, &chain);
+        }
+        if (status != HD_OK && status != HD_NO_SUCH) stop("hd_journal_line");
+        if (status == HD_OK) fwrite(line, 1, needed, journal);
+    }
+}
+
+static void rotate(void)
+{
+    go_on();
+    tell_entries("rotated");
+    if (hd_rotate(&broker) != HD_OK) stop("hd_rotate");
+}
+
+/* The journal's first line, over all policies. */
+static void begin_journal(void)
+{
+    hd_digest none[1], *digests = further_count ? memory((size_t)further_count * sizeof *digests) : none;
+    char *line;
+    uint64_t needed;
+    size_t length;
+    for (int i = 0; i < further_count; i++) {
+        uint8_t *policy = file(further[i], &length);
+        if (hd_digest_of(policy, length, &digests[i]) != HD_OK) stop("hd_digest_of");
+        free(policy);
+    }
+    line = line_room(0, &length);
+    hd_status status = hd_journal_head(&broker, digests, (size_t)further_count, line, length, &needed, &chain);
+    if (status == HD_TOO_SHORT) {
+        line = line_room(needed, &length);
+        status = hd_journal_head(&broker, digests, (size_t)further_count, line, length, &needed, &chain);
+    }
+    if (status != HD_OK) stop("hd_journal_head");
+    fwrite(line, 1, needed, journal);
+    if (digests != none) free(digests);
+}
+
+static void end_journal(void)
+{
+    char line[256];
+    uint64_t needed;
+    if (hd_journal_end(&chain, line, sizeof line, &needed) != HD_OK) stop("hd_journal_end");
+    fwrite(line, 1, needed, journal);
+    fclose(journal);
 }
 
 static void open_queue(char **words)
@@ -270,6 +455,15 @@ static void load(char **words)
     else printf("value %" PRId64 "\n", value);
 }
 
+static void test(char **words)
+{
+    uint32_t held;
+    hd_status status = hd_test(&broker, number(HD_CLIENT, words[1]), number(HD_SIGNAL, words[2]), place(conditions, 4, words[3]),
+                               strtoll(words[4], NULL, 10), &held);
+    if (status != HD_OK) answer(status, "WAIT");
+    else printf(held ? "true\n" : "false\n");
+}
+
 /* Makes the call that a line is. */
 static void ask(char **words, int count)
 {
@@ -288,20 +482,13 @@ static void ask(char **words, int count)
     else if (strcmp(verb, "read") == 0 && count == 4) read_memory(words);
     else if (strcmp(verb, "signal") == 0 && count >= 5) change_signal(words, count);
     else if (strcmp(verb, "load") == 0 && count == 3) load(words);
+    else if (strcmp(verb, "test") == 0 && count == 5) test(words);
+    else if (strcmp(verb, "list") == 0 && count == 2) list(words);
+    else if (strcmp(verb, "errors") == 0 && count == 2) errors(words);
+    else if (strcmp(verb, "audit") == 0 && count == 1) tell_entries("audit");
+    else if (strcmp(verb, "rotate") == 0 && count == 1) rotate();
+    else if (strcmp(verb, "reload") == 0 && count == 2) reload(words);
     else stop(verb);
-}
-
-static uint8_t *file(const char *path, size_t *length)
-{
-    FILE *in = fopen(path, "rb");
-    if (!in) stop(path);
-    fseek(in, 0, SEEK_END);
-    *length = (size_t)ftell(in);
-    rewind(in);
-    uint8_t *bytes = memory(*length);
-    if (fread(bytes, 1, *length, in) != *length) stop(path);
-    fclose(in);
-    return bytes;
 }
 
 int main(int count, char **arguments)
@@ -309,18 +496,28 @@ int main(int count, char **arguments)
     static char line[1 << 20];
     hd_fault fault = { 0 };
     size_t length;
-    if (count != 3) stop("driver POLICY AUDIT");
+    if (count < 3) stop("driver POLICY NEXT.. AUDIT");
+    further = arguments + 2;
+    further_count = count - 3;
     uint8_t *policy = file(arguments[1], &length);
-    hd_status status = hd_open(&broker, policy, length, strtoull(arguments[2], NULL, 10), &fault);
+    hd_status status = hd_open(&broker, policy, length, strtoull(arguments[count - 1], NULL, 10), &fault);
     free(policy);
     if (status != HD_OK) refuse(status, "");
+    if (getenv("JOURNAL")) {
+        journal = fopen(getenv("JOURNAL"), "wb");
+        if (!journal) stop("the journal");
+        begin_journal();
+    }
     while (fgets(line, sizeof line, stdin)) {
         char *words[WORDS];
         int found = 0;
         if (line[0] == '#') continue;
         for (char *word = strtok(line, " \t\r\n"); word && found < WORDS; word = strtok(NULL, " \t\r\n")) words[found++] = word;
         if (found) ask(words, found);
+        go_on();
     }
+    if (journal) end_journal();
+    free(line_room(0, &length));
     for (int i = 0; i <= QUEUES; i++) free(rings[i].packets);
     return hd_close(&broker) == HD_OK && hd_close(&broker) == HD_CLOSED ? 0 : 65;
 }

@@ -38,6 +38,7 @@ void *__wrap_realloc(void *at, size_t size) { return refuses() ? NULL : __real_r
 
 static uint8_t policy[1 << 20];
 static size_t length;
+static const hd_digest NO_DIGEST[1];
 
 /* A kernel's packet is published, run and completed, with the request of this number refused. */
 static int life(long at, int *was_told)
@@ -48,7 +49,12 @@ static int life(long at, int *was_told)
     hd_fault fault;
     hd_taken taken;
     hd_worked worked;
-    uint64_t queue, next, where = (uint64_t)1 << 32, arguments = (uint64_t)2 << 32, one = 1;
+    hd_held held[8];
+    hd_error error;
+    hd_chain chain;
+    char line[512];
+    uint64_t queue, next, count, errors, needed, where = (uint64_t)1 << 32, arguments = (uint64_t)2 << 32, one = 1;
+    uint32_t rights, launched;
     int64_t value;
     memcpy(packet + 32, &one, 8);
     memcpy(packet + 40, &arguments, 8);
@@ -63,16 +69,32 @@ static int life(long at, int *was_told)
     MAKE(hd_open_queue(&broker, 1, 1, 16, &queue));
     MAKE(hd_write(&broker, 1, arguments, (const uint8_t *)&where, 8));
     MAKE(hd_take(&broker, queue, 0, packet, &taken, &next));
+    launched = taken.became;
     MAKE(hd_run(&broker, queue, 0, &worked));
     MAKE(hd_run(&broker, queue, 0, &worked));
     MAKE(hd_finish(&broker, queue, 0));
     MAKE(hd_read(&broker, 1, where, read, sizeof read));
     MAKE(hd_load(&broker, 1, 1, &value));
+    MAKE(hd_list(&broker, 1, held, 8, &count));
+    MAKE(hd_rights(&broker, 1, HD_REGION, 2, &rights));
+    MAKE(hd_journal_head(&broker, NO_DIGEST, 0, line, sizeof line, &needed, &chain));
+    MAKE(hd_journal_line(&broker, line, sizeof line, &needed, &chain));
+    MAKE(hd_journal_end(&chain, line, sizeof line, &needed));
+    MAKE(hd_audit_line(&broker, 1, line, sizeof line, &needed));
+    MAKE(hd_reload(&broker, policy, length, &fault, &queue, &next));
+    MAKE(hd_rotate(&broker));
+    packet[0] = 0;
+    MAKE(hd_take(&broker, 1, 1, packet, &taken, &next));
+    MAKE(hd_errors(&broker, 1, &error, 1, &errors));
     *was_told = left < 0;
     left = -1;
     MAKE(hd_close(&broker));
-    if (memcmp(read, wanted, 16) != 0 || value != 0 || taken.became != HD_LAUNCHED || worked.became != HD_RAN || worked.left != 0) {
+    if (memcmp(read, wanted, 16) != 0 || value != 0 || launched != HD_LAUNCHED || worked.became != HD_RAN || worked.left != 0) {
         printf("refused at %ld: another answer\n", at);
+        return 1;
+    }
+    if (count != 5 || rights != (HD_READ | HD_WRITE) || chain.number != 1 || needed != 26 || memcmp(line, "1 grant alice agent 1 USE\n", 26) != 0 || errors != 1) {
+        printf("refused at %ld: another list, line or error\n", at);
         return 1;
     }
     return 0;

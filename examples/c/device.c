@@ -1,5 +1,6 @@
 /* A device back end over the proved broker. Two clients share a device; what each packet may do is decided by the library, and the
-   changes that its work made are told to the device. Run as `device POLICY`, over crates/brokerd/data/sample.toml. */
+   changes that its work made are told to the device. At the end it prints its journal, which `brokerd replay` holds against the
+   policy. Run as `device POLICY`, over crates/brokerd/data/sample.toml. */
 #include <inttypes.h>
 #include <stdio.h>
 #include <stdlib.h>
@@ -88,6 +89,20 @@ static void process(uint64_t queue, uint64_t id, const packet *it)
     tell_effects();
 }
 
+/* All that happened, in order: anyone who has the policy can tell from these lines whether each was owed. */
+static void tell_journal(void)
+{
+    static char line[1 << 18];
+    static const hd_digest none[1]; /* no other policy is put in force */
+    hd_chain chain;
+    uint64_t length;
+    MUST(hd_journal_head(&broker, none, 0, line, sizeof line, &length, &chain));
+    do fwrite(line, 1, length, stdout);
+    while (hd_journal_line(&broker, line, sizeof line, &length, &chain) == HD_OK);
+    MUST(hd_journal_end(&chain, line, sizeof line, &length));
+    fwrite(line, 1, length, stdout);
+}
+
 static void open_broker(const char *path)
 {
     static uint8_t policy[1 << 20];
@@ -126,6 +141,7 @@ int main(int count, char **arguments)
     process(alices, 1, &after);
     process(bobs, 0, &inc);
 
+    tell_journal();
     MUST(hd_close(&broker));
     return 0;
 }

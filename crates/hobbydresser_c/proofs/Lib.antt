@@ -1,3 +1,5 @@
 mod AsBox
+mod Opened
 mod Reading
+mod Records
 mod Rows

@@ -1,5 +1,5 @@
 -- What each call for C is answered, and what it leaves (own).
-use Rattle.std.specs.Prelude.{ℕ, ℤ, ◌≡◌, Bool, nat_lt, ◌-◌, List, [], ◌∷◌, length, slice_get, Option, Some, None, Result, Ok, Err, if◌then◌else◌}
+use Rattle.std.specs.Prelude.{ℕ, ℤ, ◌≡◌, Bool, ◌&&◌, true, nat_lt, ◌-◌, List, [], ◌∷◌, length, slice_get, Option, Some, None, option_map, Result, Ok, Err, if◌then◌else◌}
 use Rattle.core_model.specs.declared.answer.Answer.{Answer}
 use Rattle.core_model.specs.declared.entry.Effect.{Effect}
 use Rattle.core_model.specs.declared.entry.Entry.{Entry}
@@ -10,19 +10,28 @@ use Rattle.core_model.specs.declared.outcome.Outcome.TheVariants as outcomes
 use Rattle.core_model.specs.declared.outcome.Taken.{Taken}
 use Rattle.core_model.specs.declared.refusal.Refusal.{Refusal}
 use Rattle.core_model.specs.declared.refusal.Refusal.TheVariants as refusal
-use Rattle.core_model.specs.History.{History}
+use Rattle.core_model.specs.History.{History, beginning}
+use Rattle.core_model.specs.Owed.{is_host_size}
 use Rattle.core_model.specs.Legal.{MeetsOrLacks, RepliesOrLacks}
 use Rattle.policy.specs.Results.{map_ok}
-use Rattle.policy.specs.Object.{object_of}
+use Rattle.policy.specs.Policy.{rules_of}
+use Rattle.policy.specs.Rules.{knows_client}
+use Rattle.policy.specs.Object.{object_of, same_object}
 use Rattle.policy.specs.declared.object.Kind.{Kind}
 use Rattle.policy.specs.declared.object.Kind.TheVariants.{Agent, Region, Signal, Kernel}
 use Rattle.policy.specs.declared.object.Object.{Object}
 use Rattle.policy.specs.declared.rights.Rights.{Rights}
+use Rattle.policy.specs.declared.rights.Right.{Right}
+use Rattle.policy.specs.Rights.{has, rights_that}
+use Rattle.signals.specs.declared.operation.Condition.{Condition}
+use Rattle.signals.specs.declared.operation.Condition.TheVariants as condition
 use Rattle.signals.specs.declared.operation.SignalOp.{SignalOp}
 use Rattle.signals.specs.declared.operation.SignalOp.TheVariants as operation
 use Rattle.hobbydresser_c.specs.declared.broker.Broker.{Broker}
 use Rattle.hobbydresser_c.specs.declared.session.Session.{Session}
 use Rattle.hobbydresser_c.specs.declared.told.TakenRecord.{TakenRecord}
+use Rattle.std.specs.List.{list_any}
+use Rattle.hobbydresser_c.specs.Buffers.{FillsRecords}
 use Rattle.hobbydresser_c.specs.Words.{stands_open}
 use Rattle.hobbydresser_c.specs.Statuses.{ok, no_such, status_of_refusal}
 use Rattle.hobbydresser_c.specs.Told.{taken_told}
@@ -42,6 +51,12 @@ history_of broker = (session_of broker).core.history
 pub record IsSame (old new : Broker) : Type 0 where
   pub state_is : new.state ≡ old.state
   pub session_is : session_of new ≡ session_of old
+
+-- a broker is open or not as before, and what its opening settled beside the core stands
+pub record Keeps (old new : Broker) : Type 0 where
+  pub open_is : is_open new ≡ is_open old
+  pub digest_is : (session_of new).digest ≡ (session_of old).digest
+  pub layouts_are : (session_of new).layouts ≡ (session_of old).layouts
 
 -- an event was asked of an open broker, which stays open: it got what was due and left what was due, unless memory was wanted; and this
 -- was told of the answer
@@ -67,6 +82,12 @@ value_after told before (Err why) = before
 -- an answer was told: by the status, and by an out-parameter
 abbrev pub Tells : {A T : Type 0} → (A → T) → ℕ → T → T → Result A Refusal → Type 0
 Tells told status before after answer = (status ≡ status_of answer) × (after ≡ value_after told before answer)
+
+-- a list was told: by the status, by records, and by how many there are
+abbrev pub TellsRecords : {A T : Type 0} → (A → T) → ℕ → List T → List T → ℕ → ℕ → Result (List A) Refusal → Type 0
+TellsRecords told status before after needed_before needed (Ok items) = FillsRecords told items status before after needed
+TellsRecords told status before after needed_before needed (Err why) =
+    (status ≡ status_of_refusal why) × (after ≡ before) × (needed ≡ needed_before)
 
 -- an event without an answer of its own was asked, and the status says whether it was made, or why it was refused
 abbrev pub IsMade : Event → Broker → Broker → ℕ → Type 0
@@ -104,6 +125,11 @@ pub record TellsTaken (status : ℕ) (before after : TakenRecord) (next_before n
   pub taken_is : after ≡ value_after taken_told before answer
   pub next_is : next_now ≡ next_after next_before answer
 
+-- bytes that a client would write are copied before anything else is asked: there is the client, and they may be so many
+abbrev pub IsCopied : History → ℕ → List ℕ → Type 0
+IsCopied history client bytes =
+    (knows_client (rules_of (beginning history).policy) (record { 0 = client }) ≡ true) × (is_host_size (length bytes) ≡ true)
+
 -- ---- numbers for which something stands
 
 -- the kinds of objects, by their numbers
@@ -125,6 +151,25 @@ rights_on number (Some kind) (Some rights) = Some (object_of kind number, rights
 
 abbrev pub rights_named : ℕ → ℕ → ℕ → Option (Object × Rights)
 rights_named kind number bits = rights_on number (kind_of_number kind) (rights_of_bits bits)
+
+-- an object, by its kind's number
+abbrev pub object_named : ℕ → ℕ → Option Object
+object_named kind number = option_map (λ it. object_of it number) (kind_of_number kind)
+
+-- a listing has a right on an object
+abbrev pub is_listed : List (Object × Rights) → Object → Right → Bool
+is_listed rows on right = list_any (λ row. same_object on row.0 && has row.1 right) rows
+
+-- the rights on an object that a listing has
+abbrev pub rights_on : Object → List (Object × Rights) → Rights
+rights_on on rows = rights_that (is_listed rows on)
+
+-- the conditions of a test, by their numbers
+abbrev pub conditions : List Condition
+conditions = condition.Eq ∷ condition.Ne ∷ condition.Lt ∷ condition.Gte ∷ []
+
+abbrev pub condition_of_number : ℕ → Option Condition
+condition_of_number number = slice_get conditions number
 
 -- the changes of a signal, by their numbers, with a value and, for the last, what is expected
 abbrev pub operations : ℤ → ℤ → List SignalOp

@@ -1,10 +1,14 @@
+pub mod Audits
 pub mod Buffers
 pub mod Calls
 pub mod Follows
+pub mod Journals
 pub mod Kernels
+pub mod Layouts
 pub mod Names
 pub mod Opening
 pub mod Owned
+pub mod Reloading
 pub mod Statuses
 pub mod Told
 pub mod Words

@@ -1,12 +1,16 @@
 -- What the opening of a broker comes to (own).
-use Rattle.std.specs.Prelude.{ℕ, ◌≡◌, List, Option, Some, None, Result, Ok, Err, ⊤, true}
+use Rattle.std.specs.Prelude.{ℕ, ◌≡◌, List, Option, Some, None, Result, Ok, Err, ⊤, ⊥, true, map, if◌then◌else◌}
 use Rattle.access_core.specs.Cores.{Core}
-use Rattle.access_core.specs.Opening.{Opens}
+use Rattle.access_core.specs.Opening.{Opens, has_entry, program_of}
+use Rattle.core_model.specs.declared.kernel.KernelSegments.{KernelSegments}
+use Rattle.core_model.specs.Kernels.{segments_of}
+use Rattle.sha2.specs.Sha256.{sha256}
 use Rattle.access_core.specs.declared.access.OpenFault.{OpenFault}
 use Rattle.access_core.specs.declared.access.OpenFault.TheVariants as opening
 use Rattle.access_core.specs.declared.kernel.Kernel.{Kernel}
 use Rattle.policy.specs.Policy.{Declared}
 use Rattle.policy.specs.Format.{Declares, HasFault}
+use Rattle.policy.specs.declared.fault.PolicyFault.{PolicyFault}
 use Rattle.policy.specs.declared.fault.Section.{Section}
 use Rattle.policy.specs.declared.fault.Section.TheVariants as section
 use Rattle.hobbydresser_c.specs.declared.broker.Broker.{Broker}
@@ -26,6 +30,15 @@ abbrev pub core_in : Result Session OpenFault → Result Core OpenFault
 core_in (Ok session) = Ok session.core
 core_in (Err why) = Err why
 
+-- how large a kernel's segments are, where its module has its entry
+abbrev pub layout_of : Kernel → KernelSegments
+layout_of kernel = if has_entry kernel then segments_of (program_of kernel) else record { kernarg = 0; group = 0 }
+
+-- what is kept beside the core that was opened: the digest of the policy's text, and its kernels' layouts
+abbrev pub IsKept : List ℕ → List Kernel → Result Session OpenFault → Type 0
+IsKept text kernels (Ok session) = (session.digest ≡ sha256 text) × (session.layouts ≡ map layout_of kernels)
+IsKept text kernels (Err why) = ⊤
+
 -- a core's opening over a text: the text declares a policy, all of its kernels are let pass, and a core over both is opened, or refused
 pub record OpensOver (text : List ℕ) (places : ℕ) (opened : Result Session OpenFault) : Type 0 where
   pub policy : Declared
@@ -33,6 +46,15 @@ pub record OpensOver (text : List ℕ) (places : ℕ) (opened : Result Session O
   pub declares : Declares text policy
   pub launchable : AreLaunchable policy.kernels kernels
   pub opens : Opens policy kernels places (core_in opened)
+  pub kept : IsKept text kernels opened
+
+-- what an opening over a policy and its kernels comes to
+abbrev pub OpensWith : List ℕ → Declared → List Kernel → ℕ → Result Session Failure → Type 0
+OpensWith text policy kernels places (Ok session) =
+    Opens policy kernels places (Ok session.core) × IsKept text kernels (Ok session)
+OpensWith text policy kernels places (Err (failure.Opening why)) = Opens policy kernels places (Err why)
+OpensWith text policy kernels places (Err failure.OutOfMemory) = ⊤
+OpensWith text policy kernels places (Err _) = ⊥
 
 -- the first kernel of the policy that a text declares is refused
 pub record RefusesKernel (text : List ℕ) (fault : KernelFault) : Type 0 where
@@ -87,6 +109,10 @@ abbrev pub opening_told : FaultRecord → OpenFault → FaultRecord
 opening_told before (opening.NoEntry kernel) = record no_fault { kernel = kernel.0 }
 opening_told before _ = before
 
+-- where a policy's text has its fault
+abbrev pub policy_fault_told : PolicyFault → FaultRecord
+policy_fault_told fault = record no_fault { section = number_of_section fault.kind; row = fault.row }
+
 -- the status of an opening that failed
 abbrev pub status_of_failure : Failure → ℕ
 status_of_failure failure.OutOfMemory = out_of_memory
@@ -97,7 +123,7 @@ status_of_failure (failure.Opening why) = status_of_opening why
 -- what is told beside it
 abbrev pub failure_told : FaultRecord → Failure → FaultRecord
 failure_told before failure.OutOfMemory = before
-failure_told before (failure.Policy fault) = record no_fault { section = number_of_section fault.kind; row = fault.row }
+failure_told before (failure.Policy fault) = policy_fault_told fault
 failure_told before (failure.Kernel fault) = kernel_told fault.kernel fault.cause
 failure_told before (failure.Opening why) = opening_told before why
 

@@ -1,5 +1,5 @@
 -- What the core answers, as C sees it (own).
-use Rattle.std.specs.Prelude.{ℕ, pos, List, length, Option, Some, None}
+use Rattle.std.specs.Prelude.{ℕ, pos, Bool, true, false, List, length, Option, Some, None}
 use Rattle.core_model.specs.declared.entry.Effect.{Effect}
 use Rattle.core_model.specs.declared.entry.Effect.TheVariants as effect
 use Rattle.core_model.specs.declared.outcome.Taken.{Taken}
@@ -9,11 +9,17 @@ use Rattle.core_model.specs.declared.outcome.Worked.{Worked}
 use Rattle.core_model.specs.declared.outcome.Worked.TheVariants as worked
 use Rattle.core_model.specs.declared.outcome.Polled.{Polled}
 use Rattle.core_model.specs.declared.outcome.Polled.TheVariants as polled
+use Rattle.policy.specs.declared.object.Kind.{Kind}
+use Rattle.policy.specs.declared.object.Kind.TheVariants.{Agent, Region, Signal, Kernel}
+use Rattle.policy.specs.declared.object.Object.{Object}
+use Rattle.policy.specs.declared.rights.Rights.{Rights}
+use Rattle.policy.specs.Object.{kind_of, number_of}
 use Rattle.queue_error.specs.declared.rule.Rule.{Rule}
 use Rattle.queue_error.specs.declared.rule.Rule.TheVariants.{L1, L2, L3, L4, L5, L6, L7, L8, L9, L10, A1, A2, A3, A4, A5, A6, A7, B1}
 use Rattle.queue_error.specs.declared.error.FaultPlace.{FaultPlace}
 use Rattle.queue_error.specs.declared.error.QueueError.{QueueError}
 use Rattle.hobbydresser_c.specs.declared.told.ErrorRecord.{ErrorRecord}
+use Rattle.hobbydresser_c.specs.declared.told.HeldRecord.{HeldRecord}
 use Rattle.hobbydresser_c.specs.declared.told.TakenRecord.{TakenRecord}
 use Rattle.hobbydresser_c.specs.declared.told.WorkedRecord.{WorkedRecord}
 use Rattle.hobbydresser_c.specs.declared.told.PolledRecord.{PolledRecord}
@@ -39,6 +45,22 @@ number_of_rule A5 = 15
 number_of_rule A6 = 16
 number_of_rule A7 = 17
 number_of_rule B1 = 18
+
+-- the numbers of the kinds
+abbrev pub number_of_kind : Kind → ℕ
+number_of_kind Agent = 0
+number_of_kind Region = 1
+number_of_kind Signal = 2
+number_of_kind Kernel = 3
+
+-- a client's rights on an object
+abbrev pub held_told : Object × Rights → HeldRecord
+held_told row = record { kind = number_of_kind (kind_of row.0); number = number_of row.0; rights = row.1.0 }
+
+-- whether a condition held
+abbrev pub number_of_test : Bool → ℕ
+number_of_test true = 1
+number_of_test false = 0
 
 -- no error
 abbrev pub no_error : ErrorRecord

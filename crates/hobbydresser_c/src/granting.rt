@@ -1,10 +1,10 @@
 //! Rights are granted and revoked.
 
-ghost use Rattle.std.specs.Prelude.{◌≡◌, true, false};
+ghost use Rattle.std.specs.Prelude.{◌≡◌, Err, true, false};
 ghost use Rattle.core_model.specs.declared.call.Call.TheVariants as call;
 ghost use Rattle.core_model.specs.declared.event.Event.TheVariants as event;
 ghost use Rattle.hobbydresser_c.specs.Statuses.{closed};
-ghost use Rattle.hobbydresser_c.specs.Calls.{IsMade, IsRevoked, IsSame, IsUnknown, TellsHolder, WhereKnown, is_open, kind_of_number, rights_named, rights_of_bits, status_of};
+ghost use Rattle.hobbydresser_c.specs.Calls.{IsMade, IsRevoked, IsSame, Keeps, IsUnknown, TellsHolder, WhereKnown, is_open, kind_of_number, rights_named, rights_of_bits, status_of};
 
 use crate::broker::Broker;
 use crate::status;
@@ -14,7 +14,7 @@ use core_model::Refusal;
 use policy::{Kind, Object, Rights};
 
 // The kind of a number.
-fn kind_of_number(number: u32) -> Option<Kind>
+pub(crate) fn kind_of_number(number: u32) -> Option<Kind>
     ensures { result ≡ kind_of_number number }
 {
     Kind::ALL.get(number as usize).copied()
@@ -59,7 +59,7 @@ pub extern "C" fn hd_grant(
     rights: u32,
 ) -> u32
     ensures closed { is_open broker.old ≡ false → (result ≡ closed) × IsSame broker.old broker.new }
-    ensures open { is_open broker.new ≡ is_open broker.old }
+    ensures open { Keeps broker.old broker.new }
     ensures met { is_open broker.old ≡ true → WhereKnown (rights_named kind number rights) (IsUnknown broker.old broker.new result)
         (λ named. IsMade (event.Call (call.Grant (record { 0 = client }) named.0 named.1)) broker.old broker.new result) }
 {
@@ -73,23 +73,28 @@ pub extern "C" fn hd_grant(
     status_of(core.grant(ClientId(client), object, rights))
 }
 
+// Tells a refusal, and which packet stands against the call.
+pub(crate) fn tell_refusal(why: Refusal, queue: &mut u64, packet: &mut u64) -> u32
+    ensures { TellsHolder result queue.old queue.new packet.old packet.new (Err why) }
+{
+    if let Refusal::Busy {
+        queue: of,
+        packet: id,
+    } = why
+    {
+        *queue = of.0;
+        *packet = id.0;
+    }
+    status::of_refusal(why)
+}
+
 // Tells an answer, and which packet stands against it.
 fn tell_holder(answer: Result<(), Refusal>, queue: &mut u64, packet: &mut u64) -> u32
     ensures { TellsHolder result queue.old queue.new packet.old packet.new answer }
 {
     match answer {
         Ok(()) => status::OK,
-        Err(why) => {
-            if let Refusal::Busy {
-                queue: of,
-                packet: id,
-            } = why
-            {
-                *queue = of.0;
-                *packet = id.0;
-            }
-            status::of_refusal(why)
-        }
+        Err(why) => tell_refusal(why, queue, packet),
     }
 }
 
@@ -105,7 +110,7 @@ pub extern "C" fn hd_revoke(
     packet: &mut u64,
 ) -> u32
     ensures closed { is_open broker.old ≡ false → (result ≡ closed) × IsSame broker.old broker.new × (queue.new ≡ queue.old) × (packet.new ≡ packet.old) }
-    ensures open { is_open broker.new ≡ is_open broker.old }
+    ensures open { Keeps broker.old broker.new }
     ensures met { is_open broker.old ≡ true → WhereKnown (rights_named kind number rights)
         (IsUnknown broker.old broker.new result × (queue.new ≡ queue.old) × (packet.new ≡ packet.old))
         (λ named. IsRevoked (event.Call (call.Revoke (record { 0 = client }) named.0 named.1)) broker.old broker.new result queue.old queue.new packet.old packet.new) }

@@ -1,27 +1,45 @@
 //! What clients do from outside their queues: they write and read memory, and change and load signals.
 
-ghost use Rattle.std.specs.Prelude.{◌≡◌, ◌⊎◌, IfOk, List, true, false, ℕ, ℤ, length};
+ghost use Rattle.std.specs.Prelude.{◌≡◌, ◌⊎◌, IfNone, IfOk, IfSome, List, true, false, ℕ, ℤ, length};
 ghost use Rattle.core_model.specs.declared.answer.Answer.TheVariants as answers;
 ghost use Rattle.core_model.specs.declared.call.Call.TheVariants as call;
 ghost use Rattle.core_model.specs.declared.event.Event.TheVariants as event;
 ghost use Rattle.core_model.specs.declared.event.Query.TheVariants as query;
 ghost use Rattle.core_model.specs.declared.outcome.Outcome.TheVariants as outcome;
-ghost use Rattle.core_model.specs.Legal.{RepliesOrLacks};
+ghost use Rattle.core_model.specs.Legal.{RepliesOrLacks, due};
+ghost use Rattle.core_model.specs.Owed.{refuses};
 ghost use Rattle.policy.specs.Results.{map_ok};
-ghost use Rattle.hobbydresser_c.specs.Statuses.{closed, out_of_memory};
-ghost use Rattle.hobbydresser_c.specs.Calls.{Answered, IsMade, IsSame, IsUnknown, Replied, Tells, WhereKnown, is_open, operation_of_number};
+ghost use Rattle.hobbydresser_c.specs.Statuses.{closed, no_such, out_of_memory};
+ghost use Rattle.hobbydresser_c.specs.Told.{number_of_test};
+ghost use Rattle.hobbydresser_c.specs.Calls.{Answered, IsCopied, IsMade, IsSame, Keeps, IsUnknown, Replied, Tells, WhereKnown, condition_of_number, history_of, is_open, operation_of_number};
 
 use crate::broker::Broker;
 use crate::granting::status_of;
 use crate::status;
 use access_core::AccessCore;
 use aql_packet::{Address, ClientId, SignalHandle};
-use core_model::Refusal;
+use core_model::{MOST_HOST_BYTES, Refusal};
 use sequences::Sequence;
-use signals::SignalOp;
+use signals::{Condition, SignalOp};
 use std::alloc::Global;
 
-/// Writes bytes to memory, as a client.
+// Why bytes may not be written, where that is told by the client or by how many they are.
+#[tactic(auto, unfolding(core_model::specs::Owed::owed))]
+fn refused_at_once(core: &AccessCore, client: u32, address: u64, bytes: &[u8]) -> Option<Refusal>
+    ensures refused { IfSome result (λ why. due core.now.history (event.Call (call.HostWrite (record { 0 = client }) (record { 0 = address }) bytes.now)) ≡ refuses why) }
+    ensures passed { IfNone result (IsCopied core.now.history client bytes.now) }
+{
+    if !core.policy().declares_client(ClientId(client)) {
+        return Some(Refusal::UnknownClient);
+    }
+    if bytes.is_empty() || bytes.len() as u64 > MOST_HOST_BYTES {
+        return Some(Refusal::BadSize);
+    }
+    None
+}
+
+/// Writes bytes to memory, as a client. Of bytes that a client of this number may not write, as it isn't there or as they are
+/// too many, no copy is made.
 #[unsafe(no_mangle)]
 pub extern "C" fn hd_write(
     alloc: Global,
@@ -31,18 +49,21 @@ pub extern "C" fn hd_write(
     bytes: &[u8],
 ) -> u32
     ensures closed { is_open broker.old ≡ false → (result ≡ closed) × IsSame broker.old broker.new }
-    ensures open { is_open broker.new ≡ is_open broker.old }
+    ensures open { Keeps broker.old broker.new }
     ensures met { is_open broker.old ≡ true →
         IsMade (event.Call (call.HostWrite (record { 0 = client }) (record { 0 = address }) bytes.now)) broker.old broker.new result
-        ⊎ ((result ≡ out_of_memory) × IsSame broker.old broker.new) }
+        ⊎ ((result ≡ out_of_memory) × IsSame broker.old broker.new × IsCopied (history_of broker.old) client bytes.now) }
 {
     if !broker.is_open() {
         return status::CLOSED;
     }
+    let core = &mut broker.pointer.session_mut().core;
+    if let Some(why) = refused_at_once(core, client, address, bytes) {
+        return status::of_refusal(why);
+    }
     let Ok(copy) = Vec::from_slice(alloc, bytes) else {
         return status::OUT_OF_MEMORY;
     };
-    let core = &mut broker.pointer.session_mut().core;
     status_of(core.host_write(
         alloc,
         ClientId(client),
@@ -93,7 +114,7 @@ pub extern "C" fn hd_signal(
     old: &mut i64,
 ) -> u32
     ensures closed { is_open broker.old ≡ false → (result ≡ closed) × IsSame broker.old broker.new × (old.new ≡ old.old) }
-    ensures open { is_open broker.new ≡ is_open broker.old }
+    ensures open { Keeps broker.old broker.new }
     ensures met { is_open broker.old ≡ true → WhereKnown (operation_of_number operation value expected)
         (IsUnknown broker.old broker.new result × (old.new ≡ old.old))
         (λ change. Answered (event.Call (call.ChangeSignal (record { 0 = client }) (record { 0 = signal }) change)) outcome.Changed broker.old broker.new
@@ -124,6 +145,54 @@ pub extern "C" fn hd_load(broker: &mut Broker, client: u32, signal: u64, value: 
     let core = &mut broker.pointer.session_mut().core;
     let answer = core.signal_load(ClientId(client), SignalHandle(signal));
     tell_value(answer, value)
+}
+
+// Tells whether a condition held, as 1 or 0.
+fn tell_test(answer: Result<bool, Refusal>, out: &mut u32) -> u32
+    ensures { Tells number_of_test result out.old out.new answer }
+{
+    match answer {
+        Ok(held) => {
+            *out = if held { 1 } else { 0 };
+            status::OK
+        }
+        Err(why) => status::of_refusal(why),
+    }
+}
+
+// The condition of a number.
+fn condition_of_number(number: u32) -> Option<Condition>
+    ensures { result ≡ condition_of_number number }
+{
+    let conditions = [Condition::Eq, Condition::Ne, Condition::Lt, Condition::Gte];
+    conditions.get(number as usize).copied()
+}
+
+/// Tests a signal's value against another, as a client.
+#[unsafe(no_mangle)]
+pub extern "C" fn hd_test(
+    broker: &mut Broker,
+    client: u32,
+    signal: u64,
+    condition: u32,
+    value: i64,
+    held: &mut u32,
+) -> u32
+    ensures closed { is_open broker.old ≡ false → (result ≡ closed) × (held.new ≡ held.old) }
+    ensures same { IsSame broker.old broker.new }
+    ensures met { is_open broker.old ≡ true → WhereKnown (condition_of_number condition) ((result ≡ no_such) × (held.new ≡ held.old))
+        (λ asked. Replied (query.TestSignal (record { 0 = client }) (record { 0 = signal }) asked value) answers.Test broker.old
+        (Tells number_of_test result held.old held.new)) }
+{
+    if !broker.is_open() {
+        return status::CLOSED;
+    }
+    let Some(asked) = condition_of_number(condition) else {
+        return status::NO_SUCH;
+    };
+    let core = &mut broker.pointer.session_mut().core;
+    let answer = core.signal_test(ClientId(client), SignalHandle(signal), asked, value);
+    tell_test(answer, held)
 }
 
 // Tells bytes.

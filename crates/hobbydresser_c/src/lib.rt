@@ -4,17 +4,24 @@
 // The check tries its tactics on what is left of each proof.
 #![tactic(auto)]
 
+mod auditing;
 mod broker;
 mod buffers;
+mod digests;
 mod effects;
+mod errors;
 mod granting;
 mod host;
+mod journals;
 mod kernels;
+mod layouts;
+mod listing;
 mod names;
 mod opening;
 mod packets;
 mod parts;
 mod queues;
+mod reloading;
 mod session;
 mod session_pointer;
 mod status;

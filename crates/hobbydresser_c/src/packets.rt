@@ -6,7 +6,7 @@ ghost use Rattle.core_model.specs.declared.event.Event.TheVariants as event;
 ghost use Rattle.core_model.specs.declared.outcome.Outcome.TheVariants as outcome;
 ghost use Rattle.hobbydresser_c.specs.Statuses.{closed};
 ghost use Rattle.hobbydresser_c.specs.Told.{polled_told, worked_told};
-ghost use Rattle.hobbydresser_c.specs.Calls.{Answered, IsMade, IsSame, Tells, TellsTaken, is_open};
+ghost use Rattle.hobbydresser_c.specs.Calls.{Answered, IsMade, IsSame, Keeps, Tells, TellsTaken, is_open};
 
 use crate::broker::Broker;
 use crate::granting::status_of;
@@ -46,7 +46,7 @@ pub extern "C" fn hd_take(
     next: &mut u64,
 ) -> u32
     ensures closed { is_open broker.old ≡ false → (result ≡ closed) × IsSame broker.old broker.new × (out.new ≡ out.old) × (next.new ≡ next.old) }
-    ensures open { is_open broker.new ≡ is_open broker.old }
+    ensures open { Keeps broker.old broker.new }
     ensures met { is_open broker.old ≡ true → Answered (event.Take (record { 0 = queue }) (record { 0 = packet }) bytes.now) outcome.Taken broker.old broker.new
         (TellsTaken result out.old out.new next.old next.new) }
 {
@@ -81,7 +81,7 @@ pub extern "C" fn hd_run(
     out: &mut WorkedRecord,
 ) -> u32
     ensures closed { is_open broker.old ≡ false → (result ≡ closed) × IsSame broker.old broker.new × (out.new ≡ out.old) }
-    ensures open { is_open broker.new ≡ is_open broker.old }
+    ensures open { Keeps broker.old broker.new }
     ensures met { is_open broker.old ≡ true → Answered (event.Call (call.RunNext (record { 0 = queue }) (record { 0 = packet }))) outcome.Worked broker.old broker.new
         (Tells worked_told result out.old out.new) }
 {
@@ -115,7 +115,7 @@ pub extern "C" fn hd_poll(
     out: &mut PolledRecord,
 ) -> u32
     ensures closed { is_open broker.old ≡ false → (result ≡ closed) × IsSame broker.old broker.new × (out.new ≡ out.old) }
-    ensures open { is_open broker.new ≡ is_open broker.old }
+    ensures open { Keeps broker.old broker.new }
     ensures met { is_open broker.old ≡ true → Answered (event.Call (call.Poll (record { 0 = queue }) (record { 0 = packet }))) outcome.Polled broker.old broker.new
         (Tells polled_told result out.old out.new) }
 {
@@ -131,7 +131,7 @@ pub extern "C" fn hd_poll(
 #[unsafe(no_mangle)]
 pub extern "C" fn hd_finish(broker: &mut Broker, queue: u64, packet: u64) -> u32
     ensures closed { is_open broker.old ≡ false → (result ≡ closed) × IsSame broker.old broker.new }
-    ensures open { is_open broker.new ≡ is_open broker.old }
+    ensures open { Keeps broker.old broker.new }
     ensures met { is_open broker.old ≡ true → IsMade (event.Call (call.Finish (record { 0 = queue }) (record { 0 = packet }))) broker.old broker.new result }
 {
     if !broker.is_open() {

@@ -6,7 +6,7 @@ ghost use Rattle.core_model.specs.declared.call.Call.TheVariants as call;
 ghost use Rattle.core_model.specs.declared.event.Event.TheVariants as event;
 ghost use Rattle.core_model.specs.declared.outcome.Outcome.TheVariants as outcome;
 ghost use Rattle.hobbydresser_c.specs.Statuses.{closed};
-ghost use Rattle.hobbydresser_c.specs.Calls.{Answered, IsMade, IsSame, Tells, is_open};
+ghost use Rattle.hobbydresser_c.specs.Calls.{Answered, IsMade, IsSame, Keeps, Tells, is_open};
 
 use crate::broker::Broker;
 use crate::granting::status_of;
@@ -39,7 +39,7 @@ pub extern "C" fn hd_open_queue(
     queue: &mut u64,
 ) -> u32
     ensures closed { is_open broker.old ≡ false → (result ≡ closed) × IsSame broker.old broker.new × (queue.new ≡ queue.old) }
-    ensures open { is_open broker.new ≡ is_open broker.old }
+    ensures open { Keeps broker.old broker.new }
     ensures met { is_open broker.old ≡ true → Answered (event.Open (record { 0 = client }) (record { 0 = agent }) size) outcome.Opened broker.old broker.new
         (Tells (λ (opened : QueueId). opened.0) result queue.old queue.new) }
 {
@@ -55,7 +55,7 @@ pub extern "C" fn hd_open_queue(
 #[unsafe(no_mangle)]
 pub extern "C" fn hd_stop(broker: &mut Broker, queue: u64) -> u32
     ensures closed { is_open broker.old ≡ false → (result ≡ closed) × IsSame broker.old broker.new }
-    ensures open { is_open broker.new ≡ is_open broker.old }
+    ensures open { Keeps broker.old broker.new }
     ensures met { is_open broker.old ≡ true → IsMade (event.Call (call.Stop (record { 0 = queue }))) broker.old broker.new result }
 {
     if !broker.is_open() {

@@ -20,7 +20,7 @@ pub const OPEN_ALREADY: u32 = 402;
 pub const NO_ENTRY: u32 = 403;
 /// The audit has 1 to 1,048,576 places.
 pub const BAD_PLACES: u32 = 404;
-/// A number for which nothing stands: a kind, a set of rights, an operation, or an effect.
+/// A number for which nothing stands: a kind, a set of rights, a change, a condition, or one of those that are asked for.
 pub const NO_SUCH: u32 = 405;
 /// A buffer is too short.
 pub const TOO_SHORT: u32 = 406;

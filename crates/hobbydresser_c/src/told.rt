@@ -1,9 +1,11 @@
 //! What the core answers, as C sees it.
 
 ghost use Rattle.std.specs.Prelude.{◌≡◌};
-ghost use Rattle.hobbydresser_c.specs.Told.{effect_told, error_told, number_of_rule, polled_told, taken_told, worked_told};
+ghost use Rattle.hobbydresser_c.specs.Told.{effect_told, error_told, held_told, number_of_kind, number_of_rule, polled_told, taken_told, worked_told};
 
+use bitflags::Flags;
 use core_model::{Effect, Polled, Taken, WaitCause, Worked};
+use policy::{Kind, Object, Rights};
 use queue_error::{QueueError, Rule};
 
 /// An error of a queue, `hd_error` in C.
@@ -82,6 +84,40 @@ pub struct EffectRecord {
     /// Of a packet: its queue, and its id.
     pub queue: u64,
     pub packet: u64,
+}
+
+/// A client's rights on an object, `hd_held` in C.
+#[repr(C)]
+#[derive(Clone, Copy)]
+pub struct HeldRecord {
+    /// The object: its kind's number, 0 agent, 1 region, 2 signal, 3 kernel, and its own.
+    pub kind: u32,
+    pub number: u64,
+    /// A bit for each right.
+    pub rights: u32,
+}
+
+// The number of a kind.
+fn number_of_kind(kind: Kind) -> u32
+    ensures { result ≡ number_of_kind kind }
+{
+    match kind {
+        Kind::Agent => 0,
+        Kind::Region => 1,
+        Kind::Signal => 2,
+        Kind::Kernel => 3,
+    }
+}
+
+/// A row of a listing, as C sees it.
+pub fn held_told(object: Object, rights: Rights) -> HeldRecord
+    ensures { result ≡ held_told (object, rights) }
+{
+    HeldRecord {
+        kind: number_of_kind(object.kind()),
+        number: object.number(),
+        rights: rights.bits() as u32,
+    }
 }
 
 /// The number of a rule.

@@ -265,8 +265,8 @@ fn opened_queue(outcome: &Outcome) -> u64
     }
 }
 
-// Writes an entry with its number.
-fn write_entry(
+/// Writes an entry with its number, as an audit tells it, behind what a text has already.
+pub fn write_entry(
     out: &mut String,
     policy: &Policy,
     number: u128,

@@ -23,6 +23,7 @@ mod watchers;
 mod words;
 
 pub use command::{Command, LineAnswer, LineReply, NumberMeaning};
+pub use entries::write_entry;
 pub use expansions::perform;
 pub use fault::ScriptFault;
 pub use forms::{Class, LineForm, Operand, line_forms};

@@ -1,0 +1,154 @@
+//! What a client may do.
+
+ghost use Rattle.std.specs.Prelude.{◌≡◌, ◌≤◌, ◌++◌, List, drop, false, length, map, true};
+ghost use Rattle.core_model.specs.declared.answer.Answer.TheVariants as answers;
+ghost use Rattle.core_model.specs.declared.event.Query.TheVariants as query;
+ghost use Rattle.policy.specs.declared.object.Object.{Object};
+ghost use Rattle.policy.specs.declared.rights.Rights.{Rights};
+ghost use Rattle.hobbydresser_c.specs.Statuses.{closed, no_such};
+ghost use Rattle.hobbydresser_c.specs.Buffers.{FillsRecords};
+ghost use Rattle.hobbydresser_c.specs.Told.{held_told};
+ghost use Rattle.hobbydresser_c.specs.Calls.{IsSame, Replied, Tells, TellsRecords, WhereKnown, is_listed, is_open, object_named, rights_on};
+
+use crate::broker::Broker;
+use crate::granting::kind_of_number;
+use crate::status;
+use crate::told::{HeldRecord, held_told};
+use aql_packet::ClientId;
+use bitflags::Flags;
+use core_model::Refusal;
+use policy::{Object, Right, Rights};
+use sequences::Sequence;
+use std::alloc::Global;
+
+// Puts what is told of each row of a listing into the caller's records.
+fn put_listing(rows: &[(Object, Rights)], out: &mut [HeldRecord])
+    requires { length rows.now ≤ length out.old }
+    ensures { out.new ≡ map held_told rows.now ++ drop (length rows.now) out.old }
+{
+    'rows: for place in 0..rows.len() {
+        let (object, rights) = rows[place];
+        out[place] = held_told(object, rights);
+    }
+}
+
+// Fills the caller's records by a listing, and tells how many rows it has.
+fn fill_listing(rows: &[(Object, Rights)], out: &mut [HeldRecord], needed: &mut u64) -> u32
+    ensures { FillsRecords held_told rows.now result out.old out.new needed.new }
+{
+    *needed = rows.len() as u64;
+    if rows.len() > out.len() {
+        return status::TOO_SHORT;
+    }
+    put_listing(rows, out);
+    status::OK
+}
+
+// Tells a listing.
+fn tell_listing(
+    answer: Result<Sequence<(Object, Rights)>, Refusal>,
+    out: &mut [HeldRecord],
+    needed: &mut u64,
+) -> u32
+    ensures { TellsRecords held_told result out.old out.new needed.old needed.new answer }
+{
+    match answer {
+        Ok(rows) => fill_listing(rows.as_slice(), out, needed),
+        Err(why) => status::of_refusal(why),
+    }
+}
+
+/// Each object on which a client has a right in force, with those rights.
+#[unsafe(no_mangle)]
+pub extern "C" fn hd_list(
+    alloc: Global,
+    broker: &mut Broker,
+    client: u32,
+    out: &mut [HeldRecord],
+    needed: &mut u64,
+) -> u32
+    ensures closed { is_open broker.old ≡ false → (result ≡ closed) × (out.new ≡ out.old) × (needed.new ≡ needed.old) }
+    ensures same { IsSame broker.old broker.new }
+    ensures met { is_open broker.old ≡ true → Replied (query.List (record { 0 = client })) answers.Listing broker.old
+        (TellsRecords held_told result out.old out.new needed.old needed.new) }
+{
+    if !broker.is_open() {
+        return status::CLOSED;
+    }
+    let core = &mut broker.pointer.session_mut().core;
+    let answer = core.list(alloc, ClientId(client));
+    tell_listing(answer, out, needed)
+}
+
+// Whether a listing has a right on an object.
+fn is_listed(rows: &[(Object, Rights)], object: Object, right: Right) -> bool
+    ensures { result ≡ is_listed rows.now object right }
+{
+    rows.iter().any(|row| object == row.0 && row.1.has(right))
+}
+
+// The rights on an object that a listing has.
+fn rights_on(rows: &[(Object, Rights)], object: Object) -> Rights
+    ensures { result ≡ rights_on object rows.now }
+{
+    Rights::from_each(
+        is_listed(rows, object, Right::Use),
+        is_listed(rows, object, Right::Read),
+        is_listed(rows, object, Right::Write),
+        is_listed(rows, object, Right::Wait),
+        is_listed(rows, object, Right::Change),
+        is_listed(rows, object, Right::Launch),
+    )
+}
+
+// Tells the rights on an object that a listing has.
+fn tell_rights(
+    answer: Result<Sequence<(Object, Rights)>, Refusal>,
+    object: Object,
+    out: &mut u32,
+) -> u32
+    ensures { Tells (λ (rows : List (Object × Rights)). (rights_on object rows).0) result out.old out.new answer }
+{
+    match answer {
+        Ok(rows) => {
+            *out = rights_on(rows.as_slice(), object).bits() as u32;
+            status::OK
+        }
+        Err(why) => status::of_refusal(why),
+    }
+}
+
+// An object, by its kind's number.
+fn object_named(kind: u32, number: u32) -> Option<Object>
+    ensures { result ≡ object_named kind number }
+{
+    let kind = kind_of_number(kind)?;
+    Some(Object::of(kind, number as u64))
+}
+
+/// The rights that a client has in force on an object.
+#[unsafe(no_mangle)]
+pub extern "C" fn hd_rights(
+    alloc: Global,
+    broker: &mut Broker,
+    client: u32,
+    kind: u32,
+    number: u32,
+    rights: &mut u32,
+) -> u32
+    ensures closed { is_open broker.old ≡ false → (result ≡ closed) × (rights.new ≡ rights.old) }
+    ensures same { IsSame broker.old broker.new }
+    ensures met { is_open broker.old ≡ true → WhereKnown (object_named kind number) ((result ≡ no_such) × (rights.new ≡ rights.old))
+        (λ object. Replied (query.List (record { 0 = client })) answers.Listing broker.old
+        (Tells (λ (rows : List (Object × Rights)). (rights_on object rows).0) result rights.old rights.new)) }
+{
+    if !broker.is_open() {
+        return status::CLOSED;
+    }
+    let Some(object) = object_named(kind, number) else {
+        return status::NO_SUCH;
+    };
+    let core = &mut broker.pointer.session_mut().core;
+    let answer = core.list(alloc, ClientId(client));
+    tell_rights(answer, object, rights)
+}
