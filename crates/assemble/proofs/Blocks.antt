@@ -1,7 +1,7 @@
 -- Zeros, low bytes and blocks, one step more.
 use Rattle.std.proofs.Common.{◌≡◌, ℕ, zero, suc, ◌+◌, ◌-◌, ◌/◌, ◌%◌, ◌<◌, List, [], ◌∷◌, ◌++◌, length, refl, add-one, arith}
 use Rattle.assemble.specs.Blocks.{block_from, low_bytes, with_argument, zeros}
-use Rattle.assemble.specs.declared.layout.Place.{Place}
+use Rattle.assemble.specs.declared.layout.ArgumentPlace.{ArgumentPlace}
 
 pub zeros_none : zeros 0 ≡ []
 unfolding zeros
@@ -25,12 +25,12 @@ pub block_end : (bytes : List ℕ) (values : List ℕ) → block_from bytes [] v
 unfolding block_from
 block_end bytes values = refl
 
-pub block_no_values : (bytes : List ℕ) (places : List Place) → block_from bytes places [] ≡ bytes
+pub block_no_values : (bytes : List ℕ) (places : List ArgumentPlace) → block_from bytes places [] ≡ bytes
 unfolding block_from
 block_no_values bytes [] = refl
 block_no_values bytes (place ∷ places) = refl
 
-pub block_more : (bytes : List ℕ) (place : Place) (places : List Place) (value : ℕ) (values : List ℕ) →
+pub block_more : (bytes : List ℕ) (place : ArgumentPlace) (places : List ArgumentPlace) (value : ℕ) (values : List ℕ) →
     block_from bytes (place ∷ places) (value ∷ values) ≡ block_from (with_argument bytes place value) places values
 unfolding block_from
 block_more bytes place places value values = refl

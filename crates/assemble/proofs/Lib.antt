@@ -1,4 +1,1 @@
-pub mod Splitting
-pub mod Reading
-pub mod Digits
 pub mod Blocks

@@ -1,5 +1,4 @@
-pub mod Words
-pub mod Texts
+pub mod Comments
 pub mod Sizes
 pub mod Blocks
 pub mod Packets

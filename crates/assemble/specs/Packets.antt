@@ -10,7 +10,7 @@ use Rattle.aql_packet.specs.declared.packet.Packet.{Packet}
 use Rattle.aql_packet.specs.declared.packet.Packet.TheVariants.{Kernel, Agent, BarrierAnd, BarrierOr}
 use Rattle.assemble.specs.declared.operands.Sizes.{Sizes}
 use Rattle.assemble.specs.declared.options.Options.{Options}
-use Rattle.assemble.specs.Texts.{text_of_bytes}
+use Rattle.words.specs.Bytes.{text_of_bytes}
 
 -- the null address
 abbrev pub nowhere : Address

@@ -1,7 +1,7 @@
 -- The words that lines begin with (own).
 use Rattle.std.specs.Prelude.{ℕ, Bool, true, false, ◌||◌, List, [], ◌∷◌, bytes_eq, if◌then◌else◌}
 use Rattle.script.specs.Forms.{FormRow, form_rows}
-use Rattle.assemble.specs.Words.{Word, words}
+use Rattle.words.specs.Lines.{Word, words}
 
 -- one of some forms begins with a word
 abbrev pub is_among : List FormRow → Word → Bool

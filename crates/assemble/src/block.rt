@@ -4,7 +4,7 @@ ghost use Rattle.std.specs.Prelude.{◌≡◌, ◌++◌, ◌∷◌, [], OnOk, If
 ghost use Rattle.assemble.specs.Blocks.{block_from, low_bytes, padded, with_argument, zeros};
 
 use crate::fault::LineError;
-use crate::layout::{Place, bytes};
+use crate::layout::{ArgumentPlace, bytes};
 use crate::operands::value;
 use policy::Policy;
 use std::alloc::{AllocError, Global};
@@ -31,7 +31,7 @@ fn put_low_bytes(block: &mut Vec<u8>, count: u32, number: u64) -> Result<(), All
 }
 
 // Puts an argument at its place behind others.
-fn put_argument(block: &mut Vec<u8>, place: Place, value: u64) -> Result<(), AllocError>
+fn put_argument(block: &mut Vec<u8>, place: ArgumentPlace, value: u64) -> Result<(), AllocError>
     ensures { OnOk result (block.new.items ≡ with_argument block.old.items place value) }
 {
     let offset = place.offset as usize;
@@ -43,7 +43,7 @@ fn put_argument(block: &mut Vec<u8>, place: Place, value: u64) -> Result<(), All
 fn values<'a>(
     alloc: Global,
     policy: &Policy,
-    places: &[Place],
+    places: &[ArgumentPlace],
     line: &'a [u8],
 ) -> Result<(Vec<u64>, &'a [u8]), LineError> {
     let mut values = Vec::new(alloc);
@@ -58,7 +58,7 @@ fn values<'a>(
 
 // Puts arguments at their places behind others.
 #[tactic(auto, unfolding(crate::specs::Blocks::block_from))]
-fn put_arguments(block: &mut Vec<u8>, places: &[Place], values: &[u64]) -> Result<(), AllocError>
+fn put_arguments(block: &mut Vec<u8>, places: &[ArgumentPlace], values: &[u64]) -> Result<(), AllocError>
     ensures { OnOk result (block.new.items ≡ block_from block.old.items places.now values.now) }
 {
     let [place, later @ ..] = places else {
@@ -72,7 +72,7 @@ fn put_arguments(block: &mut Vec<u8>, places: &[Place], values: &[u64]) -> Resul
 }
 
 // The block of arguments at their places.
-fn laid(alloc: Global, places: &[Place], values: &[u64]) -> Result<Vec<u8>, AllocError>
+fn laid(alloc: Global, places: &[ArgumentPlace], values: &[u64]) -> Result<Vec<u8>, AllocError>
     ensures { IfOk result (λ block. block.items ≡ block_from [] places.now values.now) }
 {
     let mut block = Vec::new(alloc);
@@ -84,7 +84,7 @@ fn laid(alloc: Global, places: &[Place], values: &[u64]) -> Result<Vec<u8>, Allo
 pub fn read_block<'a>(
     alloc: Global,
     policy: &Policy,
-    places: &[Place],
+    places: &[ArgumentPlace],
     line: &'a [u8],
 ) -> Result<(Vec<u8>, &'a [u8]), LineError> {
     let (values, rest) = values(alloc, policy, places, line)?;

@@ -3,7 +3,7 @@
 ghost use Rattle.std.specs.Prelude.{◌≡◌, IfOk};
 ghost use Rattle.policy.specs.Format.{Declares};
 
-use crate::layout::{Place, end_of, place_behind};
+use crate::layout::{ArgumentPlace, end_of, place_behind};
 use aql_packet::KernelObject;
 use hsail_reader::{Argument, Module, ReadError, read_module};
 use kernel_check::{CheckError, Checked, check};
@@ -17,8 +17,8 @@ const MOST_ARGUMENT_BYTES: u32 = 4096;
 /// How a kernel is dispatched: where its arguments lie in their block, in order, and the bytes of its
 /// group variables.
 #[derive(Drop)]
-pub struct Shape {
-    pub arguments: Sequence<Place>,
+pub struct KernelShape {
+    pub arguments: Sequence<ArgumentPlace>,
     pub group_bytes: u32,
 }
 
@@ -27,7 +27,7 @@ pub struct Shape {
 #[derive(Drop)]
 pub struct Book {
     pub policy: Policy,
-    pub shapes: Vec<Option<Shape>>,
+    pub shapes: Vec<Option<KernelShape>>,
 }
 
 /// Why there is no book of a policy (own).
@@ -62,7 +62,7 @@ impl<T: Drop> From<AllocFailed<T>> for BookError {
 }
 
 // The arguments of a kernel at their places.
-fn placed(alloc: Global, arguments: &[Argument]) -> Result<Sequence<Place>, BookError> {
+fn placed(alloc: Global, arguments: &[Argument]) -> Result<Sequence<ArgumentPlace>, BookError> {
     let mut places = Vec::new(alloc);
     let mut end = 0;
     for argument in arguments {
@@ -81,14 +81,14 @@ fn shape_at(
     module: &Module,
     checked: &Checked,
     index: u32,
-) -> Result<Option<Shape>, BookError> {
+) -> Result<Option<KernelShape>, BookError> {
     let Some(kernel) = module.kernels.get(index as usize) else {
         return Ok(None);
     };
     if index >= checked.count() {
         return Ok(None);
     }
-    Ok(Some(Shape {
+    Ok(Some(KernelShape {
         arguments: placed(alloc, kernel.arguments.as_slice())?,
         group_bytes: checked.group_bytes(index),
     }))
@@ -100,7 +100,7 @@ fn shape_named(
     module: &Module,
     checked: &Checked,
     entry: &[u8],
-) -> Result<Option<Shape>, BookError> {
+) -> Result<Option<KernelShape>, BookError> {
     match checked.find(entry) {
         Some(index) => shape_at(alloc, module, checked, index),
         None => Ok(None),
@@ -126,14 +126,14 @@ fn checked_in(alloc: Global, module: &Module) -> Result<Checked, BookError> {
 }
 
 // The shape of a kernel of the policy.
-fn shape_of(alloc: Global, source: &KernelSource) -> Result<Option<Shape>, BookError> {
+fn shape_of(alloc: Global, source: &KernelSource) -> Result<Option<KernelShape>, BookError> {
     let module = module_in(alloc, source.text().as_bytes())?;
     let checked = checked_in(alloc, &module)?;
     shape_named(alloc, &module, &checked, source.entry().as_bytes())
 }
 
 // The shapes of the kernels of a policy, in order.
-fn shapes(alloc: Global, policy: &Policy) -> Result<Vec<Option<Shape>>, BookError> {
+fn shapes(alloc: Global, policy: &Policy) -> Result<Vec<Option<KernelShape>>, BookError> {
     let mut shapes = Vec::new(alloc);
     for before in 0..policy.object_count(Kind::Kernel) {
         let number = KernelObject(before as u64 + 1);
@@ -166,7 +166,7 @@ impl Book {
     }
 
     /// The shape of a kernel by its number, if its module has one of its entry's name.
-    pub fn shape(&self, kernel: KernelObject) -> Option<&Shape> {
+    pub fn shape(&self, kernel: KernelObject) -> Option<&KernelShape> {
         let before = kernel.0.checked_sub(1)?;
         self.shapes.get(before as usize)?.as_ref()
     }

@@ -4,27 +4,28 @@ ghost use Rattle.std.specs.Prelude.{◌≡◌, ◌≤◌, ◌||◌, IfOk, IsTrue
 ghost use Rattle.aql_packet.specs.Layout.{is_well_formed};
 ghost use Rattle.assemble.specs.Sizes.{AreGridSizes, AreGroupSizes};
 ghost use Rattle.assemble.specs.Verbs.{begins_as_script};
-ghost use Rattle.assemble.specs.Words.{is_comment, words};
+ghost use Rattle.assemble.specs.Comments.{is_comment};
+ghost use Rattle.words.specs.Lines.{words};
 
 use crate::block::read_block;
-use crate::book::{Book, Shape};
+use crate::book::{Book, KernelShape};
+use crate::comments::is_comment;
 use crate::fault::{Fault, LineError, Want};
-use crate::numbers::decimal;
 use crate::operands::{
     Read, Sizes, address, fault_at, grid_sizes, group_sizes, kernel, keyword, next, number,
     numeral, signal,
 };
-use crate::options::{Form, Options, is_option, read_options};
+use crate::options::{PacketKind, Options, is_option, read_options};
 use crate::packets::{
     add_packet, all_of_packet, any_of_packet, copy_packet, dispatch_packet, fill_packet, put_packet,
 };
-use crate::texts::{put_address, put_bytes, put_word};
+use crate::spacing::put_word;
 use crate::verbs::{Verb, is_of_script, nearest, verb_named};
-use crate::words::{is_comment, is_word, split_word};
 use aql_packet::{Address, KernelObject, Packet, QueueId, SignalHandle};
 use policy::Policy;
 use script::Class;
 use std::alloc::{AllocError, Global};
+use words::{decimal, is_word, put_address, put_bytes, split_word};
 
 /// The words of a line that name a queue and a producer.
 #[derive(Clone, Copy)]
@@ -50,7 +51,7 @@ fn fill<'a>(policy: &Policy, line: &'a [u8]) -> Result<(Seat<'a>, Packet), Fault
     let (length, rest) = number(rest)?;
     let rest = keyword(rest, "with", Want::With)?;
     let (value, rest) = number(rest)?;
-    let said = read_options(policy, Form::Agent, rest)?;
+    let said = read_options(policy, PacketKind::Agent, rest)?;
     Ok((seat, fill_packet(start, length, value, said)))
 }
 
@@ -64,7 +65,7 @@ fn copy<'a>(policy: &Policy, line: &'a [u8]) -> Result<(Seat<'a>, Packet), Fault
     let (to, rest) = address(policy, rest, Want::Address)?;
     let rest = keyword(rest, "length", Want::Length)?;
     let (length, rest) = number(rest)?;
-    let said = read_options(policy, Form::Agent, rest)?;
+    let said = read_options(policy, PacketKind::Agent, rest)?;
     Ok((seat, copy_packet(from, to, length, said)))
 }
 
@@ -76,7 +77,7 @@ fn add<'a>(policy: &Policy, line: &'a [u8]) -> Result<(Seat<'a>, Packet), Fault>
     let (amount, rest) = number(rest)?;
     let rest = keyword(rest, "to", Want::To)?;
     let (to, rest) = address(policy, rest, Want::Address)?;
-    let said = read_options(policy, Form::Agent, rest)?;
+    let said = read_options(policy, PacketKind::Agent, rest)?;
     Ok((seat, add_packet(amount, to, said)))
 }
 
@@ -115,7 +116,7 @@ fn all_of<'a>(policy: &Policy, line: &'a [u8]) -> Result<(Seat<'a>, Packet), Fau
 {
     let (seat, rest) = read_seat(line)?;
     let (dependencies, rest) = dependencies(policy, rest)?;
-    let said = read_options(policy, Form::Barrier, rest)?;
+    let said = read_options(policy, PacketKind::Barrier, rest)?;
     Ok((seat, all_of_packet(dependencies, said)))
 }
 
@@ -125,7 +126,7 @@ fn any_of<'a>(policy: &Policy, line: &'a [u8]) -> Result<(Seat<'a>, Packet), Fau
 {
     let (seat, rest) = read_seat(line)?;
     let (dependencies, rest) = dependencies(policy, rest)?;
-    let said = read_options(policy, Form::Barrier, rest)?;
+    let said = read_options(policy, PacketKind::Barrier, rest)?;
     Ok((seat, any_of_packet(dependencies, said)))
 }
 
@@ -208,7 +209,7 @@ fn put_block(
 fn put_dispatch(
     out: &mut Vec<u8>,
     front: Front<'_>,
-    shape: &Shape,
+    shape: &KernelShape,
     said: Options,
 ) -> Result<(), AllocError>
     requires grid { AreGridSizes front.grid }
@@ -224,7 +225,7 @@ fn with_arguments(
     alloc: Global,
     book: &Book,
     front: Front<'_>,
-    shape: &Shape,
+    shape: &KernelShape,
     line: &[u8],
     out: &mut Vec<u8>,
 ) -> Result<(), LineError>
@@ -236,7 +237,7 @@ fn with_arguments(
         return Err(LineError::Fault(fault_at(line, Want::Writer)));
     };
     let (bytes, rest) = read_block(alloc, &book.policy, shape.arguments.as_slice(), values)?;
-    let said = read_options(&book.policy, Form::Dispatch, rest)?;
+    let said = read_options(&book.policy, PacketKind::Dispatch, rest)?;
     match said.block {
         Some(place) => put_block(out, writer, place, bytes.as_slice())?,
         None if bytes.is_empty() => {}
@@ -262,7 +263,7 @@ fn dispatch(alloc: Global, book: &Book, line: &[u8], out: &mut Vec<u8>) -> Resul
     if goes_on_with(rest, "arguments") {
         return with_arguments(alloc, book, front, shape, rest, out);
     }
-    let said = read_options(&book.policy, Form::Dispatch, rest)?;
+    let said = read_options(&book.policy, PacketKind::Dispatch, rest)?;
     Ok(put_dispatch(out, front, shape, said)?)
 }
 
@@ -383,7 +384,8 @@ pub fn put_lines(
         return put_readable(alloc, book, verb, rest, out);
     }
     if !is_of_script(word) {
-        return Err(LineError::Fault(fault_at(line, Want::Verb(nearest(word)))));
+        let nearest = nearest(alloc, word)?;
+        return Err(LineError::Fault(fault_at(line, Want::Verb(nearest))));
     }
     if is_word(word, "read") || is_word(word, "write") {
         return put_access(&book.policy, word, rest, out);

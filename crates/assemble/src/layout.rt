@@ -9,7 +9,7 @@ use hsail_reader::{Alignment, Argument, DataType};
 
 /// An argument's place in the block: its type, and how many bytes stand before it.
 #[derive(Clone, Copy, Debug, PartialEq, Eq)]
-pub struct Place {
+pub struct ArgumentPlace {
     pub kind: DataType,
     pub offset: u32,
 }
@@ -69,12 +69,12 @@ fn offset_behind(end: u32, kind: DataType, align: Option<Alignment>) -> u32
 }
 
 /// The place of an argument behind these many bytes.
-pub fn place_behind(end: u32, argument: &Argument) -> Place
+pub fn place_behind(end: u32, argument: &Argument) -> ArgumentPlace
     requires { end ≤ 4096 }
     ensures value { result ≡ place_of end argument.now }
     ensures bound { result.offset < 8192 }
 {
-    Place {
+    ArgumentPlace {
         kind: argument.kind,
         offset: offset_behind(end, argument.kind, argument.align),
     }

@@ -5,21 +5,20 @@
 
 mod block;
 mod book;
+mod comments;
 mod fault;
 mod forms;
 mod layout;
-mod numbers;
 mod operands;
 mod options;
 mod packets;
 mod run;
-mod texts;
+mod spacing;
 mod verbs;
-mod words;
 
-pub use book::{Book, BookError, Shape};
+pub use book::{Book, BookError, KernelShape};
 pub use fault::{Fault, LineError, Want};
 pub use forms::{Turned, put_lines};
-pub use layout::Place;
+pub use layout::ArgumentPlace;
 pub use run::{AssembleError, assemble_script, fault_text};
-pub use words::without_comment;
+pub use comments::without_comment;

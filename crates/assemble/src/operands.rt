@@ -5,11 +5,10 @@ ghost use Rattle.std.specs.Prelude.{◌≡◌, ◌≤◌, IfOk, IfSome};
 ghost use Rattle.assemble.specs.Sizes.{AreAtMost, AreGridSizes, AreGroupSizes};
 
 use crate::fault::{Fault, Want};
-use crate::numbers::{decimal, natural, split_item};
-use crate::words::{is_word, skip_blanks, split_word};
 use aql_packet::{Address, KernelObject, REGION_SPAN, SignalHandle};
 use hsail_reader::DataType;
 use policy::{Kind, Object, Policy};
+use words::{decimal, is_word, natural, skip_blanks, split_item, split_word};
 
 /// What a word stands for, and what stands behind it.
 pub type Read<'a, T> = Result<(T, &'a [u8]), Fault>;

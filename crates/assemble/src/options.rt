@@ -2,13 +2,13 @@
 
 use crate::fault::{Fault, Want};
 use crate::operands::{Read, address, fault_at, next, signal, size};
-use crate::words::{is_word, split_word};
 use aql_packet::{Address, Header, Scope, SignalHandle};
 use policy::Policy;
+use words::{is_word, split_word};
 
 /// The packet that a line is about.
 #[derive(Clone, Copy, PartialEq, Eq)]
-pub enum Form {
+pub enum PacketKind {
     Dispatch,
     Agent,
     Barrier,
@@ -72,12 +72,12 @@ fn with_header(header: Header, word: &[u8]) -> Option<Header> {
     Some(next)
 }
 
-// What is wanted where a word is no option of the form.
-fn wanted_option(form: Form) -> Want {
-    match form {
-        Form::Dispatch => Want::DispatchOption,
-        Form::Agent => Want::AgentOption,
-        Form::Barrier => Want::BarrierOption,
+// What is wanted where a word is no option of such a packet.
+fn wanted_option(kind: PacketKind) -> Want {
+    match kind {
+        PacketKind::Dispatch => Want::DispatchOption,
+        PacketKind::Agent => Want::AgentOption,
+        PacketKind::Barrier => Want::BarrierOption,
     }
 }
 
@@ -128,52 +128,52 @@ fn with_result<'a>(policy: &Policy, said: Options, line: &'a [u8]) -> Read<'a, O
 // An option with an operand, by its word and what stands behind it; `line` begins with the word.
 fn with_operand<'a>(
     policy: &Policy,
-    form: Form,
+    kind: PacketKind,
     said: Options,
     line: &'a [u8],
 ) -> Read<'a, Options> {
-    let (word, rest) = next(line, wanted_option(form))?;
+    let (word, rest) = next(line, wanted_option(kind))?;
     if is_word(word, "signal") {
         return with_signal(policy, said, rest);
     }
-    if form == Form::Dispatch && is_word(word, "at") {
+    if kind == PacketKind::Dispatch && is_word(word, "at") {
         return with_block(policy, said, rest);
     }
-    if form == Form::Dispatch && is_word(word, "group-bytes") {
+    if kind == PacketKind::Dispatch && is_word(word, "group-bytes") {
         return with_group_bytes(said, rest);
     }
-    if form == Form::Dispatch && is_word(word, "private-bytes") {
+    if kind == PacketKind::Dispatch && is_word(word, "private-bytes") {
         return with_private_bytes(said, rest);
     }
-    if form == Form::Agent && is_word(word, "return") {
+    if kind == PacketKind::Agent && is_word(word, "return") {
         return with_result(policy, said, rest);
     }
-    Err(fault_at(line, wanted_option(form)))
+    Err(fault_at(line, wanted_option(kind)))
 }
 
 // The option that a line begins with.
 fn read_option<'a>(
     policy: &Policy,
-    form: Form,
+    kind: PacketKind,
     said: Options,
     line: &'a [u8],
 ) -> Read<'a, Options> {
-    let (word, rest) = next(line, wanted_option(form))?;
+    let (word, rest) = next(line, wanted_option(kind))?;
     match with_header(said.header, word) {
         Some(header) => Ok((Options { header, ..said }, rest)),
-        None => with_operand(policy, form, said, line),
+        None => with_operand(policy, kind, said, line),
     }
 }
 
-/// The options of a form to the end of the line.
-pub fn read_options(policy: &Policy, form: Form, line: &[u8]) -> Result<Options, Fault> {
+/// The options of a packet to the end of the line.
+pub fn read_options(policy: &Policy, kind: PacketKind, line: &[u8]) -> Result<Options, Fault> {
     let mut said = Options::unsaid();
     let mut rest = line;
     for _ in 0..line.len() {
         if split_word(rest).is_none() {
             return Ok(said);
         }
-        (said, rest) = read_option(policy, form, said, rest)?;
+        (said, rest) = read_option(policy, kind, said, rest)?;
     }
     Ok(said)
 }

@@ -6,11 +6,12 @@ ghost use Rattle.assemble.specs.Packets.{Submits, submit_line, dispatch_packet, 
 
 use crate::operands::Sizes;
 use crate::options::Options;
-use crate::texts::{put_bytes, put_word};
+use crate::spacing::put_word;
 use aql_packet::{
     Address, AgentDispatch, Barrier, KernelDispatch, KernelObject, Packet, SignalHandle, encode,
 };
 use std::alloc::AllocError;
+use words::put_bytes;
 
 /// The agent's function FILL.
 const FILL: u16 = 0x8000;

@@ -1,12 +1,13 @@
 //! A script of readable lines is assembled as it comes.
 
 use crate::book::Book;
+use crate::comments::without_comment;
 use crate::fault::{Fault, LineError, Want};
 use crate::forms::{Turned, put_lines};
-use crate::words::{skip_blanks, split_word, without_comment};
 use script::LONGEST_LINE;
 use std::alloc::{AllocError, AllocFailed, Global};
 use std::io;
+use words::{skip_blanks, split_word};
 
 // The most reads, and the most writes for what one of them gave (own).
 const MOST_CALLS: u64 = 1 << 40;

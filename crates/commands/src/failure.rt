@@ -2,7 +2,7 @@
 
 ghost use Rattle.std.specs.Prelude.{◌≡◌, IfOk, IfSome, None, string_bytes, true, false};
 ghost use Rattle.commands.specs.Commands.{TellsEnd};
-ghost use Rattle.commands.specs.Failures.{status_of, has_number, line_of_failure, NamesFailure, TellsLine, failure_of_reading, failure_of_kernels, failure_of_opening, failure_of_script};
+ghost use Rattle.commands.specs.Failures.{status_of, has_number, line_of_failure, text_of_failure, NamesFailure, TellsLine, failure_of_reading, failure_of_kernels, failure_of_opening, failure_of_script};
 
 use crate::kernel_judging::{KernelError, KernelFault};
 use crate::status::Status;
@@ -36,6 +36,16 @@ pub enum Failure {
     Write,
 }
 
+// A text in which no number stands, with its line.
+macro_rules! fixed {
+    ($text:literal) => {
+        ($text, concat!($text, "\n"))
+    };
+}
+
+// The text that is told where no memory is left for another, with its line.
+const NO_MEMORY: (&str, &str) = fixed!("no memory");
+
 impl Failure {
     /// How the command ends.
     pub fn status(self) -> Status
@@ -52,17 +62,18 @@ impl Failure {
         }
     }
 
-    // The line that names a failure, if no number stands in it.
-    fn fixed_line(self) -> Option<&'static str>
-        ensures line { IfSome result (λ line. line.now ≡ line_of_failure self) }
+    // The text that names a failure, and its line, if no number stands in it.
+    fn fixed(self) -> Option<(&'static str, &'static str)>
+        ensures text { IfSome result (λ fixed. fixed.0.now ≡ text_of_failure self) }
+        ensures line { IfSome result (λ fixed. fixed.1.now ≡ line_of_failure self) }
         ensures numbered { result ≡ None → has_number self ≡ true }
     {
         match self {
-            Failure::OutOfMemory => Some("no memory\n"),
-            Failure::KernelCount => Some("kernels: one for each kernel of the policy\n"),
-            Failure::Capacity => Some("audit: 1 to 1048576 entries\n"),
-            Failure::Read => Some("read fault\n"),
-            Failure::Write => Some("write fault\n"),
+            Failure::OutOfMemory => Some(NO_MEMORY),
+            Failure::KernelCount => Some(fixed!("kernels: one for each kernel of the policy")),
+            Failure::Capacity => Some(fixed!("audit: 1 to 1048576 entries")),
+            Failure::Read => Some(fixed!("read fault")),
+            Failure::Write => Some(fixed!("write fault")),
             Failure::Policy(_) | Failure::Kernel(_) | Failure::NoEntry(_) | Failure::Line(_) =>
                 None,
         }
@@ -123,19 +134,18 @@ impl fmt::Display for Failure {
     ghost output = { λ failure. Some (text_of_failure failure) };
 
     fn fmt<W: fmt::Write>(&self, f: &mut fmt::Formatter<W>) -> fmt::Result {
+        if let Some((text, _line)) = self.fixed() {
+            return f.write_str(text);
+        }
         match self {
-            Failure::OutOfMemory => f.write_str("no memory"),
             Failure::Policy(fault) => write!(f, "policy: {fault}"),
             Failure::Kernel(fault) => write!(f, "{fault}"),
-            Failure::KernelCount => f.write_str("kernels: one for each kernel of the policy"),
             Failure::NoEntry(kernel) => {
                 let number = kernel.0;
                 write!(f, "kernel {number}: no entry")
             }
-            Failure::Capacity => f.write_str("audit: 1 to 1048576 entries"),
             Failure::Line(number) => write!(f, "line {number}: bad request"),
-            Failure::Read => f.write_str("read fault"),
-            Failure::Write => f.write_str("write fault"),
+            _fixed => Ok(()),
         }
     }
 }
@@ -171,12 +181,12 @@ pub fn name_failure<E: io::Write>(
     requires { answers.old.write_failed ≡ false }
     ensures { NamesFailure failure answers.new (E.contents err.old) (E.contents err.new) result }
 {
-    if let Some(line) = failure.fixed_line() {
+    if let Some((_text, line)) = failure.fixed() {
         return tell_line(line, failure.status(), err, answers);
     }
     match line_of(alloc, failure) {
         Ok(line) => tell_line(line.as_str(), failure.status(), err, answers),
-        Err(_) => tell_line("no memory\n", Status::Failed, err, answers),
+        Err(_) => tell_line(NO_MEMORY.1, Status::Failed, err, answers),
     }
 }
 

@@ -1,7 +1,6 @@
 -- What is said of an entry in words (own).
 use Rattle.std.specs.Prelude.{ℕ, ◌-◌, ◌==◌, Bool, true, List, [], ◌∷◌, ◌++◌, flat_map, length, codes, decimal, slice_index_or, false, if◌then◌else◌}
 use Rattle.std.specs.Fmt.{signed_decimal}
-use Rattle.std.specs.Option.{option_map_or}
 use Rattle.aql_packet.specs.declared.ids.ClientId.{ClientId}
 use Rattle.core_model.specs.declared.outcome.Satisfied.{Satisfied}
 use Rattle.core_model.specs.declared.entry.Effect.{Effect}
@@ -15,23 +14,16 @@ use Rattle.policy.specs.Rights.{has, all_rights}
 use Rattle.policy.specs.RightNames.{name_of_right}
 use Rattle.policy.specs.KindNames.{name_of_kind}
 use Rattle.policy.specs.Object.{kind_of}
-use Rattle.policy.specs.Policy.{Declared, numbered, name_in}
+use Rattle.policy.specs.Policy.{Declared}
 use Rattle.regions.specs.Memory.{region_of}
 use Rattle.queue_error.specs.declared.error.QueueError.{QueueError}
 use Rattle.queue_error.specs.Texts.{text_of_rule, text_of_end}
+use Rattle.words.specs.Names.{name_of_client, name_of_object}
 use Rattle.picture.specs.declared.element.Work.{Work}
 use Rattle.picture.specs.declared.element.Work.TheVariants as work
 use Rattle.picture.specs.declared.element.Sign.{Sign}
 use Rattle.picture.specs.declared.element.Sign.TheVariants as sign
 use Rattle.picture.specs.declared.element.Element.{Element}
-
--- the name of a client
-abbrev pub words_of_client : Declared → ClientId → List ℕ
-words_of_client policy client = option_map_or (λ name. name) (numbered policy.clients client.0) []
-
--- the name of an object
-abbrev pub words_of_object : Declared → Object → List ℕ
-words_of_object policy object = option_map_or (λ name. name) (name_in policy object) []
 
 -- a right behind a blank, if the set has it
 abbrev pub right_in : Rights → Right → List ℕ
@@ -40,7 +32,7 @@ right_in rights right = if has rights right then codes " " ++ name_of_right righ
 -- `CLIENT KIND NAME RIGHT RIGHT`
 abbrev pub words_of_rights : Declared → ClientId → Object → Rights → List ℕ
 words_of_rights policy client object rights =
-    words_of_client policy client ++ codes " " ++ name_of_kind (kind_of object) ++ codes " " ++ words_of_object policy object
+    name_of_client policy client ++ codes " " ++ name_of_kind (kind_of object) ++ codes " " ++ name_of_object policy object
     ++ flat_map (right_in rights) all_rights
 
 -- the name of an agent's function
@@ -53,7 +45,7 @@ words_of_function function =
 
 -- what a packet is
 abbrev pub words_of_work : Declared → Work → List ℕ
-words_of_work policy (work.Kernel kernel) = words_of_object policy (object.Kernel kernel)
+words_of_work policy (work.Kernel kernel) = name_of_object policy (object.Kernel kernel)
 words_of_work policy (work.Agent function) = words_of_function function
 words_of_work policy work.BarrierAnd = codes "barrier-AND"
 words_of_work policy work.BarrierOr = codes "barrier-OR"
@@ -75,7 +67,7 @@ abbrev pub words_of : Declared → Sign → List ℕ
 words_of policy (sign.Grant client object rights) = codes "grant " ++ words_of_rights policy client object rights
 words_of policy (sign.Revocation client object rights) = codes "revoke " ++ words_of_rights policy client object rights
 words_of policy (sign.Lane queue client agent) =
-    codes "queue " ++ decimal queue.0 ++ codes " " ++ words_of_client policy client ++ codes " " ++ words_of_object policy (object.Agent agent)
+    codes "queue " ++ decimal queue.0 ++ codes " " ++ name_of_client policy client ++ codes " " ++ name_of_object policy (object.Agent agent)
 words_of policy sign.Stop = codes "stop"
 words_of policy (sign.Bar packet work ending) = decimal packet.0 ++ codes " " ++ words_of_work policy work
 words_of policy (sign.Denial error) = words_of_error error
@@ -83,8 +75,8 @@ words_of policy (sign.Group packet group) = decimal packet.0 ++ codes " group " 
 words_of policy (sign.Fault error) = words_of_error error
 words_of policy (sign.Look packet seen) = decimal packet.0 ++ codes " seen" ++ words_of_seen seen
 words_of policy (sign.Completion packet) = decimal packet.0 ++ codes " completed"
-words_of policy (sign.Write client) = codes "write " ++ words_of_client policy client
-words_of policy (sign.Change client) = codes "signal " ++ words_of_client policy client
+words_of policy (sign.Write client) = codes "write " ++ name_of_client policy client
+words_of policy (sign.Change client) = codes "signal " ++ name_of_client policy client
 words_of policy (sign.Reload allows denies) = codes "reload " ++ decimal allows ++ codes " allow " ++ decimal denies ++ codes " deny"
 words_of policy sign.Nothing = []
 
@@ -117,9 +109,9 @@ words_of_queue e = if has_queue e.sign then [] else words_of_lane e.spot.lane
 -- released
 abbrev pub words_of_effect : Declared → Effect → List ℕ
 words_of_effect policy (effect.Write address bytes) =
-    codes "; " ++ decimal (length bytes) ++ codes " bytes of " ++ words_of_object policy (object.Region (record { 0 = region_of address.0 }))
+    codes "; " ++ decimal (length bytes) ++ codes " bytes of " ++ name_of_object policy (object.Region (record { 0 = region_of address.0 }))
 words_of_effect policy (effect.Signal signal old new) =
-    codes "; signal " ++ words_of_object policy (object.Signal signal) ++ codes " " ++ signed_decimal old ++ codes " to " ++ signed_decimal new
+    codes "; signal " ++ name_of_object policy (object.Signal signal) ++ codes " " ++ signed_decimal old ++ codes " to " ++ signed_decimal new
 words_of_effect policy (effect.Release queue packet) = codes "; releases packet " ++ decimal packet.0
 
 -- what is said under the pointer of an element whose entry made these changes

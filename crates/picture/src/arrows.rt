@@ -5,7 +5,7 @@ ghost use Rattle.picture.specs.Arrows.{zero_by, zeros_after, last_zero, signal_a
 
 use crate::element::Spot;
 use crate::seats::{Seat, seat_of};
-use crate::words::is_seen;
+use crate::said::is_seen;
 use aql_packet::{Packet, PacketId, QueueId, SignalHandle};
 use core_model::{Effect, Satisfied};
 use std::alloc::AllocError;

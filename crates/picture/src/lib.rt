@@ -12,9 +12,9 @@ mod frame;
 mod laws;
 mod page;
 mod reading;
+mod said;
 mod seats;
 mod shapes;
-mod words;
 
 pub use arrows::Zero;
 pub use element::{Element, Ending, Frame, Sign, Span, Spot, Work};

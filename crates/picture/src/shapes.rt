@@ -7,7 +7,7 @@ ghost use Rattle.picture.specs.declared.shapes.TheConstants.{LETTER, THIN};
 
 use crate::element::{Element, Ending, Frame, Sign, Spot};
 use crate::escape::write_escaped;
-use crate::words::{write_told, write_words};
+use crate::said::{write_told, write_words};
 use core_model::Effect;
 use policy::Policy;
 use std::alloc::{AllocError, Global};

@@ -6,7 +6,7 @@ use Rattle.script.specs.declared.io_log.IoLog.{IoLog}
 use Rattle.script.specs.declared.fault.ScriptFault.{ScriptFault}
 use Rattle.script.specs.declared.fault.ScriptFault.TheVariants.{OutOfMemory, BadLine, Read, Write, Stopped}
 use Rattle.script.specs.declared.session.Session.{Session}
-use Rattle.script.specs.Words.{nonempty_before}
+use Rattle.words.specs.Lines.{nonempty_before}
 use Rattle.script.specs.IoLogs.{AppendsBeginning, IsCaused, NoneFailed, ReadsBlock, read_more}
 use Rattle.script.specs.Runs.{Law, Runs, StopsNear, lines_from, lines_of, unheard}
 use Rattle.script.specs.Sessions.{Took, Failed, Ended, Why, begun, pending, with_further, at_end}

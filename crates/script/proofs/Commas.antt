@@ -3,7 +3,7 @@ use Rattle.std.proofs.Common.{◌≡◌, ℕ, ◌+◌, ◌<◌, ◌≤◌, Bool,
 use Rattle.std.proofs.lemmas.List.{map-append}
 use Rattle.std.proofs.lemmas.List.Elements.{filter_more}
 use Rattle.std.proofs.lemmas.Grind.{flat_map-append, common_steps}
-use Rattle.script.specs.Texts.{with_commas, behind_commas, comma_if, has_items, commas_or_dash}
+use Rattle.script.specs.Lists.{with_commas, behind_commas, comma_if, has_items, commas_or_dash}
 
 pub with_commas_more : (items : List (List ℕ)) (item : List ℕ) →
     with_commas (items ++ item ∷ []) ≡ with_commas items ++ (comma_if (has_items items) ++ item)

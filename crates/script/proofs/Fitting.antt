@@ -8,7 +8,12 @@ use Rattle.policy.specs.Format.{kind_named}
 use Rattle.policy.specs.Policy.{Declared}
 use Rattle.script.specs.declared.forms.Class.{Class}
 use Rattle.script.specs.declared.forms.Class.TheVariants as class
-use Rattle.script.specs.Words.{Word, no_words, one_word, two_words, three_words, four_words, five_words, address_word, bytes_word, condition_word, decimal_word, eight_bytes, operation_of, packet_word, rights_word, signed_word}
+use Rattle.words.specs.Lines.{Word, no_words, one_word, two_words, three_words, four_words, five_words}
+use Rattle.words.specs.Numbers.{address_word, decimal_word, signed_word}
+use Rattle.words.specs.Bytes.{bytes_word}
+use Rattle.script.specs.Operations.{condition_word, operation_of}
+use Rattle.words.specs.Packets.{eight_bytes, packet_word}
+use Rattle.script.specs.Rights.{rights_word}
 use Rattle.script.specs.Forms.{is_of, fits}
 use Rattle.script.specs.Lines.{grant_row, revoke_row, queue_row, queue_of, packet_of_queue, reserve_row, room_row, word_row, part_row, publish_row, submit_row, write_row, read_row, plain_operation, cas_operation, signal_row, load_row, test_row, list_row, reload_row, audit_row, rotate_row}
 

@@ -10,7 +10,7 @@ use Rattle.script.specs.declared.forms.Class.TheVariants as class
 use Rattle.script.specs.declared.forms.Verb.{Verb}
 use Rattle.script.specs.declared.forms.Verb.TheVariants as verb
 use Rattle.script.specs.declared.lines.Line.{Line}
-use Rattle.script.specs.Words.{Word}
+use Rattle.words.specs.Lines.{Word}
 use Rattle.script.specs.Forms.{FormRow, fits, form_rows, is_formed, verb_among, verb_of}
 use Rattle.script.specs.Lines.{asked_by, command_of}
 use Rattle.script.proofs.Fitting.{of_queue_fits, of_packet_fits, grant_fits, revoke_fits, open_fits, reserve_fits, part_fits, room_fits, word_fits, publish_fits, submit_fits, write_fits, read_fits, signal_fits, load_fits, test_fits, list_fits, reload_fits, audit_fits, rotate_fits}

@@ -1,9 +1,6 @@
-pub mod Tables
-pub mod Digits
 pub mod Commas
 pub mod Audit
 pub mod Auditing
-pub mod Splitting
 pub mod Reading
 pub mod Running
 pub mod Watching

@@ -9,12 +9,12 @@ use Rattle.script.specs.declared.lines.Line.{Line}
 use Rattle.script.specs.declared.lines.Line.TheVariants as lines
 use Rattle.script.specs.declared.session.Session.{Session}
 use Rattle.policy.specs.Policy.{Declared}
-use Rattle.script.specs.Words.{nonempty_before}
+use Rattle.words.specs.Lines.{nonempty_before}
 use Rattle.script.specs.Lines.{line_of}
 use Rattle.script.specs.Replies.{text_of_line}
 use Rattle.script.specs.Runs.{Law, Told, Ends, EndsAs, Runs, Replied, RepliedAs, StopsAt, Wanted, lines_from, unheard}
 use Rattle.script.specs.Sessions.{Took, Failed, Ended, EndedLine, FailedLine, FailedPart, FeedBetween, HasNoFeed, TookPart, WhyPart, Why, at_end, begun, pending, with_further}
-use Rattle.script.proofs.Splitting.{kept_begun}
+use Rattle.words.proofs.Splitting.{kept_begun}
 
 pub lines_end : (line : List ℕ) → lines_from line [] ≡ nonempty_before line []
 unfolding lines_from

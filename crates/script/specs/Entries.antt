@@ -30,7 +30,10 @@ use Rattle.core_model.specs.History.{Part}
 use Rattle.core_model.specs.declared.entry.Effect.{Effect}
 use Rattle.core_model.specs.declared.entry.Effect.TheVariants as effect
 use Rattle.core_model.specs.declared.entry.Entry.{Entry}
-use Rattle.script.specs.Texts.{text_of_address, text_of_bytes, text_of_rights, text_of_client, with_commas}
+use Rattle.words.specs.Bytes.{text_of_address, text_of_bytes}
+use Rattle.script.specs.Rights.{text_of_rights}
+use Rattle.words.specs.Names.{name_of_client}
+use Rattle.script.specs.Lists.{with_commas}
 
 -- the word of a signal's operation
 abbrev pub name_of_operation : SignalOp → List ℕ
@@ -50,7 +53,7 @@ text_of_packet queue packet = decimal queue.0 ++ codes " " ++ decimal packet.0
 -- `C KIND NUMBER R,R`
 abbrev pub text_of_rights_on : Declared → ClientId → Object → Rights → List ℕ
 text_of_rights_on policy client object rights =
-    text_of_client policy client ++ codes " " ++ name_of_kind (kind_of object) ++ codes " " ++ decimal (number_of object)
+    name_of_client policy client ++ codes " " ++ name_of_kind (kind_of object) ++ codes " " ++ decimal (number_of object)
     ++ codes " " ++ text_of_rights rights
 
 -- the number under which an opening opened its queue
@@ -61,7 +64,7 @@ opened _ = 0
 -- `queue Q C agent NUMBER size N`
 abbrev pub text_of_opening : Declared → ℕ → ClientId → ℕ → ℕ → List ℕ
 text_of_opening policy number client agent size =
-    codes "queue " ++ decimal number ++ codes " " ++ text_of_client policy client ++ codes " agent " ++ decimal agent
+    codes "queue " ++ decimal number ++ codes " " ++ name_of_client policy client ++ codes " agent " ++ decimal agent
     ++ codes " size " ++ decimal size
 
 -- what was called
@@ -72,9 +75,9 @@ text_of_call policy (call.Stop queue) = codes "stop " ++ decimal queue.0
 text_of_call policy (call.RunNext queue packet) = codes "run " ++ text_of_packet queue packet
 text_of_call policy (call.Poll queue packet) = codes "poll " ++ text_of_packet queue packet
 text_of_call policy (call.Finish queue packet) = codes "finish " ++ text_of_packet queue packet
-text_of_call policy (call.HostWrite client address bytes) = codes "write " ++ text_of_client policy client
+text_of_call policy (call.HostWrite client address bytes) = codes "write " ++ name_of_client policy client
 text_of_call policy (call.ChangeSignal client signal operation) =
-    codes "signal " ++ text_of_client policy client ++ codes " " ++ name_of_operation operation
+    codes "signal " ++ name_of_client policy client ++ codes " " ++ name_of_operation operation
 
 -- what happened; `number` is the number of a queue that was opened
 abbrev pub text_of_event : Declared → ℕ → Event → List ℕ

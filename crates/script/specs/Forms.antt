@@ -7,7 +7,12 @@ use Rattle.script.specs.declared.forms.Class.TheVariants as class
 use Rattle.script.specs.declared.forms.LineForm.{LineForm}
 use Rattle.script.specs.declared.forms.Verb.{Verb}
 use Rattle.script.specs.declared.forms.Verb.TheVariants as verb
-use Rattle.script.specs.Words.{Word, address_word, bytes_word, condition_word, decimal_word, eight_bytes, operation_of, packet_word, rights_word, signed_word}
+use Rattle.words.specs.Lines.{Word}
+use Rattle.words.specs.Numbers.{address_word, decimal_word, signed_word}
+use Rattle.words.specs.Bytes.{bytes_word}
+use Rattle.script.specs.Operations.{condition_word, operation_of}
+use Rattle.words.specs.Packets.{eight_bytes, packet_word}
+use Rattle.script.specs.Rights.{rights_word}
 
 -- a form: what its first word asks, that word, and what its further words stand for
 pub record FormRow : Type 0 where

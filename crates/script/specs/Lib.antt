@@ -1,8 +1,11 @@
 pub mod Limits
-pub mod Texts
+pub mod Lists
+pub mod Rights
+pub mod Operations
 pub mod Entries
+pub mod Refusals
+pub mod Rules
 pub mod Replies
-pub mod Words
 pub mod Forms
 pub mod Lines
 pub mod Expansions

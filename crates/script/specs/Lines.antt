@@ -31,7 +31,12 @@ use Rattle.script.specs.declared.forms.Verb.{Verb}
 use Rattle.script.specs.declared.forms.Verb.TheVariants as verb
 use Rattle.world.specs.Actions.{step}
 use Rattle.script.specs.Forms.{verb_of}
-use Rattle.script.specs.Words.{Word, operation_of, words, no_words, one_word, two_words, three_words, four_words, five_words, decimal_word, signed_word, address_word, bytes_word, eight_bytes, packet_word, rights_word, condition_word}
+use Rattle.words.specs.Lines.{Word, words, no_words, one_word, two_words, three_words, four_words, five_words}
+use Rattle.script.specs.Operations.{operation_of, condition_word}
+use Rattle.words.specs.Numbers.{decimal_word, signed_word, address_word}
+use Rattle.words.specs.Bytes.{bytes_word}
+use Rattle.words.specs.Packets.{eight_bytes, packet_word}
+use Rattle.script.specs.Rights.{rights_word}
 
 -- the client of a name; a name that isn't there is number 0
 abbrev pub client_in : Declared → Word → ClientId

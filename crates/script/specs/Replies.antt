@@ -1,6 +1,5 @@
 -- Replies as texts, row by row (own). Each line of a reply ends with a line feed.
 use Rattle.std.specs.Prelude.{ℕ, ◌+◌, Bool, true, false, List, [], ◌++◌, length, flat_map, codes, decimal, Result, Ok, Err, if◌then◌else◌}
-use Rattle.std.specs.Option.{option_map_or}
 use Rattle.std.specs.Fmt.{signed_decimal}
 use Rattle.aql_packet.specs.declared.ids.PacketId.{PacketId}
 use Rattle.policy.specs.declared.object.Object.{Object}
@@ -8,7 +7,7 @@ use Rattle.policy.specs.declared.rights.Rights.{Rights}
 use Rattle.policy.specs.Object.{kind_of, number_of}
 use Rattle.policy.specs.KindNames.{name_of_kind}
 use Rattle.policy.specs.RightNames.{name_of_right}
-use Rattle.policy.specs.Policy.{Declared, name_in}
+use Rattle.policy.specs.Policy.{Declared}
 use Rattle.queue_error.specs.declared.error.QueueError.{QueueError}
 use Rattle.queue_error.specs.Texts.{text_of_error}
 use Rattle.core_model.specs.declared.refusal.Refusal.{Refusal}
@@ -37,26 +36,12 @@ use Rattle.script.specs.declared.command.NumberMeaning.{NumberMeaning}
 use Rattle.script.specs.declared.command.NumberMeaning.TheVariants as meaning
 use Rattle.script.specs.declared.command.LineAnswer.{LineAnswer}
 use Rattle.script.specs.declared.command.LineAnswer.TheVariants as line
-use Rattle.script.specs.Texts.{text_of_bytes, text_of_rights, text_of_word}
+use Rattle.words.specs.Bytes.{text_of_bytes}
+use Rattle.script.specs.Refusals.{name_of_why, number_of_why}
+use Rattle.script.specs.Rights.{text_of_rights}
+use Rattle.words.specs.Names.{name_of_object}
+use Rattle.words.specs.Packets.{text_of_word}
 use Rattle.script.specs.Entries.{text_of_audit, text_of_rotated}
-
--- a refusal's number and name
-abbrev pub name_of_refusal : Refusal → List ℕ
-name_of_refusal refusal.OutOfMemory = codes "0 OutOfMemory"
-name_of_refusal refusal.UnknownClient = codes "1 UnknownClient"
-name_of_refusal refusal.UnknownQueue = codes "2 UnknownQueue"
-name_of_refusal (refusal.Denied right) = codes "3 Denied"
-name_of_refusal (refusal.Busy queue packet) = codes "4 Busy"
-name_of_refusal refusal.NotAllowed = codes "5 NotAllowed"
-name_of_refusal (refusal.OutOfStep next) = codes "6 OutOfStep"
-name_of_refusal refusal.QueueDown = codes "7 QueueDown"
-name_of_refusal refusal.NotInFlight = codes "8 NotInFlight"
-name_of_refusal refusal.NotFinished = codes "9 NotFinished"
-name_of_refusal refusal.AuditFull = codes "10 AuditFull"
-name_of_refusal refusal.BadSize = codes "11 BadSize"
-name_of_refusal refusal.TooMany = codes "12 TooMany"
-name_of_refusal refusal.UnknownObject = codes "13 UnknownObject"
-name_of_refusal refusal.OtherObjects = codes "16 OtherObjects"
 
 -- what a refusal names
 abbrev pub details_of_refusal : Refusal → List ℕ
@@ -64,10 +49,6 @@ details_of_refusal (refusal.Denied right) = codes " " ++ name_of_right right
 details_of_refusal (refusal.Busy queue packet) = codes " queue " ++ decimal queue.0 ++ codes " packet " ++ decimal packet.0
 details_of_refusal (refusal.OutOfStep next) = codes " " ++ decimal next
 details_of_refusal _ = []
-
--- a refusal: `refused`, its number and name, and what it names
-abbrev pub text_of_refusal : Refusal → List ℕ
-text_of_refusal refusal = codes "refused " ++ name_of_refusal refusal ++ details_of_refusal refusal
 
 -- why a packet waits
 abbrev pub text_of_cause : WaitCause → List ℕ
@@ -102,15 +83,11 @@ text_of_outcome old (outcome.Worked worked) = text_of_worked worked
 text_of_outcome old (outcome.Polled polled) = text_of_polled polled
 text_of_outcome old (outcome.Changed value) = if old then codes "old " ++ signed_decimal value else codes "ok"
 
--- the name of an object
-abbrev pub text_of_name : Declared → Object → List ℕ
-text_of_name policy object = option_map_or (λ name. name) (name_in policy object) []
-
 -- an object with a client's rights on it: `KIND NUMBER NAME R,R`
 abbrev pub text_of_listed : Declared → Object → Rights → List ℕ
 text_of_listed policy object rights =
     name_of_kind (kind_of object) ++ codes " " ++ decimal (number_of object) ++ codes " "
-    ++ text_of_name policy object ++ codes " " ++ text_of_rights rights ++ codes "\n"
+    ++ name_of_object policy object ++ codes " " ++ text_of_rights rights ++ codes "\n"
 
 -- a listing: `list N`, then N lines
 abbrev pub text_of_listing : Declared → List (Object × Rights) → List ℕ
@@ -165,11 +142,15 @@ text_of_made policy meaning (made.Rotated part) = text_of_rotated policy part
 abbrev pub text_of_words : List ℕ → List ℕ
 text_of_words words = flat_map text_of_word words
 
--- why a request was refused
+-- what a refusal of a request names
+abbrev pub details_of_why : Why → List ℕ
+details_of_why (why.Core refusal) = details_of_refusal refusal
+details_of_why why.NotAStep = []
+details_of_why why.Spent = []
+
+-- why a request was refused: `refused`, the refusal's number and name, and what it names
 abbrev pub text_of_why : Why → List ℕ
-text_of_why (why.Core refusal) = text_of_refusal refusal
-text_of_why why.NotAStep = codes "refused 14 NotAStep"
-text_of_why why.Spent = codes "refused 15 Spent"
+text_of_why why = codes "refused " ++ decimal (number_of_why why) ++ codes " " ++ name_of_why why ++ details_of_why why
 
 -- ---- what a line is told
 

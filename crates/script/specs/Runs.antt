@@ -12,7 +12,7 @@ use Rattle.script.specs.declared.lines.Line.{Line}
 use Rattle.script.specs.declared.lines.Line.TheVariants as line
 use Rattle.script.specs.declared.watch.Flow.{Flow}
 use Rattle.script.specs.declared.watch.Flow.TheVariants.{GoOn, End}
-use Rattle.script.specs.Words.{nonempty_before}
+use Rattle.words.specs.Lines.{nonempty_before}
 use Rattle.script.specs.Lines.{line_of}
 use Rattle.script.specs.Replies.{text_of_line}
 use Rattle.script.specs.Expansions.{does}

@@ -5,7 +5,7 @@ use Rattle.script.specs.declared.fault.ScriptFault.TheVariants.{OutOfMemory, Bad
 use Rattle.script.specs.declared.session.Session.{Session}
 use Rattle.script.specs.declared.watch.Flow.{Flow}
 use Rattle.script.specs.declared.watch.Flow.TheVariants.{GoOn, End}
-use Rattle.script.specs.Words.{nonempty_before}
+use Rattle.words.specs.Lines.{nonempty_before}
 use Rattle.script.specs.Lines.{line_of}
 use Rattle.script.specs.Runs.{Law, Ends, Runs, Replied, StopsAt, lines_from}
 

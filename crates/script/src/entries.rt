@@ -2,15 +2,16 @@
 
 ghost use Rattle.std.specs.Prelude.{◌≡◌, ◌++◌, ◌+◌, ◌<◌, OnOk, flat_map, decimal, string_bytes};
 ghost use Rattle.script.specs.Entries.{name_of_operation, text_of_packet, text_of_rights_on, opened, text_of_call, text_of_opening, seen_at, text_of_take, text_of_work, text_of_poll, text_of_event, text_of_seen, text_of_broken, text_of_result, text_of_effect, text_of_entry, text_of_entries, text_of_audit, text_of_rotated};
-ghost use Rattle.script.specs.Texts.{comma_if};
+ghost use Rattle.script.specs.Lists.{comma_if};
 
-use crate::texts::{write_address, write_bytes, write_client, write_item, write_rights};
+use crate::rights::{write_item, write_rights};
 use aql_packet::{ClientId, PacketId, QueueId};
 use core_model::{Call, Effect, Entry, Event, Outcome, Part, Polled, Satisfied, Taken, Worked};
 use policy::{Object, Policy, Rights};
 use queue_error::QueueError;
 use signals::SignalOp;
 use std::alloc::AllocError;
+use words::{write_address, write_bytes, write_client};
 
 // The word of a signal's operation.
 fn operation_name(operation: &SignalOp) -> &'static str

@@ -3,11 +3,10 @@
 ghost use Rattle.std.specs.Prelude.{◌≡◌, map};
 ghost use Rattle.script.specs.Forms.{form_rows, form_view, is_of, verb_among, verb_of};
 
-use crate::numbers::{
-    address, are_bytes, condition, decimal, is_packet_word, kind, operation, packet, rights, signed,
-};
-use crate::words::is_word;
+use crate::operations::{condition, operation};
+use crate::rights::{kind, rights};
 use std::fmt;
+use words::{address, are_bytes, decimal, is_packet_word, is_word, packet, signed};
 
 /// What the first word of a line says.
 #[derive(Clone, Copy, Debug, PartialEq, Eq)]

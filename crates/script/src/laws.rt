@@ -1,4 +1,4 @@
-//! What the lines and the numbers of a script come to, as laws of their definitions.
+//! What the lines of a script come to, as laws of their definitions.
 
 ghost use Rattle.std.specs.Prelude.{◌≡◌, ◌∷◌, ℕ, List, Option, Result, Some, true, false, ⊤, bytes_eq, codes};
 ghost use Rattle.std.specs.List.{list_all};
@@ -21,8 +21,8 @@ ghost use Rattle.script.specs.Lines.{asked_by};
 ghost use Rattle.script.specs.Limits.{longest_line, most_reads};
 ghost use Rattle.script.specs.Runs.{Ends, Replied, Runs, Told, lines_of, parts_told, watched, worlds};
 ghost use Rattle.script.specs.Scripts.{RunsScript};
-ghost use Rattle.script.specs.Splitting.{digits_of, ended, is_line, joined, sum_of_digits};
-ghost use Rattle.script.specs.Words.{Word, address_word, decimal_word};
+ghost use Rattle.script.specs.Splitting.{ended, is_line, joined};
+ghost use Rattle.words.specs.Lines.{Word};
 
 use crate::watch::Watch;
 use policy::Policy;
@@ -33,12 +33,6 @@ use world::{each_run_goes_on, the_headline};
 pub fn lines_give_their_text_back()
     ensures back { (text : List ℕ) → joined (lines_of text) ≡ ended text }
     ensures lines { (text : List ℕ) → list_all is_line (lines_of text) ≡ true }
-{}
-
-/// A word that is read as a number is read as the sum of its digits, each times the power of its place.
-pub fn numbers_are_sums_of_their_digits()
-    ensures decimal { (word : List ℕ) (number : ℕ) → decimal_word word ≡ Some number → number ≡ sum_of_digits 10 (digits_of word) }
-    ensures address { (word : List ℕ) (number : ℕ) → address_word word ≡ Some number → number ≡ sum_of_digits 16 (digits_of word) }
 {}
 
 /// What a line does is some requests to the world, served in turn, and hands out the part that its reply tells of, if it

@@ -12,15 +12,16 @@ mod forms;
 mod io_log;
 mod laws;
 mod lines;
-mod numbers;
+mod operations;
+mod refusals;
 mod replies;
+mod rights;
+mod rules;
 mod run;
 mod session;
 mod streams;
-mod texts;
 mod watch;
 mod watchers;
-mod words;
 
 pub use command::{Command, LineAnswer, LineReply, NumberMeaning};
 pub use entries::write_entry;
@@ -29,13 +30,15 @@ pub use fault::ScriptFault;
 pub use forms::{Class, LineForm, Operand, line_forms};
 pub use io_log::{IoLog, flush_once};
 pub use laws::{
-    lines_are_of_forms, lines_give_their_text_back, numbers_are_sums_of_their_digits,
-    numbers_are_those_of_the_rules, scripts_are_requests, watched_runs_are_runs,
+    lines_are_of_forms, lines_give_their_text_back, numbers_are_those_of_the_rules,
+    scripts_are_requests, watched_runs_are_runs,
 };
 pub use lines::{LONGEST_LINE, Line, read_line};
+pub use refusals::{RefusalRow, refusal_name, refusal_number, refusal_rows};
 pub use replies::write_line;
+pub use rules::{RuleRow, rule_rows};
 pub use run::{run_script, run_watched};
 pub use streams::write_through;
 pub use watch::{Flow, Watch};
 pub use watchers::{Nobody, Strict, strictly};
-pub use words::split_word;
+pub use words::{numbers_are_sums_of_their_digits, split_word};

@@ -1,17 +1,13 @@
 //! Lines to requests: a function for each row of the forms.
 
 ghost use Rattle.std.specs.Prelude.{◌≡◌, IfOk, option_map};
-ghost use Rattle.script.specs.Words.{words};
+ghost use Rattle.words.specs.Lines.{words};
 ghost use Rattle.script.specs.Lines.{client_in, object_in, agent_in, signal_in, rights_on, grant_row, revoke_row, queue_row, queue_of, packet_of_queue, calls, asks, steps, processes, reserve_row, room_row, store_of, word_row, part_row, publish_row, submit_row, write_row, read_row, plain_operation, cas_operation, signal_row, load_row, test_row, list_row, is_later, reload_row, audit_row, rotate_row, command_of, line_of, asked_by, is_comment, IsPlain};
 
 use crate::command::Command;
 use crate::forms::{Verb, verb_named};
-use crate::numbers::{
-    address, bytes, condition, decimal, kind, operation, packet, packet_word, rights, signed,
-};
-use crate::words::{
-    five_words, four_words, is_word, no_words, one_word, split_word, three_words, two_words,
-};
+use crate::operations::{condition, operation};
+use crate::rights::{kind, rights};
 use aql_packet::{AgentHandle, ClientId, PacketId, QueueId, SignalHandle};
 use core_model::{Call, Query};
 use policy::{Kind, Object, Policy, Rights};
@@ -19,6 +15,10 @@ use ring_core::{Access, Step};
 use sequences::Sequence;
 use signals::SignalOp;
 use std::alloc::{AllocError, Global};
+use words::{
+    address, bytes, decimal, five_words, four_words, is_word, no_words, one_word, packet,
+    packet_word, signed, split_word, three_words, two_words,
+};
 use world::Request;
 
 /// The most bytes that a line has.

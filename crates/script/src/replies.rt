@@ -1,42 +1,23 @@
 //! Replies as text.
 
 ghost use Rattle.std.specs.Prelude.{◌≡◌, ◌++◌, OnOk, codes, decimal, string_bytes};
-ghost use Rattle.script.specs.Replies.{name_of_refusal, details_of_refusal, text_of_refusal, text_of_name, text_of_cause, text_of_taken, text_of_worked, text_of_polled, text_of_outcome, text_of_listed, text_of_listing, text_of_errors, text_of_answer, tells_old, text_of_number, text_of_seen, text_of_made, text_of_words, text_of_why, text_of_sent, text_of_line_answer, text_of_line};
-ghost use Rattle.script.specs.Texts.{text_of_bytes, text_of_word};
+ghost use Rattle.script.specs.Replies.{details_of_refusal, details_of_why, text_of_cause, text_of_taken, text_of_worked, text_of_polled, text_of_outcome, text_of_listed, text_of_listing, text_of_errors, text_of_answer, tells_old, text_of_number, text_of_seen, text_of_made, text_of_words, text_of_why, text_of_sent, text_of_line_answer, text_of_line};
+ghost use Rattle.words.specs.Names.{name_of_object};
+ghost use Rattle.words.specs.Bytes.{text_of_bytes};
+ghost use Rattle.words.specs.Packets.{text_of_word};
 
 use crate::command::{LineAnswer, LineReply, NumberMeaning};
 use crate::entries::{write_audit, write_rotated};
-use crate::texts::{write_bytes, write_rights, write_word};
+use crate::refusals::{refusal_name, refusal_number};
+use crate::rights::write_rights;
 use aql_packet::PacketId;
 use core_model::{Answer, Outcome, Polled, Refusal, Taken, WaitCause, Worked};
 use policy::{Object, Policy, Rights};
 use queue_error::QueueError;
 use ring_core::Seen;
 use std::alloc::AllocError;
+use words::{write_bytes, write_object, write_word};
 use world::{Answer as Made, Refusal as Why, Sent, Shown};
-
-// A refusal's number and name.
-fn refusal_name(refusal: &Refusal) -> &'static str
-    ensures { result.now ≡ name_of_refusal refusal.now }
-{
-    match refusal {
-        Refusal::OutOfMemory => "0 OutOfMemory",
-        Refusal::UnknownClient => "1 UnknownClient",
-        Refusal::UnknownQueue => "2 UnknownQueue",
-        Refusal::Denied(_) => "3 Denied",
-        Refusal::Busy { .. } => "4 Busy",
-        Refusal::NotAllowed => "5 NotAllowed",
-        Refusal::OutOfStep(_) => "6 OutOfStep",
-        Refusal::QueueDown => "7 QueueDown",
-        Refusal::NotInFlight => "8 NotInFlight",
-        Refusal::NotFinished => "9 NotFinished",
-        Refusal::AuditFull => "10 AuditFull",
-        Refusal::BadSize => "11 BadSize",
-        Refusal::TooMany => "12 TooMany",
-        Refusal::UnknownObject => "13 UnknownObject",
-        Refusal::OtherObjects => "16 OtherObjects",
-    }
-}
 
 // Writes what a refusal names.
 fn write_details(out: &mut String, refusal: &Refusal) -> Result<(), AllocError>
@@ -48,14 +29,6 @@ fn write_details(out: &mut String, refusal: &Refusal) -> Result<(), AllocError>
         Refusal::OutOfStep(next) => write!(out, " {next}"),
         _ => Ok(()),
     }
-}
-
-// Writes a refusal.
-fn write_refusal(out: &mut String, refusal: &Refusal) -> Result<(), AllocError>
-    ensures { OnOk result (string_bytes out.new ≡ string_bytes out.old ++ text_of_refusal refusal.now) }
-{
-    write!(out, "refused {}", refusal_name(refusal))?;
-    write_details(out, refusal)
 }
 
 // Why a packet waits, as a word.
@@ -117,16 +90,6 @@ fn write_outcome(out: &mut String, old: bool, outcome: &Outcome) -> Result<(), A
     }
 }
 
-// Writes the name of an object.
-fn write_name(out: &mut String, policy: &Policy, object: Object) -> Result<(), AllocError>
-    ensures { OnOk result (string_bytes out.new ≡ string_bytes out.old ++ text_of_name policy.now object) }
-{
-    match policy.object_name(object) {
-        Some(name) => out.push_str(name),
-        None => Ok(()),
-    }
-}
-
 // Writes an object with a client's rights on it.
 fn write_listed(
     out: &mut String,
@@ -137,7 +100,7 @@ fn write_listed(
     ensures { OnOk result (string_bytes out.new ≡ string_bytes out.old ++ text_of_listed policy.now object rights) }
 {
     write!(out, "{} {} ", object.kind(), object.number())?;
-    write_name(out, policy, object)?;
+    write_object(out, policy, object)?;
     out.push_str(" ")?;
     write_rights(out, rights)?;
     out.push_str("\n")
@@ -297,10 +260,10 @@ fn write_shown(out: &mut String, shown: &Shown) -> Result<(), AllocError>
 fn write_why(out: &mut String, why: &Why) -> Result<(), AllocError>
     ensures { OnOk result (string_bytes out.new ≡ string_bytes out.old ++ text_of_why why.now) }
 {
+    write!(out, "refused {} {}", refusal_number(why), refusal_name(why))?;
     match why {
-        Why::Core(refusal) => write_refusal(out, refusal),
-        Why::NotAStep => out.push_str("refused 14 NotAStep"),
-        Why::Spent => out.push_str("refused 15 Spent"),
+        Why::Core(refusal) => write_details(out, refusal),
+        Why::NotAStep | Why::Spent => Ok(()),
     }
 }
 

@@ -1,13 +1,13 @@
 -- What is told of a load, in bytes (own).
-use Rattle.std.specs.Prelude.{ℕ, ◌+◌, ◌*◌, ◌/◌, ◌%◌, ◌==◌, nat_lt, List, [], ◌∷◌, ◌++◌, codes, flat_map, length, Option, Some, None, if◌then◌else◌}
+use Rattle.std.specs.Prelude.{ℕ, ◌+◌, ◌*◌, ◌==◌, List, [], ◌∷◌, ◌++◌, codes, flat_map, length, Option, Some, None, if◌then◌else◌}
 use Rattle.std.specs.Fmt.{decimal}
 use Rattle.std.specs.List.{find, range_with_len}
-use Rattle.std.specs.Option.{unwrap_or}
-use Rattle.aql_packet.specs.declared.ids.ClientId.{ClientId}
 use Rattle.aql_packet.specs.Memory.{region_span}
 use Rattle.policy.specs.declared.object.Object.{Object}
 use Rattle.policy.specs.declared.object.Object.TheVariants as object
-use Rattle.policy.specs.Policy.{Declared, name_in, numbered}
+use Rattle.policy.specs.Policy.{Declared}
+use Rattle.words.specs.Bytes.{text_of_bytes}
+use Rattle.words.specs.Names.{name_of_client, name_of_object}
 use Rattle.core_model.specs.History.{Start}
 use Rattle.core_model.specs.Memory.{memory_from}
 use Rattle.core_model.specs.declared.entry.Entry.{Entry}
@@ -18,17 +18,10 @@ use Rattle.threads_load.specs.declared.report.Ending.{Ending}
 use Rattle.threads_load.specs.declared.report.Ending.TheVariants as ending
 use Rattle.threads_load.specs.Counts.{packet_counts}
 
--- the name of a client, and of an object; empty where there is none (own)
-abbrev pub client_name : Declared → ClientId → List ℕ
-client_name policy client = unwrap_or (numbered policy.clients client.0) []
-
-abbrev pub object_name : Declared → Object → List ℕ
-object_name policy on = unwrap_or (name_in policy on) []
-
 -- whose a queue is (own)
 abbrev pub text_of_names : Declared → ℕ → PlannedQueue → List ℕ
 text_of_names policy queue planned =
-    codes "queue " ++ decimal queue ++ codes " client " ++ client_name policy planned.client ++ codes " agent " ++ object_name policy (object.Agent planned.agent)
+    codes "queue " ++ decimal queue ++ codes " client " ++ name_of_client policy planned.client ++ codes " agent " ++ name_of_object policy (object.Agent planned.agent)
 
 -- what was counted of a queue's packets (own)
 abbrev pub text_of_counts : PacketCounts → List ℕ
@@ -44,16 +37,6 @@ abbrev pub text_of_queues : Start → List Entry → ℕ → List PlannedQueue �
 text_of_queues start entries queue [] = []
 text_of_queues start entries queue (planned ∷ plan) = text_of_queue start entries queue planned ++ text_of_queues start entries (queue + 1) plan
 
--- a byte: two hexadecimal digits, in lower case (own)
-abbrev pub hex_digit : ℕ → ℕ
-hex_digit n = if nat_lt n 10 then 48 + n else 87 + n
-
-abbrev pub text_of_byte : ℕ → List ℕ
-text_of_byte byte = hex_digit (byte / 16) ∷ hex_digit (byte % 16) ∷ []
-
-abbrev pub text_of_bytes : List ℕ → List ℕ
-text_of_bytes bytes = flat_map text_of_byte bytes
-
 -- the bytes of a region that the load counts in, after these entries (own)
 abbrev pub counted_bytes : Start → List Entry → ℕ → List ℕ
 counted_bytes start entries region = memory_from start entries (region * region_span) COUNTED_BYTES
@@ -61,7 +44,7 @@ counted_bytes start entries region = memory_from start entries (region * region_
 -- a region's line, with these bytes (own)
 abbrev pub text_of_region : Declared → ℕ → List ℕ → List ℕ
 text_of_region policy region bytes =
-    codes "region " ++ decimal region ++ codes " " ++ object_name policy (object.Region (record { 0 = region })) ++ codes " " ++ text_of_bytes bytes ++ 10 ∷ []
+    codes "region " ++ decimal region ++ codes " " ++ name_of_object policy (object.Region (record { 0 = region })) ++ codes " " ++ text_of_bytes bytes ++ 10 ∷ []
 
 -- the first planned queue whose packets count in a region (own)
 abbrev pub user_of : ℕ → List PlannedQueue → Option PlannedQueue

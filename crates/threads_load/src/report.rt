@@ -1,9 +1,9 @@
 //! What is told of a load.
 
-ghost use Rattle.std.specs.Prelude.{◌≡◌, ◌++◌, ◌<◌, ◌+◌, ◌∷◌, [], IfOk, OnOk, string_bytes, length};
+ghost use Rattle.std.specs.Prelude.{◌≡◌, ◌++◌, IfOk, OnOk, string_bytes, length};
 ghost use Rattle.core_model.specs.History.{beginning};
 ghost use Rattle.std.specs.Option.{option_copied};
-ghost use Rattle.threads_load.specs.Reports.{client_name, counted_bytes, hex_digit, object_name, text_of_byte, text_of_bytes, text_of_counts, text_of_ending, text_of_names, text_of_queue, text_of_queues, text_of_region, text_of_regions, text_of_report, text_of_used, user_of};
+ghost use Rattle.threads_load.specs.Reports.{counted_bytes, text_of_counts, text_of_ending, text_of_names, text_of_queue, text_of_queues, text_of_region, text_of_regions, text_of_report, text_of_used, user_of};
 
 use crate::counting::{PacketCounts, count_all};
 use crate::plan::{COUNTED_BYTES, PlannedQueue};
@@ -13,6 +13,7 @@ use core_model::{Entry, Refusal};
 use policy::{Kind, Object, Policy};
 use sequences::Sequence;
 use std::alloc::{AllocError, Global};
+use words::{client_name, object_name, write_bytes};
 
 /// How a load ended.
 #[derive(Clone, Copy, Debug, PartialEq, Eq)]
@@ -23,20 +24,6 @@ pub enum Ending {
     Unsettled,
     /// They differ: this is the least queue and the least id at which.
     Mismatch { queue: QueueId, packet: PacketId },
-}
-
-// The name of a client, empty where there is none.
-fn client_name(policy: &Policy, client: ClientId) -> &str
-    ensures { result.now ≡ client_name policy.now client }
-{
-    policy.client_name(client).unwrap_or("")
-}
-
-// The name of an object, empty where there is none.
-fn object_name(policy: &Policy, object: Object) -> &str
-    ensures { result.now ≡ object_name policy.now object }
-{
-    policy.object_name(object).unwrap_or("")
 }
 
 // Writes whose a queue is.
@@ -94,37 +81,6 @@ fn write_queues(
     for planned in plan {
         write_queue(handed_out, core, QueueId(number), *planned, out)?;
         number += 1;
-    }
-    Ok(())
-}
-
-// Writes a hexadecimal digit, in lower case.
-fn write_digit(out: &mut String, value: u8) -> Result<(), AllocError>
-    requires { value < 16 }
-    ensures { OnOk result (string_bytes out.new ≡ string_bytes out.old ++ hex_digit value ∷ []) }
-{
-    let digit = if value < 10 {
-        b'0' + value
-    } else {
-        b'a' + (value - 10)
-    };
-    out.push(char::from(digit))
-}
-
-// Writes a byte.
-fn write_byte(out: &mut String, byte: u8) -> Result<(), AllocError>
-    ensures { OnOk result (string_bytes out.new ≡ string_bytes out.old ++ text_of_byte byte) }
-{
-    write_digit(out, byte / 16)?;
-    write_digit(out, byte % 16)
-}
-
-// Writes bytes in order.
-fn write_bytes(out: &mut String, bytes: &[u8]) -> Result<(), AllocError>
-    ensures { OnOk result (string_bytes out.new ≡ string_bytes out.old ++ text_of_bytes bytes.now) }
-{
-    for byte in bytes {
-        write_byte(out, *byte)?;
     }
     Ok(())
 }

@@ -1,6 +1,6 @@
 -- The words so far are written.
 use Rattle.std.proofs.Common.{◌≡◌, ◌++◌, string_bytes, take, flat_map}
-use Rattle.script.specs.Texts.{text_of_word}
+use Rattle.words.specs.Packets.{text_of_word}
 use Rattle.script.proofs.replies.write_words.Given as goal
 
 abbrev pub invariant-loop-word : goal.invariant-loop-word

@@ -1,5 +1,0 @@
--- The number of digits to write falls.
-use Rattle.assemble.proofs.texts.+put_digits.Given as goal
-
-abbrev pub decreases-put_digits : goal.decreases-put_digits
-decreases-put_digits l = l.count

@@ -1,7 +1,0 @@
--- The bytes so far are written.
-use Rattle.std.proofs.Common.{◌≡◌, ◌++◌, take}
-use Rattle.assemble.specs.Texts.{text_of_bytes}
-use Rattle.assemble.proofs.texts.put_bytes.Given as goal
-
-abbrev pub invariant-loop-byte : goal.invariant-loop-byte
-invariant-loop-byte l = l.out.items ≡ l.fn.out.items ++ text_of_bytes (take l.byte-index l.bytes)

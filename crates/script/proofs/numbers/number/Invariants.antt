@@ -1,7 +1,0 @@
--- The number so far and the bytes left make the number of all.
-use Rattle.std.proofs.Common.{◌≡◌, drop}
-use Rattle.script.specs.Words.{number_from}
-use Rattle.script.proofs.numbers.number.Given as goal
-
-abbrev pub invariant-loop-byte : goal.invariant-loop-byte
-invariant-loop-byte l = number_from l.base l.number (drop l.byte-index l.word) ≡ number_from l.base 0 l.word

@@ -1,5 +1,0 @@
--- The number of digits to write falls.
-use Rattle.script.proofs.texts.+write_digits.Given as goal
-
-abbrev pub decreases-write_digits : goal.decreases-write_digits
-decreases-write_digits l = l.count

@@ -1,7 +1,0 @@
--- The bytes so far are written.
-use Rattle.std.proofs.Common.{◌≡◌, ◌++◌, string_bytes, take}
-use Rattle.script.specs.Texts.{text_of_bytes}
-use Rattle.script.proofs.texts.write_bytes.Given as goal
-
-abbrev pub invariant-loop-byte : goal.invariant-loop-byte
-invariant-loop-byte l = string_bytes l.out ≡ string_bytes l.fn.out ++ text_of_bytes (take l.byte-index l.bytes)

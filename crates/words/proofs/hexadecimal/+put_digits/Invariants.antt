@@ -1,0 +1,5 @@
+-- The number of digits to write falls.
+use Rattle.words.proofs.hexadecimal.+put_digits.Given as goal
+
+abbrev pub decreases-put_digits : goal.decreases-put_digits
+decreases-put_digits l = l.count

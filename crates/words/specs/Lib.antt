@@ -1,0 +1,6 @@
+pub mod Lines
+pub mod Numbers
+pub mod Bytes
+pub mod Packets
+pub mod Items
+pub mod Names
