@@ -1,6 +1,7 @@
 /* Runs a script over a policy as `brokerd run` does, by the library's calls alone: driver POLICY NEXT.. AUDIT, the further policies
-   in between. It knows the lines that are one of these calls, and `submit` and `serve`, whose ring it keeps itself. Another line
-   ends it with status 64, and its word told. Where JOURNAL names a file, it writes the journal there. */
+   in between. It knows the lines that are one of these calls, and `submit` and `serve`, whose ring it keeps itself; any other is a bad
+   request, with which it ends as `run` does, and so are the faults of policies. What it can't answer for want of a whole ring, or what
+   shouldn't come, ends it with status 64. Where JOURNAL names a file, it writes the journal there. */
 #include <inttypes.h>
 #include <stdio.h>
 #include <stdlib.h>
@@ -8,7 +9,7 @@
 
 #include "hobbydresser.h"
 
-enum { QUEUES = 64, SLOTS = 4096, WORDS = 64 };
+enum { QUEUES = 64, SLOTS = 4096, WORDS = 64, LONGEST = 16384 };
 
 static hd_broker broker = HD_BROKER;
 
@@ -17,6 +18,7 @@ static char **further;
 static int further_count;
 static FILE *journal;
 static hd_chain chain;
+static unsigned long line_number;
 
 /* The ring of each queue: what was published and not yet retired. */
 static struct {
@@ -41,6 +43,14 @@ static void stop(const char *why)
     fflush(stdout);
     fprintf(stderr, "%s\n", why);
     exit(64);
+}
+
+/* A line of no form ends the run. */
+static void bad_request(void)
+{
+    fflush(stdout);
+    fprintf(stderr, "line %lu: bad request\n", line_number);
+    exit(1);
 }
 
 static void *memory(size_t size)
@@ -68,8 +78,41 @@ static uint32_t place(const char *const *words, uint32_t count, const char *word
 {
     for (uint32_t i = 0; i < count; i++)
         if (strcmp(words[i], word) == 0) return i;
-    stop("a word that is none");
+    bad_request();
     return 0;
+}
+
+/* A number of digits alone, below 2^64. */
+static uint64_t decimal(const char *word)
+{
+    uint64_t value = 0;
+    if (!*word) bad_request();
+    for (; *word; word++) {
+        if (*word < '0' || *word > '9' || value > UINT64_MAX / 10 || value * 10 > UINT64_MAX - (uint64_t)(*word - '0')) bad_request();
+        value = value * 10 + (uint64_t)(*word - '0');
+    }
+    return value;
+}
+
+/* A number of 64 bits with a sign. */
+static int64_t signed_decimal(const char *word)
+{
+    int is_less = *word == '-';
+    uint64_t value = decimal(word + is_less);
+    if (value > (uint64_t)INT64_MAX + (uint64_t)is_less) bad_request();
+    return is_less ? (int64_t)(0 - value) : (int64_t)value;
+}
+
+static void must_be_digits(const char *word)
+{
+    if (strspn(word, "0123456789abcdefABCDEF") != strlen(word)) bad_request();
+}
+
+static uint64_t address_in(const char *word)
+{
+    must_be_digits(word);
+    if (strlen(word) != 16) bad_request();
+    return strtoull(word, NULL, 16);
 }
 
 static uint32_t number(uint32_t kind, const char *name)
@@ -83,19 +126,23 @@ static uint32_t rights_in(char *word)
 {
     uint32_t bits = 0;
     if (strcmp(word, "-") == 0) return 0;
-    for (char *one = strtok(word, ","); one; one = strtok(NULL, ",")) bits |= 1u << place(rights, 6, one);
-    return bits;
+    for (char *comma; (comma = strchr(word, ',')); word = comma + 1) {
+        *comma = 0;
+        bits |= 1u << place(rights, 6, word);
+    }
+    return bits | 1u << place(rights, 6, word);
 }
 
 /* The bytes of a word in hexadecimal. */
 static uint8_t *bytes_in(const char *word, size_t *length)
 {
+    must_be_digits(word);
+    if (strlen(word) % 2) bad_request();
     *length = strlen(word) / 2;
     uint8_t *bytes = memory(*length);
     for (size_t i = 0; i < *length; i++) {
-        unsigned value;
-        if (sscanf(word + 2 * i, "%2x", &value) != 1) stop("no bytes");
-        bytes[i] = (uint8_t)value;
+        char digits[3] = { word[2 * i], word[2 * i + 1], 0 };
+        bytes[i] = (uint8_t)strtoul(digits, NULL, 16);
     }
     return bytes;
 }
@@ -151,10 +198,10 @@ static void change_rights(int is_grant, char **words)
 
 static void reload(char **words)
 {
-    uint64_t queue = 0, packet = 0, next = strtoull(words[1], NULL, 10);
+    uint64_t queue = 0, packet = 0, next = decimal(words[1]);
     hd_fault fault;
     size_t length;
-    if (next < 1 || next > (uint64_t)further_count) stop("no such policy");
+    if (next < 1 || next > (uint64_t)further_count) bad_request();
     uint8_t *policy = file(further[next - 1], &length);
     hd_status status = hd_reload(&broker, policy, length, &fault, &queue, &packet);
     free(policy);
@@ -199,7 +246,7 @@ static void list(char **words)
 
 static void errors(char **words)
 {
-    uint64_t queue = strtoull(words[1], NULL, 10), count;
+    uint64_t queue = decimal(words[1]), count;
     hd_error none[1], *told = none;
     hd_status status = hd_errors(&broker, queue, told, 0, &count);
     if (status == HD_TOO_SHORT) {
@@ -309,7 +356,7 @@ static void end_journal(void)
 
 static void open_queue(char **words)
 {
-    uint64_t queue, size = strtoull(words[3], NULL, 10), producers = strtoull(words[4], NULL, 10);
+    uint64_t queue, size = decimal(words[3]), producers = decimal(words[4]);
     /* (a number of producers that a ring can't have is refused as a wrong size is) */
     if (producers == 0 || producers > 16) size = 0;
     hd_status status = hd_open_queue(&broker, number(HD_CLIENT, words[1]), number(HD_AGENT, words[2]), size, &queue);
@@ -325,20 +372,20 @@ static void open_queue(char **words)
 
 static uint64_t queue_in(const char *word)
 {
-    uint64_t queue = strtoull(word, NULL, 10);
+    uint64_t queue = decimal(word);
     if (queue == 0 || queue > QUEUES || !rings[queue].packets) stop("a ring's refusal");
     return queue;
 }
 
 static void submit(char **words)
 {
-    uint64_t queue = queue_in(words[1]);
     size_t length;
-    uint64_t producer = strtoull(words[2], NULL, 10);
+    uint64_t producer = decimal(words[2]);
+    uint8_t *bytes = bytes_in(words[3], &length);
+    if (length != 64) bad_request();
+    uint64_t queue = queue_in(words[1]);
     if (producer == 0 || producer > rings[queue].producers) stop("a ring's refusal");
     if (rings[queue].write - rings[queue].read >= rings[queue].size) stop("a full ring");
-    uint8_t *bytes = bytes_in(words[3], &length);
-    if (length != 64) stop("a packet of another size");
     if (bytes[0] == 1) stop("a packet of type INVALID");
     memcpy(rings[queue].packets + rings[queue].write % rings[queue].size * 64, bytes, 64);
     free(bytes);
@@ -349,7 +396,7 @@ static void serve(char **words)
 {
     static const char *const causes[] = { "Barrier", "Active", "Slots" };
     static const uint8_t none[64];
-    uint64_t queue = strtoull(words[1], NULL, 10), id, next;
+    uint64_t queue = decimal(words[1]), id, next;
     hd_taken taken;
     if (queue == 0 || queue > QUEUES || !rings[queue].packets) {
         answer(hd_take(&broker, queue, 0, none, &taken, &next), "");
@@ -382,7 +429,7 @@ static void serve(char **words)
 static void run(char **words)
 {
     hd_worked worked;
-    hd_status status = hd_run(&broker, strtoull(words[1], NULL, 10), strtoull(words[2], NULL, 10), &worked);
+    hd_status status = hd_run(&broker, decimal(words[1]), decimal(words[2]), &worked);
     if (status != HD_OK) {
         answer(status, "");
     } else if (worked.became == HD_RAN) {
@@ -399,7 +446,7 @@ static void run(char **words)
 static void poll_packet(char **words)
 {
     hd_polled polled;
-    hd_status status = hd_poll(&broker, strtoull(words[1], NULL, 10), strtoull(words[2], NULL, 10), &polled);
+    hd_status status = hd_poll(&broker, decimal(words[1]), decimal(words[2]), &polled);
     if (status != HD_OK) {
         answer(status, "");
     } else if (polled.became == HD_FAILED) {
@@ -415,17 +462,17 @@ static void write_memory(char **words)
 {
     size_t length;
     uint8_t *bytes = bytes_in(words[3], &length);
-    answer(hd_write(&broker, number(HD_CLIENT, words[1]), strtoull(words[2], NULL, 16), bytes, length), "WRITE");
+    answer(hd_write(&broker, number(HD_CLIENT, words[1]), address_in(words[2]), bytes, length), "WRITE");
     free(bytes);
 }
 
 static void read_memory(char **words)
 {
-    uint64_t asked = strtoull(words[3], NULL, 10);
+    uint64_t asked = decimal(words[3]);
     /* (a range that no call may read needs no buffer of its size) */
     size_t length = asked > 65537 ? 65537 : (size_t)asked;
     uint8_t *bytes = memory(length);
-    hd_status status = hd_read(&broker, number(HD_CLIENT, words[1]), strtoull(words[2], NULL, 16), bytes, length);
+    hd_status status = hd_read(&broker, number(HD_CLIENT, words[1]), address_in(words[2]), bytes, length);
     if (status != HD_OK) {
         answer(status, "READ");
     } else {
@@ -440,8 +487,8 @@ static void change_signal(char **words, int count)
 {
     uint32_t change = place(changes, 8, words[3]);
     int is_cas = change == HD_CAS;
-    if (count != (is_cas ? 6 : 5)) stop("another form");
-    int64_t old, value = strtoll(words[is_cas ? 5 : 4], NULL, 10), expected = is_cas ? strtoll(words[4], NULL, 10) : 0;
+    if (count != (is_cas ? 6 : 5)) bad_request();
+    int64_t old, value = signed_decimal(words[is_cas ? 5 : 4]), expected = is_cas ? signed_decimal(words[4]) : 0;
     hd_status status = hd_signal(&broker, number(HD_CLIENT, words[1]), number(HD_SIGNAL, words[2]), change, value, expected, &old);
     if (status != HD_OK || change < HD_EXCHANGE) answer(status, "CHANGE");
     else printf("old %" PRId64 "\n", old);
@@ -459,7 +506,7 @@ static void test(char **words)
 {
     uint32_t held;
     hd_status status = hd_test(&broker, number(HD_CLIENT, words[1]), number(HD_SIGNAL, words[2]), place(conditions, 4, words[3]),
-                               strtoll(words[4], NULL, 10), &held);
+                               signed_decimal(words[4]), &held);
     if (status != HD_OK) answer(status, "WAIT");
     else printf(held ? "true\n" : "false\n");
 }
@@ -471,13 +518,13 @@ static void ask(char **words, int count)
     if (strcmp(verb, "grant") == 0 && count == 5) change_rights(1, words);
     else if (strcmp(verb, "revoke") == 0 && count == 5) change_rights(0, words);
     else if (strcmp(verb, "queue") == 0 && count == 5) open_queue(words);
-    else if (strcmp(verb, "stop") == 0 && count == 2) answer(hd_stop(&broker, strtoull(words[1], NULL, 10)), "");
+    else if (strcmp(verb, "stop") == 0 && count == 2) answer(hd_stop(&broker, decimal(words[1])), "");
     else if (strcmp(verb, "submit") == 0 && count == 4) submit(words);
     else if (strcmp(verb, "serve") == 0 && count == 2) serve(words);
     else if (strcmp(verb, "run") == 0 && count == 3) run(words);
     else if (strcmp(verb, "poll") == 0 && count == 3) poll_packet(words);
     else if (strcmp(verb, "finish") == 0 && count == 3)
-        answer(hd_finish(&broker, strtoull(words[1], NULL, 10), strtoull(words[2], NULL, 10)), "");
+        answer(hd_finish(&broker, decimal(words[1]), decimal(words[2])), "");
     else if (strcmp(verb, "write") == 0 && count == 4) write_memory(words);
     else if (strcmp(verb, "read") == 0 && count == 4) read_memory(words);
     else if (strcmp(verb, "signal") == 0 && count >= 5) change_signal(words, count);
@@ -488,7 +535,45 @@ static void ask(char **words, int count)
     else if (strcmp(verb, "audit") == 0 && count == 1) tell_entries("audit");
     else if (strcmp(verb, "rotate") == 0 && count == 1) rotate();
     else if (strcmp(verb, "reload") == 0 && count == 2) reload(words);
-    else stop(verb);
+    else bad_request();
+}
+
+/* Tells what is wrong with a policy or with what it is opened with, as `run` does, and ends. */
+static void tell_fault(hd_status status, const hd_fault *fault)
+{
+    static const char *const causes[] = { "NotToml", "MissingKey", "BadValue", "UnknownName", "DoubleName", "TooMany" };
+    static const char *const sections[] = { "", "client", "agent", "region", "signal", "kernel", "allow", "deny" };
+    if (status >= HD_NOT_TOML && status <= HD_TOO_LONG) {
+        fprintf(stderr, "policy: %" PRIu32 " %s", status - 100, causes[status - HD_NOT_TOML]);
+        if (fault->section) fprintf(stderr, " %s %" PRIu32, sections[fault->section], fault->row);
+    } else if (status >= HD_READ_LEXEME && status <= HD_READ_TOO_LONG) {
+        fprintf(stderr, "kernel %" PRIu64 ": read %" PRIu32 " line %" PRIu32 " column %" PRIu32, fault->kernel, status - 200, fault->line, fault->column);
+    } else if (status >= HD_CHECK_LABEL && status <= HD_CHECK_ADDRESS) {
+        fprintf(stderr, "kernel %" PRIu64 ": check %" PRIu32 " line %" PRIu32, fault->kernel, status - 300, fault->line);
+    } else if (status == HD_NO_ENTRY) {
+        fprintf(stderr, "kernel %" PRIu64 ": no entry", fault->kernel);
+    } else if (status == HD_BAD_PLACES) {
+        fprintf(stderr, "audit: 1 to 1048576 entries");
+    } else {
+        stop("hd_open");
+    }
+    fprintf(stderr, "\n");
+    exit(1);
+}
+
+/* The further policies are read before the first line: the first fault of one ends the run. Their kernels aren't. */
+static void read_further(void)
+{
+    for (int i = 0; i < further_count; i++) {
+        hd_broker other = HD_BROKER;
+        hd_fault fault = { 0 };
+        size_t length;
+        uint8_t *policy = file(further[i], &length);
+        hd_status status = hd_open(&other, policy, length, 1, &fault);
+        free(policy);
+        if (status >= HD_NOT_TOML && status <= HD_TOO_LONG) tell_fault(status, &fault);
+        if (status == HD_OK && hd_close(&other) != HD_OK) stop("hd_close");
+    }
 }
 
 int main(int count, char **arguments)
@@ -500,9 +585,10 @@ int main(int count, char **arguments)
     further = arguments + 2;
     further_count = count - 3;
     uint8_t *policy = file(arguments[1], &length);
-    hd_status status = hd_open(&broker, policy, length, strtoull(arguments[count - 1], NULL, 10), &fault);
+    hd_status status = hd_open(&broker, policy, length, decimal(arguments[count - 1]), &fault);
     free(policy);
-    if (status != HD_OK) refuse(status, "");
+    if (status != HD_OK) tell_fault(status, &fault);
+    read_further();
     if (getenv("JOURNAL")) {
         journal = fopen(getenv("JOURNAL"), "wb");
         if (!journal) stop("the journal");
@@ -511,6 +597,8 @@ int main(int count, char **arguments)
     while (fgets(line, sizeof line, stdin)) {
         char *words[WORDS];
         int found = 0;
+        line_number++;
+        if (strcspn(line, "\n") > LONGEST) bad_request();
         if (line[0] == '#') continue;
         for (char *word = strtok(line, " \t\r\n"); word && found < WORDS; word = strtok(NULL, " \t\r\n")) words[found++] = word;
         if (found) ask(words, found);

@@ -236,13 +236,13 @@ static void audits(hd_broker *broker)
     IS(memcmp(digest.bytes, "\xba\x78\x16\xbf\x8f\x01\xcf\xea", 8), 0); /* FIPS 180-4's own example */
     IS(hd_journal_head(broker, &digest, 1, line, 9, &needed, &chain), HD_TOO_SHORT);
     IS(chain.number, UINT64_MAX);
-    IS(hd_journal_head(broker, &digest, 1, line, sizeof line, &needed, &chain), HD_TOO_SHORT);
-    char *head = malloc(needed);
-    IS(hd_journal_head(broker, &digest, 1, head, needed, &needed, &chain), HD_OK);
+    IS(needed, 18 + 3 * 65);
+    IS(hd_journal_head(broker, &digest, 1, line, needed - 1, &needed, &chain), HD_TOO_SHORT);
+    IS(hd_journal_head(broker, &digest, 1, line, needed, &needed, &chain), HD_OK);
     IS(chain.number, 0);
-    IS(memcmp(head, "journal 1 100 0 2 ", 18), 0);
-    IS(memcmp(head + 18 + 65, "ba7816bf8f01cfea", 16), 0);
-    free(head);
+    IS(memcmp(line, "journal 1 100 0 2 ", 18), 0);
+    IS(memcmp(line + 18 + 65, "ba7816bf8f01cfea", 16), 0);
+    IS(line[18 + 3 * 65 - 1], '\n');
     at = chain;
     IS(hd_journal_line(broker, line, 9, &needed, &chain), HD_TOO_SHORT);
     IS(memcmp(&at, &chain, sizeof at), 0);

@@ -1,5 +1,4 @@
 mod AsBox
-mod Opened
 mod Reading
 mod Records
 mod Rows

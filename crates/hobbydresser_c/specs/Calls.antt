@@ -1,5 +1,5 @@
 -- What each call for C is answered, and what it leaves (own).
-use Rattle.std.specs.Prelude.{ℕ, ℤ, ◌≡◌, Bool, ◌&&◌, true, nat_lt, ◌-◌, List, [], ◌∷◌, length, slice_get, Option, Some, None, option_map, Result, Ok, Err, if◌then◌else◌}
+use Rattle.std.specs.Prelude.{ℕ, ℤ, ◌≡◌, Bool, true, nat_lt, ◌-◌, List, [], ◌∷◌, length, slice_get, Option, Some, None, option_map, Result, Ok, Err, if◌then◌else◌}
 use Rattle.core_model.specs.declared.answer.Answer.{Answer}
 use Rattle.core_model.specs.declared.entry.Effect.{Effect}
 use Rattle.core_model.specs.declared.entry.Entry.{Entry}
@@ -16,13 +16,14 @@ use Rattle.core_model.specs.Legal.{MeetsOrLacks, RepliesOrLacks}
 use Rattle.policy.specs.Results.{map_ok}
 use Rattle.policy.specs.Policy.{rules_of}
 use Rattle.policy.specs.Rules.{knows_client}
-use Rattle.policy.specs.Object.{object_of, same_object}
+use Rattle.policy.specs.Object.{object_of}
 use Rattle.policy.specs.declared.object.Kind.{Kind}
 use Rattle.policy.specs.declared.object.Kind.TheVariants.{Agent, Region, Signal, Kernel}
 use Rattle.policy.specs.declared.object.Object.{Object}
 use Rattle.policy.specs.declared.rights.Rights.{Rights}
-use Rattle.policy.specs.declared.rights.Right.{Right}
-use Rattle.policy.specs.Rights.{has, rights_that}
+use Rattle.aql_packet.specs.declared.ids.ClientId.{ClientId}
+use Rattle.core_model.specs.Grants.{in_force}
+use Rattle.policy.specs.Rights.{rights_that}
 use Rattle.signals.specs.declared.operation.Condition.{Condition}
 use Rattle.signals.specs.declared.operation.Condition.TheVariants as condition
 use Rattle.signals.specs.declared.operation.SignalOp.{SignalOp}
@@ -30,7 +31,6 @@ use Rattle.signals.specs.declared.operation.SignalOp.TheVariants as operation
 use Rattle.hobbydresser_c.specs.declared.broker.Broker.{Broker}
 use Rattle.hobbydresser_c.specs.declared.session.Session.{Session}
 use Rattle.hobbydresser_c.specs.declared.told.TakenRecord.{TakenRecord}
-use Rattle.std.specs.List.{list_any}
 use Rattle.hobbydresser_c.specs.Buffers.{FillsRecords}
 use Rattle.hobbydresser_c.specs.Words.{stands_open}
 use Rattle.hobbydresser_c.specs.Statuses.{ok, no_such, status_of_refusal}
@@ -52,11 +52,10 @@ pub record IsSame (old new : Broker) : Type 0 where
   pub state_is : new.state ≡ old.state
   pub session_is : session_of new ≡ session_of old
 
--- a broker is open or not as before, and what its opening settled beside the core stands
+-- a broker is open or not as before, and of the text that it was opened with the digest is kept
 pub record Keeps (old new : Broker) : Type 0 where
   pub open_is : is_open new ≡ is_open old
   pub digest_is : (session_of new).digest ≡ (session_of old).digest
-  pub layouts_are : (session_of new).layouts ≡ (session_of old).layouts
 
 -- an event was asked of an open broker, which stays open: it got what was due and left what was due, unless memory was wanted; and this
 -- was told of the answer
@@ -156,13 +155,11 @@ rights_named kind number bits = rights_on number (kind_of_number kind) (rights_o
 abbrev pub object_named : ℕ → ℕ → Option Object
 object_named kind number = option_map (λ it. object_of it number) (kind_of_number kind)
 
--- a listing has a right on an object
-abbrev pub is_listed : List (Object × Rights) → Object → Right → Bool
-is_listed rows on right = list_any (λ row. same_object on row.0 && has row.1 right) rows
-
--- the rights on an object that a listing has
-abbrev pub rights_on : Object → List (Object × Rights) → Rights
-rights_on on rows = rights_that (is_listed rows on)
+-- the rights on an object that a client has in force, if there is the client
+abbrev pub rights_in_force : History → ClientId → Object → Result Rights Refusal
+rights_in_force history client on =
+    if knows_client (rules_of (beginning history).policy) client
+    then Ok (rights_that (in_force (beginning history) history.entries client on)) else Err refusal.UnknownClient
 
 -- the conditions of a test, by their numbers
 abbrev pub conditions : List Condition

@@ -1,9 +1,7 @@
 -- What the opening of a broker comes to (own).
-use Rattle.std.specs.Prelude.{ℕ, ◌≡◌, List, Option, Some, None, Result, Ok, Err, ⊤, ⊥, true, map, if◌then◌else◌}
+use Rattle.std.specs.Prelude.{ℕ, ◌≡◌, List, Option, Some, None, Result, Ok, Err, ⊤, true}
 use Rattle.access_core.specs.Cores.{Core}
-use Rattle.access_core.specs.Opening.{Opens, has_entry, program_of}
-use Rattle.core_model.specs.declared.kernel.KernelSegments.{KernelSegments}
-use Rattle.core_model.specs.Kernels.{segments_of}
+use Rattle.access_core.specs.Opening.{Opens}
 use Rattle.sha2.specs.Sha256.{sha256}
 use Rattle.access_core.specs.declared.access.OpenFault.{OpenFault}
 use Rattle.access_core.specs.declared.access.OpenFault.TheVariants as opening
@@ -30,14 +28,10 @@ abbrev pub core_in : Result Session OpenFault → Result Core OpenFault
 core_in (Ok session) = Ok session.core
 core_in (Err why) = Err why
 
--- how large a kernel's segments are, where its module has its entry
-abbrev pub layout_of : Kernel → KernelSegments
-layout_of kernel = if has_entry kernel then segments_of (program_of kernel) else record { kernarg = 0; group = 0 }
-
--- what is kept beside the core that was opened: the digest of the policy's text, and its kernels' layouts
-abbrev pub IsKept : List ℕ → List Kernel → Result Session OpenFault → Type 0
-IsKept text kernels (Ok session) = (session.digest ≡ sha256 text) × (session.layouts ≡ map layout_of kernels)
-IsKept text kernels (Err why) = ⊤
+-- what is kept beside the core that was opened: the digest of the policy's text
+abbrev pub IsKept : List ℕ → Result Session OpenFault → Type 0
+IsKept text (Ok session) = session.digest ≡ sha256 text
+IsKept text (Err why) = ⊤
 
 -- a core's opening over a text: the text declares a policy, all of its kernels are let pass, and a core over both is opened, or refused
 pub record OpensOver (text : List ℕ) (places : ℕ) (opened : Result Session OpenFault) : Type 0 where
@@ -46,15 +40,7 @@ pub record OpensOver (text : List ℕ) (places : ℕ) (opened : Result Session O
   pub declares : Declares text policy
   pub launchable : AreLaunchable policy.kernels kernels
   pub opens : Opens policy kernels places (core_in opened)
-  pub kept : IsKept text kernels opened
-
--- what an opening over a policy and its kernels comes to
-abbrev pub OpensWith : List ℕ → Declared → List Kernel → ℕ → Result Session Failure → Type 0
-OpensWith text policy kernels places (Ok session) =
-    Opens policy kernels places (Ok session.core) × IsKept text kernels (Ok session)
-OpensWith text policy kernels places (Err (failure.Opening why)) = Opens policy kernels places (Err why)
-OpensWith text policy kernels places (Err failure.OutOfMemory) = ⊤
-OpensWith text policy kernels places (Err _) = ⊥
+  pub kept : IsKept text opened
 
 -- the first kernel of the policy that a text declares is refused
 pub record RefusesKernel (text : List ℕ) (fault : KernelFault) : Type 0 where

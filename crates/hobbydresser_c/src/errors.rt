@@ -1,12 +1,13 @@
 //! The errors of queues.
 
 ghost use Rattle.std.specs.Prelude.{◌≡◌, ◌≤◌, ◌++◌, drop, false, length, map, true};
-ghost use Rattle.core_model.specs.declared.answer.Answer.TheVariants as answers;
-ghost use Rattle.core_model.specs.declared.event.Query.TheVariants as query;
-ghost use Rattle.hobbydresser_c.specs.Statuses.{closed};
+ghost use Rattle.core_model.specs.declared.refusal.Refusal.TheVariants as refusal;
+ghost use Rattle.core_model.specs.History.{beginning};
+ghost use Rattle.core_model.specs.Queues.{errors, owner};
+ghost use Rattle.hobbydresser_c.specs.Statuses.{closed, status_of_refusal};
 ghost use Rattle.hobbydresser_c.specs.Buffers.{FillsRecords};
 ghost use Rattle.hobbydresser_c.specs.Told.{error_told};
-ghost use Rattle.hobbydresser_c.specs.Calls.{IsSame, Replied, TellsRecords, is_open};
+ghost use Rattle.hobbydresser_c.specs.Calls.{IsSame, WhereKnown, history_of, is_open};
 
 use crate::broker::Broker;
 use crate::status;
@@ -14,8 +15,6 @@ use crate::told::{ErrorRecord, error_told};
 use aql_packet::QueueId;
 use core_model::Refusal;
 use queue_error::QueueError;
-use sequences::Sequence;
-use std::alloc::Global;
 
 // Puts what is told of each error into the caller's records.
 fn put_errors(errors: &[QueueError], out: &mut [ErrorRecord])
@@ -39,24 +38,9 @@ fn fill_errors(errors: &[QueueError], out: &mut [ErrorRecord], needed: &mut u64)
     status::OK
 }
 
-// Tells errors.
-fn tell_errors(
-    answer: Result<Sequence<QueueError>, Refusal>,
-    out: &mut [ErrorRecord],
-    needed: &mut u64,
-) -> u32
-    ensures { TellsRecords error_told result out.old out.new needed.old needed.new answer }
-{
-    match answer {
-        Ok(errors) => fill_errors(errors.as_slice(), out, needed),
-        Err(why) => status::of_refusal(why),
-    }
-}
-
 /// The errors of a queue, in order.
 #[unsafe(no_mangle)]
 pub extern "C" fn hd_errors(
-    alloc: Global,
     broker: &mut Broker,
     queue: u64,
     out: &mut [ErrorRecord],
@@ -64,13 +48,16 @@ pub extern "C" fn hd_errors(
 ) -> u32
     ensures closed { is_open broker.old ≡ false → (result ≡ closed) × (out.new ≡ out.old) × (needed.new ≡ needed.old) }
     ensures same { IsSame broker.old broker.new }
-    ensures met { is_open broker.old ≡ true → Replied (query.Errors (record { 0 = queue })) answers.Errors broker.old
-        (TellsRecords error_told result out.old out.new needed.old needed.new) }
+    ensures met { is_open broker.old ≡ true → WhereKnown (owner (beginning (history_of broker.old)) (history_of broker.old).entries (record { 0 = queue }))
+        ((result ≡ status_of_refusal refusal.UnknownQueue) × (out.new ≡ out.old) × (needed.new ≡ needed.old))
+        (λ opening. FillsRecords error_told (errors (beginning (history_of broker.old)) (history_of broker.old).entries (record { 0 = queue })) result out.old out.new needed.new) }
 {
     if !broker.is_open() {
         return status::CLOSED;
     }
     let core = &mut broker.pointer.session_mut().core;
-    let answer = core.errors(alloc, QueueId(queue));
-    tell_errors(answer, out, needed)
+    match core.opening(QueueId(queue)) {
+        None => status::of_refusal(Refusal::UnknownQueue),
+        Some(_) => fill_errors(core.errors_of(QueueId(queue)), out, needed),
+    }
 }

@@ -1,19 +1,19 @@
 //! What a client may do.
 
-ghost use Rattle.std.specs.Prelude.{◌≡◌, ◌≤◌, ◌++◌, List, drop, false, length, map, true};
+ghost use Rattle.std.specs.Prelude.{◌≡◌, ◌≤◌, ◌++◌, drop, false, length, map, true};
 ghost use Rattle.core_model.specs.declared.answer.Answer.TheVariants as answers;
 ghost use Rattle.core_model.specs.declared.event.Query.TheVariants as query;
-ghost use Rattle.policy.specs.declared.object.Object.{Object};
 ghost use Rattle.policy.specs.declared.rights.Rights.{Rights};
 ghost use Rattle.hobbydresser_c.specs.Statuses.{closed, no_such};
 ghost use Rattle.hobbydresser_c.specs.Buffers.{FillsRecords};
 ghost use Rattle.hobbydresser_c.specs.Told.{held_told};
-ghost use Rattle.hobbydresser_c.specs.Calls.{IsSame, Replied, Tells, TellsRecords, WhereKnown, is_listed, is_open, object_named, rights_on};
+ghost use Rattle.hobbydresser_c.specs.Calls.{IsSame, Replied, Tells, TellsRecords, WhereKnown, history_of, is_open, object_named, rights_in_force};
 
 use crate::broker::Broker;
 use crate::granting::kind_of_number;
 use crate::status;
 use crate::told::{HeldRecord, held_told};
+use access_core::AccessCore;
 use aql_packet::ClientId;
 use bitflags::Flags;
 use core_model::Refusal;
@@ -80,38 +80,30 @@ pub extern "C" fn hd_list(
     tell_listing(answer, out, needed)
 }
 
-// Whether a listing has a right on an object.
-fn is_listed(rows: &[(Object, Rights)], object: Object, right: Right) -> bool
-    ensures { result ≡ is_listed rows.now object right }
+// The rights on an object that a client has in force.
+fn rights_in_force(core: &AccessCore, client: ClientId, object: Object) -> Result<Rights, Refusal>
+    ensures { result ≡ rights_in_force core.now.history client object }
 {
-    rows.iter().any(|row| object == row.0 && row.1.has(right))
+    if !core.policy().declares_client(client) {
+        return Err(Refusal::UnknownClient);
+    }
+    Ok(Rights::from_each(
+        core.has_right(client, object, Right::Use),
+        core.has_right(client, object, Right::Read),
+        core.has_right(client, object, Right::Write),
+        core.has_right(client, object, Right::Wait),
+        core.has_right(client, object, Right::Change),
+        core.has_right(client, object, Right::Launch),
+    ))
 }
 
-// The rights on an object that a listing has.
-fn rights_on(rows: &[(Object, Rights)], object: Object) -> Rights
-    ensures { result ≡ rights_on object rows.now }
-{
-    Rights::from_each(
-        is_listed(rows, object, Right::Use),
-        is_listed(rows, object, Right::Read),
-        is_listed(rows, object, Right::Write),
-        is_listed(rows, object, Right::Wait),
-        is_listed(rows, object, Right::Change),
-        is_listed(rows, object, Right::Launch),
-    )
-}
-
-// Tells the rights on an object that a listing has.
-fn tell_rights(
-    answer: Result<Sequence<(Object, Rights)>, Refusal>,
-    object: Object,
-    out: &mut u32,
-) -> u32
-    ensures { Tells (λ (rows : List (Object × Rights)). (rights_on object rows).0) result out.old out.new answer }
+// Tells rights, a bit each.
+fn tell_rights(answer: Result<Rights, Refusal>, out: &mut u32) -> u32
+    ensures { Tells (λ (rights : Rights). rights.0) result out.old out.new answer }
 {
     match answer {
-        Ok(rows) => {
-            *out = rights_on(rows.as_slice(), object).bits() as u32;
+        Ok(rights) => {
+            *out = rights.bits() as u32;
             status::OK
         }
         Err(why) => status::of_refusal(why),
@@ -129,7 +121,6 @@ fn object_named(kind: u32, number: u32) -> Option<Object>
 /// The rights that a client has in force on an object.
 #[unsafe(no_mangle)]
 pub extern "C" fn hd_rights(
-    alloc: Global,
     broker: &mut Broker,
     client: u32,
     kind: u32,
@@ -139,8 +130,7 @@ pub extern "C" fn hd_rights(
     ensures closed { is_open broker.old ≡ false → (result ≡ closed) × (rights.new ≡ rights.old) }
     ensures same { IsSame broker.old broker.new }
     ensures met { is_open broker.old ≡ true → WhereKnown (object_named kind number) ((result ≡ no_such) × (rights.new ≡ rights.old))
-        (λ object. Replied (query.List (record { 0 = client })) answers.Listing broker.old
-        (Tells (λ (rows : List (Object × Rights)). (rights_on object rows).0) result rights.old rights.new)) }
+        (λ object. Tells (λ (in_force : Rights). in_force.0) result rights.old rights.new (rights_in_force (history_of broker.old) (record { 0 = client }) object)) }
 {
     if !broker.is_open() {
         return status::CLOSED;
@@ -149,6 +139,6 @@ pub extern "C" fn hd_rights(
         return status::NO_SUCH;
     };
     let core = &mut broker.pointer.session_mut().core;
-    let answer = core.list(alloc, ClientId(client));
-    tell_rights(answer, object, rights)
+    let answer = rights_in_force(core, ClientId(client), object);
+    tell_rights(answer, rights)
 }

@@ -2,18 +2,17 @@
 
 ghost use Rattle.std.specs.Prelude.{◌≡◌, IfSome, true, false, if◌then◌else◌};
 ghost use Rattle.hobbydresser_c.specs.Calls.{IsSame, is_open};
-ghost use Rattle.hobbydresser_c.specs.Opening.{Judges, Opened, failure_told, kernel_told, number_of_section, opening_told, OpensWith, policy_fault_told, status_of_failure, status_of_kernel, status_of_opening};
+ghost use Rattle.hobbydresser_c.specs.Opening.{Judges, Opened, failure_told, kernel_told, number_of_section, opening_told, policy_fault_told, status_of_failure, status_of_kernel, status_of_opening};
 ghost use Rattle.hobbydresser_c.specs.Statuses.{closed, ok, open_already, status_of_cause};
 
 use crate::broker::Broker;
 use crate::digests::digest_of;
 use crate::kernels::{KernelCause, KernelError, KernelFault, check_kernels};
-use crate::layouts::layouts_of;
 use crate::session::Session;
 use crate::session_pointer::SessionPointer;
 use crate::status;
-use access_core::{AccessCore, Kernel, OpenFault};
-use policy::{Policy, PolicyFault, ReadPolicyError, Section, read_policy};
+use access_core::{AccessCore, OpenFault};
+use policy::{PolicyFault, ReadPolicyError, Section, read_policy};
 use std::alloc::Global;
 
 /// Where an opening failed, `hd_fault` in C: 0 stands for nothing.
@@ -51,30 +50,6 @@ pub enum Failure {
     Opening(OpenFault),
 }
 
-// A core over a policy, with its kernels, and what is kept beside it.
-fn open_over(
-    alloc: Global,
-    text: &[u8],
-    policy: Policy,
-    kernels: Vec<Kernel>,
-    places: usize,
-) -> Result<Session, Failure>
-    ensures { OpensWith text.now policy kernels.items places result }
-{
-    let layouts = match layouts_of(alloc, kernels.as_slice()) {
-        Ok(layouts) => layouts,
-        Err(_) => return Err(Failure::OutOfMemory),
-    };
-    match AccessCore::open(alloc, policy, kernels, places) {
-        Ok(core) => Ok(Session {
-            core,
-            digest: digest_of(text),
-            layouts,
-        }),
-        Err(why) => Err(Failure::Opening(why)),
-    }
-}
-
 // A core over the policy that a text declares, with its kernels.
 fn open_session(alloc: Global, text: &[u8], places: usize) -> Result<Session, Failure>
     ensures { Judges text.now places result }
@@ -89,7 +64,13 @@ fn open_session(alloc: Global, text: &[u8], places: usize) -> Result<Session, Fa
         Err(KernelError::OutOfMemory) => return Err(Failure::OutOfMemory),
         Err(KernelError::Fault(fault)) => return Err(Failure::Kernel(fault)),
     };
-    open_over(alloc, text, policy, kernels, places)
+    match AccessCore::open(alloc, policy, kernels, places) {
+        Ok(core) => Ok(Session {
+            core,
+            digest: digest_of(text),
+        }),
+        Err(why) => Err(Failure::Opening(why)),
+    }
 }
 
 // The number of a policy's array, 0 for none.
