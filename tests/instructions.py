@@ -129,15 +129,26 @@ class Counter:
             return 0
         return int(found[1])
 
-    def script(self, written, less, more, units):
+    def script(self, written, less, more, units, further=()):
         """Instructions a unit, where the second script does so many units more than the first."""
-        words = [self.brokerd, "run", self.policy(written), "--audit", "1048576"]
+        words = [self.brokerd, "run", self.policy(written), "--audit", "1048576", *further]
         few, many = (self.instructions(words, text(lines)) for lines in (less, more))
         return (many - few) / units
 
     def kernel(self, kernel):
         body, steps = kernel
         return self.script(policy(2, body), group(8), group(24), 16 * steps)
+
+    def replay(self, written):
+        """An entry of a journal of packets: its line is read and held against its digest, its call made and compared."""
+        words, journals = [self.policy(written)], []
+        for count in (500, 1500):
+            file = f"{self.room}/{count}.journal"
+            subprocess.run([self.brokerd, "run", *words, "--journal", file], input=text(packets(count)), capture_output=True)
+            with open(file, "rb") as it:
+                journals.append(it.read())
+        few, many = (self.instructions([self.brokerd, "replay", *words], it) for it in journals)
+        return (many - few) / 3000
 
     def check(self):
         words = [self.brokerd, "check"]
@@ -155,6 +166,8 @@ class Counter:
         yield "run line, 2 regions, 8 in flight", lambda: self.script(policy(2, "\n  ret;\n"), run_lines(2, 1, 100), run_lines(2, 1, 300), 200)
         yield "run line, 64 regions, 512 in flight", lambda: self.script(policy(64, "\n  ret;\n"), run_lines(64, 64, 10), run_lines(64, 64, 30), 20)
         yield "checked instruction", self.check
+        yield "scripted packet with a journal", lambda: self.script(sample, packets(500), packets(1500), 1000, ["--journal", "/dev/null"])
+        yield "replayed entry", lambda: self.replay(sample)
         if os.path.exists(BENCH):
             yield "packet of a lane", lambda: self.lanes()
 

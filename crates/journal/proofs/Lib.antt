@@ -1,6 +1,7 @@
 mod WordSteps
 mod WordLaws
 mod Ranges
+mod Spelled
 mod Times
 mod EntryLaws
 mod ReadBack

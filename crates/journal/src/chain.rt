@@ -1,14 +1,14 @@
 //! The lines of a journal, each with the digest of the line before and of its own text.
 
-ghost use Rattle.std.specs.Prelude.{◌≡◌, ◌++◌, ◌+◌, ◌<◌, ◌^◌, [], IfOk, IfSome, OnOk, Some, is_some, option_map, string_bytes};
-ghost use Rattle.journal.specs.Words.{words_behind, words_from};
+ghost use Rattle.std.specs.Prelude.{◌≡◌, ◌++◌, ◌∷◌, ◌+◌, ◌<◌, ◌^◌, [], IfOk, IfSome, OnOk, Some, bytes_eq, is_some, option_map, string_bytes};
+ghost use Rattle.journal.specs.Words.{text_of_bytes, words_behind, words_from};
 ghost use Rattle.journal.specs.Readings.{done, entry_at};
 ghost use Rattle.journal.specs.Lines.{digest_of, line, numbered, after, entry_line, line_text, entry_behind_number, entry_of_text, entry_of_line, fault_behind, fault_of_line};
 
 use crate::faults::{LineCause, LineFault};
 use crate::fitting::line_is_read_back;
 use crate::outcomes::{entry_at, whole};
-use crate::spelling::write_bytes;
+use crate::spelling::{are_spelled, write_bytes};
 use crate::splitting::{Rest, split_word};
 use crate::writing::write_entry;
 use core_model::Entry;
@@ -90,27 +90,30 @@ pub fn write_entry_line(
     Ok(Chain { digest, number })
 }
 
+// Whether the end of a line tells a digest: a blank, and its digits.
+fn tells_digest(told: &[u8], digest: &[u8]) -> bool
+    ensures { result ≡ bytes_eq told.now (32 ∷ text_of_bytes digest.now) }
+{
+    match told.split_first() {
+        Some((first, digits)) => *first == b' ' && are_spelled(digits, digest),
+        None => false,
+    }
+}
+
 // The text of a line and its digest, if that is the digest of the line before and of this text.
-pub(crate) fn line_text<'a>(
-    alloc: Global,
-    last: &[u8],
-    line: &'a [u8],
-) -> Result<Option<(&'a [u8], [u8; 32])>, AllocError>
-    ensures text { IfOk result (λ read. option_map (λ found. found.0.now) read ≡ line_text last.now line.now) }
-    ensures digest { IfOk result (λ read. IfSome read (λ found. found.1 ≡ digest_of last.now found.0.now)) }
+pub(crate) fn line_text<'a>(last: &[u8], line: &'a [u8]) -> Option<(&'a [u8], [u8; 32])>
+    ensures text { option_map (λ found. found.0.now) result ≡ line_text last.now line.now }
+    ensures digest { IfSome result (λ found. found.1 ≡ digest_of last.now found.0.now) }
 {
     if line.len() < 65 {
-        return Ok(None);
+        return None;
     }
     let (text, told) = line.split_at(line.len() - 65);
     let digest = digest_of(last, text);
-    let mut spelled = String::new(alloc);
-    spelled.push_str(" ")?;
-    write_bytes(&mut spelled, &digest)?;
-    if told == spelled.as_bytes() {
-        Ok(Some((text, digest)))
+    if tells_digest(told, &digest) {
+        Some((text, digest))
     } else {
-        Ok(None)
+        None
     }
 }
 
@@ -155,7 +158,7 @@ pub fn read_entry_line(
     requires { chain.now.number + 1 < 2 ^ 64 }
     ensures { IfOk result (λ read. read ≡ entry_of_line chain.now line.now) }
 {
-    match line_text(alloc, &chain.digest, line)? {
+    match line_text(&chain.digest, line) {
         Some(found) => {
             let text = found.0;
             let digest = found.1;
@@ -210,7 +213,7 @@ pub fn entry_line_fault(
             column: line.len() + 1,
         }));
     }
-    match line_text(alloc, &chain.digest, line)? {
+    match line_text(&chain.digest, line) {
         Some((text, _)) => fault_behind(alloc, chain.number + 1, text),
         None => Ok(Some(LineFault {
             cause: LineCause::OtherDigest,

@@ -195,8 +195,8 @@ pub fn bytes_at(alloc: Global, rest: Rest) -> Result<Option<(Sequence<u8>, Rest)
     Ok(Some((Sequence::from_vec(bytes), rest)))
 }
 
-// The first two digits of a word, and what stands behind them.
-fn split_digits(word: &[u8]) -> Option<(u8, u8, &[u8])>
+/// The first two digits of a word, and what stands behind them.
+pub fn split_digits(word: &[u8]) -> Option<(u8, u8, &[u8])>
     ensures { MatchOption result (length word.now < 2) (λ found. word.now ≡ found.0 ∷ found.1 ∷ found.2.now) }
 {
     let (high, behind) = word.split_first()?;

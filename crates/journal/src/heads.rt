@@ -136,7 +136,7 @@ pub fn read_head(
 ) -> Result<Result<Head, HeadFault>, AllocError>
     ensures { IfOk result (λ read. read ≡ head_of_line policies line.now) }
 {
-    match line_text(alloc, &[], line)? {
+    match line_text(&[], line) {
         Some((text, _)) => head_in(alloc, policies, text),
         None => Ok(Err(HeadFault::OtherDigest)),
     }

@@ -1,8 +1,9 @@
-//! How words are written.
+//! How words are written, and how bytes are held against digits.
 
-ghost use Rattle.std.specs.Prelude.{◌≡◌, ◌++◌, ◌<◌, ◌∷◌, [], OnOk, map, string_bytes};
+ghost use Rattle.std.specs.Prelude.{◌≡◌, ◌++◌, ◌<◌, ◌∷◌, ◌/◌, ◌%◌, ◌==◌, ◌&&◌, [], OnOk, bytes_eq, map, string_bytes};
 ghost use Rattle.journal.specs.Words.{hex_digit, text_of_byte, text_of_bytes, flag_digit};
 
+use crate::digits::split_digits;
 use std::alloc::AllocError;
 
 // Writes a hexadecimal digit, in lower case.
@@ -51,4 +52,40 @@ pub fn write_flags(out: &mut String, flags: &[bool]) -> Result<(), AllocError>
         write_flag(out, *flag)?;
     }
     Ok(())
+}
+
+// A hexadecimal digit, in lower case.
+fn hex_digit(value: u8) -> u8
+    requires { value < 16 }
+    ensures { result ≡ hex_digit value }
+{
+    if value < 10 {
+        b'0' + value
+    } else {
+        b'a' + (value - 10)
+    }
+}
+
+// Whether two digits are those of a byte.
+fn are_digits_of(high: u8, low: u8, byte: u8) -> bool
+    ensures { result ≡ (high == hex_digit (byte / 16) && low == hex_digit (byte % 16)) }
+{
+    high == hex_digit(byte / 16) && low == hex_digit(byte % 16)
+}
+
+/// Whether digits are those of bytes in order, and no more.
+pub fn are_spelled(told: &[u8], bytes: &[u8]) -> bool
+    ensures { result ≡ bytes_eq told.now (text_of_bytes bytes.now) }
+{
+    let mut rest = told;
+    for byte in bytes {
+        let Some((high, low, further)) = split_digits(rest) else {
+            return false;
+        };
+        if !are_digits_of(high, low, *byte) {
+            return false;
+        }
+        rest = further;
+    }
+    rest.is_empty()
 }

@@ -1,5 +1,6 @@
 //! The lines of a journal, read one at a time.
 
+use memchr::memchr;
 use std::alloc::Global;
 use std::io;
 
@@ -64,7 +65,7 @@ impl<'a, R: io::Read> Lines<'a, R> {
         let Some(left) = self.block.get(self.from..self.to) else {
             return Ok(false);
         };
-        match left.iter().position(|byte| *byte == b'\n') {
+        match memchr(b'\n', left) {
             Some(place) => {
                 self.line.extend_from_slice(left.split_at(place).0)?;
                 self.from = self.from.saturating_add(place).saturating_add(1);
