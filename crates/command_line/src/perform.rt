@@ -243,6 +243,26 @@ fn perform_run(rt: &HostRuntime, asked: &Asked<'_>) -> Option<Status> {
     Some(run(rt, policy, asked.further.as_slice(), manner))
 }
 
+// Draws a journal, or tells it.
+fn perform_shown(rt: &HostRuntime, asked: &Asked<'_>) -> Option<Status> {
+    let (policy, shown, explains, journal) = match asked.request {
+        Request::PictureOfJournal {
+            policy,
+            span,
+            explains,
+            journal,
+        } => (policy, Shown::Drawn { span }, explains, journal),
+        Request::ExplainJournal {
+            policy,
+            explains,
+            journal,
+        } => (policy, Shown::Told, explains, journal),
+        _ => return None,
+    };
+    let further = asked.further.as_slice();
+    Some(show_journal(rt, policy, further, shown, explains, journal))
+}
+
 // Runs a script with a journal, replays one, or shows one.
 fn perform_journal(rt: &HostRuntime, asked: &Asked<'_>) -> Option<Status> {
     let further = asked.further.as_slice();
@@ -261,28 +281,11 @@ fn perform_journal(rt: &HostRuntime, asked: &Asked<'_>) -> Option<Status> {
             };
             Some(run_with_journal(rt, policy, further, manner, journal))
         }
-        Request::PictureOfJournal {
-            policy,
-            span,
-            explains,
-            journal,
-        } => {
-            let shown = Shown::Drawn { span };
-            Some(show_journal(rt, policy, further, shown, explains, journal))
-        }
-        Request::ExplainJournal {
-            policy,
-            explains,
-            journal,
-        } => {
-            let shown = Shown::Told;
-            Some(show_journal(rt, policy, further, shown, explains, journal))
-        }
         Request::Replay {
             policy,
             tells_state,
         } => Some(replay(rt, policy, further, tells_state)),
-        _ => None,
+        _ => perform_shown(rt, asked),
     }
 }
 
