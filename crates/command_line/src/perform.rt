@@ -6,7 +6,7 @@ use crate::explaining::{PolicyFile, check_explaining};
 use crate::further::{Manner, run};
 use crate::listing::{ListForm, list_policy};
 use crate::recording::Recorded;
-use crate::replayed::{Shown, replay, run_with_journal, show_journal};
+use crate::replayed::{Shown, run_with_journal, show_journal};
 use crate::request::{Asked, Request, Unread, read_words};
 use crate::retelling::replay_telling;
 use crate::syntax::MOST_NEXT;
@@ -252,6 +252,26 @@ fn perform_run(rt: &HostRuntime, asked: &Asked<'_>) -> Option<Status> {
     Some(run(rt, policy, asked.further.as_slice(), manner))
 }
 
+// Draws a journal, or tells it.
+fn perform_shown(rt: &HostRuntime, asked: &Asked<'_>) -> Option<Status> {
+    let (policy, shown, explains, journal) = match asked.request {
+        Request::PictureOfJournal {
+            policy,
+            span,
+            explains,
+            journal,
+        } => (policy, Shown::Drawn { span }, explains, journal),
+        Request::ExplainJournal {
+            policy,
+            explains,
+            journal,
+        } => (policy, Shown::Told, explains, journal),
+        _ => return None,
+    };
+    let further = asked.further.as_slice();
+    Some(show_journal(rt, policy, further, shown, explains, journal))
+}
+
 // Runs a script with a journal, replays one, or shows one.
 fn perform_journal(rt: &HostRuntime, asked: &Asked<'_>) -> Option<Status> {
     let further = asked.further.as_slice();
@@ -270,35 +290,12 @@ fn perform_journal(rt: &HostRuntime, asked: &Asked<'_>) -> Option<Status> {
             };
             Some(run_with_journal(rt, policy, further, manner, journal))
         }
-        Request::PictureOfJournal {
-            policy,
-            span,
-            explains,
-            journal,
-        } => {
-            let shown = Shown::Drawn { span };
-            Some(show_journal(rt, policy, further, shown, explains, journal))
-        }
-        Request::ExplainJournal {
-            policy,
-            explains,
-            journal,
-        } => {
-            let shown = Shown::Told;
-            Some(show_journal(rt, policy, further, shown, explains, journal))
-        }
         Request::Replay {
             policy,
             tells_state,
             explains,
-        } => {
-            if explains || rt.stderr().is_terminal() {
-                Some(replay_telling(rt, policy, further, tells_state, explains))
-            } else {
-                Some(replay(rt, policy, further, tells_state))
-            }
-        }
-        _ => None,
+        } => Some(replay_telling(rt, policy, further, tells_state, explains)),
+        _ => perform_shown(rt, asked),
     }
 }
 

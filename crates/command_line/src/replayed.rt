@@ -3,14 +3,13 @@
 use crate::drawing::{draw_recorded, tell_recorded};
 use crate::explained_run::Further;
 use crate::explaining::PolicyFile;
-use crate::further::read_files;
+use crate::further::{beside_input, read_files};
 use crate::perform::{STANDARD_INPUT, failed, read_file, unread};
 use crate::recording::{Recorded, run_recording};
-use crate::terminal::{Beside, TerminalReader};
+use crate::terminal::TerminalReader;
 use commands::{PolicyText, Span, Status};
-use journal_commands::replay_policies;
 use std::fs::File;
-use std::io::{self, IsTerminal};
+use std::io;
 
 /// What is done with a journal in a file: of its entries these are drawn, or all are told.
 #[derive(Clone, Copy)]
@@ -28,15 +27,6 @@ fn read_further<'a>(
     match read_files(rt, names, texts) {
         Ok(()) => Ok(()),
         Err(error) => Err((names.get(texts.len()).copied(), error)),
-    }
-}
-
-// What is written beside lines on standard input: their count, where standard error is a terminal.
-fn beside(rt: &HostRuntime) -> Beside {
-    if rt.stderr().is_terminal() {
-        Beside::Count
-    } else {
-        Beside::Nothing
     }
 }
 
@@ -93,33 +83,8 @@ pub fn run_with_journal(
     };
     let mut stdin = rt.stdin();
     let mut err = rt.stderr();
-    let mut script = TerminalReader::new(rt.alloc(), &mut stdin, &mut err, beside(rt));
+    let mut script = TerminalReader::new(rt.alloc(), &mut stdin, &mut err, beside_input(rt));
     run_into(rt, file, further, manner, journal, &mut script)
-}
-
-/// Replays the journal on standard input over the policy in a file. Where standard error is a terminal, its lines are counted
-/// there.
-pub fn replay(rt: &HostRuntime, policy: &str, names: &[&str], tells_state: bool) -> Status {
-    let text = match read_file(rt, policy) {
-        Ok(text) => text,
-        Err(error) => return unread(rt, policy, false, &error),
-    };
-    let mut texts = Vec::new(rt.alloc());
-    if let Err((name, error)) = read_further(rt, names, &mut texts) {
-        return unread(rt, name.unwrap_or(policy), false, &error);
-    }
-    let mut stdin = rt.stdin();
-    let mut err = rt.stderr();
-    let mut journal = TerminalReader::new(rt.alloc(), &mut stdin, &mut err, beside(rt));
-    replay_policies(
-        rt.alloc(),
-        text.as_slice(),
-        texts.as_slice(),
-        tells_state,
-        &mut journal,
-        &mut rt.stdout(),
-        &mut rt.stderr(),
-    )
 }
 
 // Shows a journal over the policies in files.

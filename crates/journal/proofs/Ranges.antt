@@ -1,6 +1,6 @@
 -- Words that tell values of their types fit, and so do words that come one behind the other.
-use Rattle.std.proofs.Common.{◌≡◌, ℕ, ◌<◌, ◌+◌, Bool, true, List, [], ◌∷◌, ◌++◌, length, get_or, refl, ◌∙◌, sym, arith, Fits, w8}
-use Rattle.std.specs.Prelude.{◌^◌, nat_lt, ◌&&◌, ◌==◌, ℤ, pos, negsuc, flat_map}
+use Rattle.std.proofs.Common.{◌≡◌, ℕ, ◌<◌, Bool, true, List, [], ◌∷◌, ◌++◌, length, get_or, refl, arith, Fits, w8}
+use Rattle.std.specs.Prelude.{◌^◌, nat_lt, ℤ, pos, negsuc, flat_map}
 use Rattle.std.specs.List.{list_all}
 use Rattle.std.proofs.lemmas.Bool.Decides.{nat_tests}
 use Rattle.std.proofs.lemmas.List.Elements.{All-from_get_or}
@@ -8,7 +8,7 @@ use Rattle.std.proofs.lemmas.List.Sums.{list_all-from_AllPass}
 use Rattle.queue_error.specs.declared.rule.Rule.{Rule}
 use Rattle.queue_error.specs.declared.rule.Rule.TheVariants.{L1, L2, L3, L4, L5, L6, L7, L8, L9, L10, A1, A2, A3, A4, A5, A6, A7, B1}
 use Rattle.queue_error.specs.Texts.{text_of_rule}
-use Rattle.journal.specs.Words.{Word, Name, Number, Signed, Bytes, Packet, fits, are_bytes}
+use Rattle.journal.specs.Words.{Word, Name, Number, Signed, Bytes, Packet, fits}
 use Rattle.journal.specs.Entries.{fit, words_of_list}
 use Rattle.journal.proofs.WordLaws.{both, both_first, both_second}
 use lib.Signed.{mag}

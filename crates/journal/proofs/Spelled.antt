@@ -1,6 +1,7 @@
 -- Digits that are held against bytes, two digits more.
 use Rattle.std.proofs.Common.{◌≡◌, ℕ, ◌+◌, ◌/◌, ◌%◌, ◌<◌, ◌≤◌, Bool, true, false, List, [], ◌∷◌, length, get_or, drop, refl, sym, ap, ◌∙◌, arith}
 use Rattle.std.specs.Prelude.{◌==◌, ◌&&◌, bytes_eq}
+use Rattle.std.proofs.lemmas.Bool.Decides.{nat_tests}
 use Rattle.std.proofs.lemmas.List.{drop_all}
 use Rattle.journal.specs.Words.{hex_digit, text_of_bytes}
 use Rattle.journal.proofs.WordSteps.{left_at}
@@ -46,7 +47,9 @@ spelled_short (digit ∷ other ∷ more) bytes i h few = absurd (omega arith)
 
 is_none : (rest : List ℕ) → (length rest == 0) ≡ bytes_eq rest []
 is_none [] = refl
-is_none (digit ∷ rest) = refl
+is_none (digit ∷ rest) =
+    let some : (length (digit ∷ rest) == 0) ≡ false = grind (arith, nat_tests) in
+    some
 
 -- no byte is left
 pub spelled_all : (rest bytes : List ℕ) (i : ℕ) → length bytes ≤ i → bytes_eq rest (text_of_bytes (drop i bytes)) ≡ (length rest == 0)

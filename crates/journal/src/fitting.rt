@@ -45,9 +45,11 @@ fn bytes_fit(_bytes: &[u8])
 {}
 
 // A packet's 64 bytes.
-fn packet_fits(_bytes: &[u8; 64])
-    ensures { fits (Packet _bytes.now) ≡ true }
-{}
+fn packet_fits(bytes: &[u8; 64])
+    ensures { fits (Packet bytes.now) ≡ true }
+{
+    bytes_fit(bytes);
+}
 
 // Five flags.
 fn flags_fit(_flags: &[bool; 5])

@@ -82,10 +82,11 @@ pub fn are_spelled(told: &[u8], bytes: &[u8]) -> bool
         let Some((high, low, further)) = split_digits(rest) else {
             return false;
         };
-        if !are_digits_of(high, low, *byte) {
+        if are_digits_of(high, low, *byte) {
+            rest = further;
+        } else {
             return false;
         }
-        rest = further;
     }
     rest.is_empty()
 }

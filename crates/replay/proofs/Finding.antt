@@ -63,6 +63,9 @@ module _ (policy : Declared) (kernels : List Program) (further : List Declared) 
     whole = so_far.whole;
     known = so_far.known;
     stops = replayed-stopped policy kernels further (take i entries) entry old new so_far why takes;
+    standing = old;
+    taken = so_far;
+    takes = takes;
   }
 
   pub judged_all : (i : ℕ) (replay : Replayed) → length entries ≤ i → IsReplayed policy kernels further (take i entries) replay → IsReplayed policy kernels further entries replay

@@ -14,15 +14,14 @@ use Rattle.core_model.specs.Owed.{Owed, enters, owed}
 use Rattle.core_model.specs.States.{state_after}
 use Rattle.core_model.proofs.Legality.{IsWhole-more}
 use Rattle.core_model.proofs.States.{begin-opening, owed-now, state-join, state-now, whole-legal}
-use Rattle.replay.specs.declared.replay.TheConstants.{PLACES}
 use Rattle.replay.specs.declared.stop.Due.{Due}
 use Rattle.replay.specs.declared.stop.Stop.{Stop}
 use Rattle.replay.specs.declared.stop.Stop.TheVariants as stop
-use Rattle.replay.specs.Replays.{GoesOn, IsFull, IsKnown, IsUnknown, Replayed, Takes, Tells, owed_next, state}
+use Rattle.replay.specs.Replays.{GoesOn, IsFull, IsKnown, IsUnknown, Replayed, Takes, Tells, audit_places, owed_next, state}
 use Rattle.replay.specs.Verdicts.{IsReplayed, StopsAt}
 use Rattle.replay.proofs.Bounded.{few-flying}
 
-pub replayed-none : (policy : Declared) (kernels : List Program) (further : List Declared) (replay : Replayed) → IsOpening replay.history policy kernels PLACES → replay.further ≡ further → IsReplayed policy kernels further [] replay
+pub replayed-none : (policy : Declared) (kernels : List Program) (further : List Declared) (replay : Replayed) → IsOpening replay.history policy kernels audit_places → replay.further ≡ further → IsReplayed policy kernels further [] replay
 replayed-none policy kernels further replay is same = record {
   whole = record { opens = refl; legal = tt };
   known = All-nil (λ (entry : Entry). IsKnown policy further entry.event);

@@ -19,7 +19,6 @@ use Rattle.access_core.specs.Opening.{open_fault, program_of}
 use Rattle.access_core.specs.declared.access.OpenFault.{OpenFault}
 use Rattle.access_core.specs.declared.access.OpenFault.TheVariants as fault
 use Rattle.access_core.specs.declared.kernel.Kernel.{Kernel}
-use Rattle.replay.specs.declared.replay.TheConstants.{PLACES}
 use Rattle.replay.specs.declared.stop.Due.{Due}
 use Rattle.replay.specs.declared.stop.Due.TheVariants as due
 use Rattle.replay.specs.declared.stop.Stop.{Stop}
@@ -69,12 +68,16 @@ IsUnknown declared further _ = ⊥
 
 -- ---- openings
 
+-- how many places the audit of a replay has (own)
+abbrev pub audit_places : ℕ
+audit_places = 65536
+
 -- a replay is opened as a core is over the same: nothing happened yet (own)
 abbrev pub Opens : Declared → List Kernel → List Declared → Result Replayed OpenFault → Type 0
 Opens policy kernels further (Ok replay) =
-    (open_fault policy kernels PLACES ≡ None) × IsOpening replay.history policy (map program_of kernels) PLACES × (replay.further ≡ further)
-Opens policy kernels further (Err fault.OutOfMemory) = open_fault policy kernels PLACES ≡ None
-Opens policy kernels further (Err why) = open_fault policy kernels PLACES ≡ Some why
+    (open_fault policy kernels audit_places ≡ None) × IsOpening replay.history policy (map program_of kernels) audit_places × (replay.further ≡ further)
+Opens policy kernels further (Err fault.OutOfMemory) = open_fault policy kernels audit_places ≡ None
+Opens policy kernels further (Err why) = open_fault policy kernels audit_places ≡ Some why
 
 -- ---- one entry
 

@@ -5,9 +5,8 @@ ghost use Rattle.kernel_check.specs.Programs.{Program};
 ghost use Rattle.policy.specs.Policy.{Declared};
 ghost use Rattle.core_model.specs.declared.entry.Entry.{Entry};
 ghost use Rattle.core_model.specs.Legal.{IsOpening};
-ghost use Rattle.replay.specs.declared.replay.TheConstants.{PLACES};
 ghost use Rattle.replay.specs.declared.stop.Stop.{Stop};
-ghost use Rattle.replay.specs.Replays.{Replayed, Takes};
+ghost use Rattle.replay.specs.Replays.{Replayed, Takes, audit_places};
 ghost use Rattle.replay.specs.Verdicts.{IsReplayed, StopsAt};
 
 /// What a replay has taken is a whole legal history of its policy and kernels, and it is in the state behind it: an
@@ -16,7 +15,7 @@ ghost use Rattle.replay.specs.Verdicts.{IsReplayed, StopsAt};
 /// came before. It does nothing.
 pub fn what_is_taken_is_a_whole_history()
     ensures opened { (policy : Declared) (kernels : List Program) (further : List Declared) (replay : Replayed) →
-        IsOpening replay.history policy kernels PLACES → replay.further ≡ further → IsReplayed policy kernels further [] replay }
+        IsOpening replay.history policy kernels audit_places → replay.further ≡ further → IsReplayed policy kernels further [] replay }
     ensures taken { (policy : Declared) (kernels : List Program) (further : List Declared) (entries : List Entry) (entry : Entry) (old new : Replayed) →
         IsReplayed policy kernels further entries old → Takes old entry (Ok tt) new → IsReplayed policy kernels further (entries ++ entry ∷ []) new }
     ensures stopped { (policy : Declared) (kernels : List Program) (further : List Declared) (entries : List Entry) (entry : Entry) (why : Stop) (old new : Replayed) →

@@ -67,11 +67,11 @@ impl Replay {
         &self.core
     }
 
-    /// Makes the call of an entry, and holds what came against the entry: outcome and changes. Refused in
-    /// this order: memory to empty the audit isn't to be had, or no entry more finds room even then; the entry is a
-    /// reload of rows that none of the further policies has; memory for the call isn't to be had; the entry isn't
-    /// what its call is owed, and then the replay has gone on by what was. After any other refusal its state is as
-    /// before.
+    /// Makes the call of an entry, and holds what came against the entry: outcome and changes. Refused where memory isn't
+    /// to be had; where no entry more finds room in an empty audit; where the entry is a reload of rows that none of the
+    /// further policies has; and where the entry isn't what its call is owed, and then the replay has gone on by what
+    /// was. After any other refusal its state is as before. Which of the first three is told, where several hold, isn't
+    /// said.
     pub fn take(&mut self, alloc: Global, entry: &Entry) -> Result<(), Stop>
         ensures { Takes self.old entry.now result self.new }
     {
