@@ -58,7 +58,11 @@ fn values<'a>(
 
 // Puts arguments at their places behind others.
 #[tactic(auto, unfolding(crate::specs::Blocks::block_from))]
-fn put_arguments(block: &mut Vec<u8>, places: &[ArgumentPlace], values: &[u64]) -> Result<(), AllocError>
+fn put_arguments(
+    block: &mut Vec<u8>,
+    places: &[ArgumentPlace],
+    values: &[u64],
+) -> Result<(), AllocError>
     ensures { OnOk result (block.new.items ≡ block_from block.old.items places.now values.now) }
 {
     let [place, later @ ..] = places else {

@@ -15,7 +15,7 @@ use crate::operands::{
     Read, Sizes, address, fault_at, grid_sizes, group_sizes, kernel, keyword, next, number,
     numeral, signal,
 };
-use crate::options::{PacketKind, Options, is_option, read_options};
+use crate::options::{Options, PacketKind, is_option, read_options};
 use crate::packets::{
     add_packet, all_of_packet, any_of_packet, copy_packet, dispatch_packet, fill_packet, put_packet,
 };

@@ -17,8 +17,8 @@ mod spacing;
 mod verbs;
 
 pub use book::{Book, BookError, KernelShape};
+pub use comments::without_comment;
 pub use fault::{Fault, LineError, Want};
 pub use forms::{Turned, put_lines};
 pub use layout::ArgumentPlace;
 pub use run::{AssembleError, assemble_script, fault_text};
-pub use comments::without_comment;

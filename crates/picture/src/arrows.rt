@@ -4,8 +4,8 @@ ghost use Rattle.std.specs.Prelude.{◌≡◌, ◌<◌, ◌==◌, ◌++◌, ◌�
 ghost use Rattle.picture.specs.Arrows.{zero_by, zeros_after, last_zero, signal_at, dependency_of, dependency_at, arrow_from};
 
 use crate::element::Spot;
-use crate::seats::{Seat, seat_of};
 use crate::said::is_seen;
+use crate::seats::{Seat, seat_of};
 use aql_packet::{Packet, PacketId, QueueId, SignalHandle};
 use core_model::{Effect, Satisfied};
 use std::alloc::AllocError;
