@@ -6,6 +6,7 @@
 mod asked;
 mod calls;
 mod denied;
+mod failed;
 mod faults;
 mod kernel_faults;
 mod kernel_texts;
@@ -24,13 +25,12 @@ mod rings;
 mod scene;
 mod texts;
 mod vocabulary;
-mod work;
 
 pub use asked::{Asked, asked_by};
 pub use kernel_faults::{kernel_fault, no_entry, text_help};
-pub use lacks::{Lack, is_in_force, lack_of, lack_of_need};
-pub use laws::{told_lacks_are_lacks, told_owners_own, told_rights_are_in_force};
-pub use lines::bad_line;
+pub use lacks::{Lack, lack_of, lack_of_need, was_in_force};
+pub use laws::{told_lacks_are_lacks, told_lacks_keep_from_a_launch, told_rights_are_in_force};
+pub use lines::{bad_line, bad_line_among};
 pub use owners::owner;
 pub use policies::policy_fault;
 pub use replies::retold;

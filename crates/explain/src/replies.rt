@@ -53,7 +53,6 @@ fn busy(
 
 // What became of a packet that was handed over.
 fn taken(
-    alloc: Global,
     out: &mut String,
     scene: &Scene<'_>,
     queue: QueueId,
@@ -61,8 +60,8 @@ fn taken(
 ) -> Result<(), AllocError> {
     match taken {
         Taken::Launched => Ok(()),
-        Taken::Denied(error) => tell_denied(alloc, out, scene, error),
-        Taken::Waiting(cause) => tell_waiting(alloc, out, scene, queue, *cause),
+        Taken::Denied(error) => tell_denied(out, scene, error),
+        Taken::Waiting(cause) => tell_waiting(out, scene, queue, *cause),
     }
 }
 
@@ -89,9 +88,7 @@ fn answered(
     answer: &world::Answer,
 ) -> Result<(), AllocError> {
     match answer {
-        world::Answer::Taken { taken: became, .. } => {
-            taken(alloc, out, scene, queue_of(asked), became)
-        }
+        world::Answer::Taken { taken: became, .. } => { taken(out, scene, queue_of(asked), became) }
         world::Answer::Core(Answer::Outcome(came)) => outcome(alloc, out, scene, came),
         world::Answer::Header { word, .. } => {
             if !aql_packet::is_invalid(*word) {
@@ -141,31 +138,28 @@ fn tell(
         Ok(LineAnswer::Empty) => empty(out, scene, world, queue_of(asked)),
         Ok(LineAnswer::Sent(sent)) => tell_sent(out, scene, world, queue_of(asked), sent),
         Ok(_) => Ok(()),
-        Err(Refusal::Core(refusal)) => tell_refusal(alloc, out, scene, world, asked, refusal),
+        Err(Refusal::Core(refusal)) => tell_refusal(out, scene, world, asked, refusal),
         Err(Refusal::NotAStep) => tell_step(out, scene, world, asked),
         Err(Refusal::Spent) => tell_spent(out, scene, asked),
     }
 }
 
-/// What is told beside the reply to a line of a script, the line of this number, by the world after it: why it was refused
-/// or denied, failed, waits or found nothing, in lines; no text where none of that happened.
+/// Puts behind a text what is told beside the reply to a line of a script, the line of this number, by the world after
+/// it: why it was refused or denied, failed, waits or found nothing, in lines; nothing where none of that happened.
 pub fn retold(
     alloc: Global,
+    out: &mut String,
     world: &World,
     line: u64,
     asked: Asked,
     reply: &LineReply,
-) -> Result<String, AllocError> {
+) -> Result<(), AllocError> {
     let core = world.core();
     let scene = Scene {
+        core,
         policy: core.policy(),
         rows: core.rows(),
-        start: core.start(),
-        entries: core.audit(),
-        in_flight: core.table_sizes().argument_blocks,
         line,
     };
-    let mut out = String::new(alloc);
-    tell(alloc, &mut out, &scene, world, asked, reply)?;
-    Ok(out)
+    tell(alloc, out, &scene, world, asked, reply)
 }
