@@ -6,12 +6,10 @@ use Rattle.policy.specs.declared.rights.Right.{Right}
 use Rattle.policy.specs.declared.rows.PolicyRows.{PolicyRows}
 use Rattle.policy.specs.Rules.{rows_allow}
 use Rattle.core_model.specs.declared.entry.Entry.{Entry}
-use Rattle.core_model.specs.declared.need.Need.{Need}
 use Rattle.grants.specs.Ledger as ledger
 use Rattle.core_model.specs.declared.origin.Origin.{Origin}
 use Rattle.core_model.specs.Grants.{in_force, in_force_after}
 use Rattle.core_model.specs.History.{History, beginning}
-use Rattle.core_model.specs.Needs.{object_of}
 use Rattle.core_model.specs.Policies.{rows_at}
 use Rattle.explain.specs.declared.lacks.Lack.{Lack}
 
@@ -30,7 +28,3 @@ abbrev pub lack_of : History → ClientId → Object → Right → Option Lack
 lack_of history client object right =
     if in_force (beginning history) history.entries client object right then None
     else Some (lacked (rows_at (beginning history) history.entries) client object right)
-
--- the right that the client lacks of what its packet needs (own)
-abbrev pub lack_of_need : History → ClientId → Need → Option Lack
-lack_of_need history client need = lack_of history client (object_of need.subject) need.right

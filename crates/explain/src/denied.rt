@@ -1,10 +1,9 @@
 //! Why a packet was denied, by the rule that is told and the packet's own bytes.
 
 use crate::failed::handed_over;
-use crate::lacks::lack_of_need;
-use crate::owners::owner;
+use crate::lacks::object_of;
 use crate::packets::{tell_header, tell_reserved, tell_sizes, tell_type};
-use crate::scene::{Scene, begin, lack_in, say, tell_lack};
+use crate::scene::{Scene, begin, say, tell_lack};
 use crate::texts::{lies_whole, put_object, put_range};
 use aql_packet::{KernelDispatch, Packet, decode};
 use core_model::{Need, Opening, Range, Subject};
@@ -79,7 +78,10 @@ fn tell_need(
             return tell_range(out, scene, range);
         }
     }
-    match lack_of_need(scene.core, opening.client, need) {
+    match scene
+        .known
+        .lack_of(opening.client, object_of(&need.subject), need.right)
+    {
         Some(lack) => tell_lack(out, scene, &lack, wanted(rule)),
         None => Ok(()),
     }
@@ -169,7 +171,7 @@ fn tell_block(
         return tell_range(out, scene, range);
     }
     let region = Object::Region(regions::region_of(range.address));
-    match lack_in(scene, opening.client, region, Right::Read) {
+    match scene.known.lack_of(opening.client, region, Right::Read) {
         Some(lack) => tell_lack(out, scene, &lack, ", in which the argument block lies"),
         None => Ok(()),
     }
@@ -240,7 +242,7 @@ fn tell_rules(
     error: &QueueError,
     packet: &Packet,
 ) -> Result<(), AllocError> {
-    let Some(opening) = owner(scene.core, error.queue) else {
+    let Some(opening) = scene.known.opening(error.queue) else {
         return Ok(());
     };
     for rule in RULES {
@@ -283,7 +285,7 @@ pub fn tell_denied(
         out,
         "packet {packet} of queue {queue} breaks {rule}, and the queue launches nothing more"
     )?;
-    match handed_over(scene.core.audit(), error.queue, error.packet) {
+    match handed_over(scene.known.entries(), error.queue, error.packet) {
         Some(found) => tell_bytes(out, scene, error, &found.bytes),
         None => Ok(()),
     }

@@ -73,7 +73,7 @@ fn first_flying<'a>(
 
 /// The packet of an error that was in flight, and since when it was.
 pub fn flown_of<'a>(scene: &Scene<'a>, error: &QueueError) -> Option<(Packet, Flown<'a>)> {
-    let Some(found) = handed_over(scene.core.audit(), error.queue, error.packet) else {
+    let Some(found) = handed_over(scene.known.entries(), error.queue, error.packet) else {
         let packet = first_flying(scene.core.start(), error.queue, error.packet)?;
         return Some((packet.flying.packet, Flown::Before(packet)));
     };
@@ -109,7 +109,7 @@ fn seen_by(entry: &Entry, error: &QueueError) -> Option<Satisfied> {
 pub fn seen_before(scene: &Scene<'_>, error: &QueueError, flown: Flown<'_>) -> Satisfied {
     let (mut all, entries) = match flown {
         Flown::Since(found) => (LAUNCH_PROGRESS.satisfied, found.since),
-        Flown::Before(packet) => (packet.progress.satisfied, scene.core.audit()),
+        Flown::Before(packet) => (packet.progress.satisfied, scene.known.entries()),
     };
     for entry in entries {
         if let Some(seen) = seen_by(entry, error) {

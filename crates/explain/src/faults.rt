@@ -3,9 +3,8 @@
 use crate::failed::{Flown, flown_of, seen_before};
 use crate::kernel_texts::{line_of, put_kernel, put_marked};
 use crate::lacks::was_in_force;
-use crate::owners::owner;
 use crate::rings::dependencies;
-use crate::scene::{Scene, begin, lack_in, say, tell_lack};
+use crate::scene::{Scene, begin, say, tell_lack};
 use crate::texts::{put_address, put_client, put_object};
 use aql_packet::{Address, KernelDispatch, Packet, REGION_SPAN, SignalHandle};
 use byteorder::{ByteOrder, LittleEndian};
@@ -403,7 +402,7 @@ fn tell_wanted(
     if had(launch, region, right) {
         return Ok(());
     }
-    match lack_in(scene, client, region, right) {
+    match scene.known.lack_of(client, region, right) {
         Some(lack) => tell_lack(out, scene, &lack, ", and needs it before the launch"),
         None => {
             begin(out, scene)?;
@@ -578,7 +577,7 @@ fn tell_dispatch(
     let Some(place) = error.place else {
         return Ok(());
     };
-    let Some(opening) = owner(scene.core, error.queue) else {
+    let Some(opening) = scene.known.opening(error.queue) else {
         return Ok(());
     };
     let Some(program) = scene.core.program(dispatch.kernel_object) else {
@@ -648,7 +647,7 @@ pub fn tell_failed(
     let Satisfied(seen) = seen_before(scene, error, flown);
     let signals = dependencies(&packet);
     for (signal, was_seen) in signals.iter().zip(seen.iter()) {
-        if let Some(value) = scene.core.value_of(*signal) {
+        if let Some(value) = scene.known.value_of(*signal) {
             if value < 0 && !*was_seen {
                 tell_negative(out, scene, *signal, value)?;
             }

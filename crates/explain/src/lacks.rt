@@ -4,11 +4,11 @@ ghost use Rattle.std.specs.Prelude.{◌≡◌};
 ghost use Rattle.core_model.specs.Grants.{in_force_after};
 ghost use Rattle.core_model.specs.Needs.{object_of};
 ghost use Rattle.policy.specs.Pairs.{is_one_of};
-ghost use Rattle.explain.specs.Lacks.{in_force_since, lack_of, lack_of_need, lacked};
+ghost use Rattle.explain.specs.Lacks.{in_force_since, lack_of, lacked};
 
 use access_core::AccessCore;
 use aql_packet::ClientId;
-use core_model::{Call, Entry, Event, Need, Origin, Subject};
+use core_model::{Call, Entry, Event, Origin, Subject};
 use policy::{Object, PolicyRows, Right, Rights};
 use regions::region_of;
 
@@ -108,19 +108,12 @@ pub fn lack_of(core: &AccessCore, client: ClientId, object: Object, right: Right
     }
 }
 
-// The object that a right is needed on: of a range, its region.
-pub(crate) fn object_of(subject: &Subject) -> Object
+/// The object that a right is needed on: of a range, its region.
+pub fn object_of(subject: &Subject) -> Object
     ensures { result ≡ object_of subject.now }
 {
     match subject {
         Subject::Object(object) => *object,
         Subject::Range(range) => Object::Region(region_of(range.address)),
     }
-}
-
-/// The right that a client lacks of what its packet needs, if it isn't in force.
-pub fn lack_of_need(core: &AccessCore, client: ClientId, need: &Need) -> Option<Lack>
-    ensures { result ≡ lack_of_need core.now.history client need.now }
-{
-    lack_of(core, client, object_of(&need.subject), need.right)
 }

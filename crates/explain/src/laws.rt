@@ -12,10 +12,11 @@ ghost use Rattle.core_model.specs.declared.origin.Origin.{Origin};
 ghost use Rattle.core_model.specs.Grants.{in_force};
 ghost use Rattle.core_model.specs.History.{History, begin, beginning};
 ghost use Rattle.core_model.specs.LaunchRules.{lies_whole, need_is_met};
+ghost use Rattle.core_model.specs.Needs.{object_of};
 ghost use Rattle.core_model.specs.Owed.{facts_of};
 ghost use Rattle.core_model.specs.Policies.{rows_at};
 ghost use Rattle.policy.specs.Policy.{region_lengths};
-ghost use Rattle.explain.specs.Lacks.{in_force_since, lack_of, lack_of_need, lacked};
+ghost use Rattle.explain.specs.Lacks.{in_force_since, lack_of, lacked};
 
 /// Which rights are told to have been in force at a launch: those that were, in any history, with any kernels.
 #[tactic(auto, unfolding(core_model::specs::Grants::in_force))]
@@ -37,5 +38,5 @@ pub fn told_lacks_are_lacks()
 pub fn told_lacks_keep_from_a_launch()
     ensures { (history : History) (opening : Opening) (need : Need) →
         need_is_met (facts_of (beginning history) history.entries opening) need
-        ≡ (lies_whole (region_lengths (beginning history).policy) need.subject && is_none (lack_of_need history opening.client need)) }
+        ≡ (lies_whole (region_lengths (beginning history).policy) need.subject && is_none (lack_of history opening.client (object_of need.subject) need.right)) }
 {}

@@ -6,11 +6,13 @@
 mod asked;
 mod calls;
 mod denied;
+mod entries;
 mod failed;
 mod faults;
 mod kernel_faults;
 mod kernel_texts;
 mod keys;
+mod known;
 mod lacks;
 mod laws;
 mod limits;
@@ -27,8 +29,9 @@ mod texts;
 mod vocabulary;
 
 pub use asked::{Asked, asked_by};
+pub use entries::failure_told;
 pub use kernel_faults::{kernel_fault, no_entry, text_help};
-pub use lacks::{Lack, lack_of, lack_of_need, was_in_force};
+pub use lacks::{Lack, lack_of, was_in_force};
 pub use laws::{told_lacks_are_lacks, told_lacks_keep_from_a_launch, told_rights_are_in_force};
 pub use lines::{bad_line, bad_line_among};
 pub use owners::owner;

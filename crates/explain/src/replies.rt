@@ -4,6 +4,7 @@ use crate::asked::Asked;
 use crate::calls::tell_refusal;
 use crate::denied::tell_denied;
 use crate::faults::{tell_failed, tell_fault};
+use crate::known::Known;
 use crate::refusals::{tell_spent, tell_step};
 use crate::rings::{tell_busy, tell_empty, tell_waiting};
 use crate::scene::{Scene, begin};
@@ -154,12 +155,6 @@ pub fn retold(
     asked: Asked,
     reply: &LineReply,
 ) -> Result<(), AllocError> {
-    let core = world.core();
-    let scene = Scene {
-        core,
-        policy: core.policy(),
-        rows: core.rows(),
-        line,
-    };
+    let scene = Scene::of(Known::Now(world.core()), line);
     tell(alloc, out, &scene, world, asked, reply)
 }

@@ -1,20 +1,35 @@
 //! What an explanation is told over: a core, and the number of the script's line.
 
-use crate::lacks::{Lack, lack_of};
+use crate::known::Known;
+use crate::lacks::Lack;
 use crate::texts::{put_client, put_grant, put_object};
 use access_core::AccessCore;
-use aql_packet::ClientId;
 use policy::{Kind, Object, Policy, PolicyRows, Right};
 use std::alloc::AllocError;
 
-/// The core, as it is after the line that is explained, its policy and the rows on rights that are in force, and the
-/// line's number. What is told is asked of the core.
+/// What is known, the core that knows it, its policy, the rows on rights that are in force, and the number of the line that
+/// is explained.
 #[derive(Clone, Copy)]
 pub struct Scene<'a> {
+    pub known: Known<'a>,
     pub core: &'a AccessCore,
     pub policy: &'a Policy,
     pub rows: &'a PolicyRows,
     pub line: u64,
+}
+
+impl<'a> Scene<'a> {
+    /// Where a line of this number is explained by what is known.
+    pub fn of(known: Known<'a>, line: u64) -> Scene<'a> {
+        let core = known.core();
+        Scene {
+            known,
+            core,
+            policy: core.policy(),
+            rows: known.rows(),
+            line,
+        }
+    }
 }
 
 /// Begins a line of an explanation.
@@ -28,11 +43,6 @@ pub fn say(out: &mut String, scene: &Scene<'_>, text: &str) -> Result<(), AllocE
     begin(out, scene)?;
     out.push_str(text)?;
     out.push_str("\n")
-}
-
-/// The right on an object that a client lacks, if it isn't in force.
-pub fn lack_in(scene: &Scene<'_>, client: ClientId, object: Object, right: Right) -> Option<Lack> {
-    lack_of(scene.core, client, object, right)
 }
 
 // Whether some allow row covers a right of a client on an object; a deny row takes it away then, where it isn't allowed.
