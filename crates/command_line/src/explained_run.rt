@@ -212,7 +212,7 @@ fn run_on<R: io::Read, O: io::Write>(
     let mut answers = IoLog::none();
     run_watched(
         explainer.alloc,
-        &mut lines.ahead(),
+        lines,
         out,
         world,
         later,
@@ -284,7 +284,6 @@ fn tell_of_bad_line<R: io::Read, E: io::Write>(
     err: &mut E,
 ) -> Option<Status> {
     let whole = explainer.number_of(number);
-    lines.go_back(whole);
     if !explainer.goes_on {
         return Some(name_bad_line(explainer, lines.line(), whole, err));
     }
@@ -313,7 +312,6 @@ fn tell_of_run<R: io::Read, E: io::Write>(
 ) -> Option<Status> {
     match ended {
         Err(ScriptFault::Stopped(number)) => {
-            lines.go_back(explainer.number_of(number));
             let status = tell_of_line(explainer, err);
             explainer.go_on(number);
             status

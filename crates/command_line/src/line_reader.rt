@@ -12,9 +12,6 @@ const MOST_READS: u64 = 1 << 40;
 // The most bytes of a read.
 const BLOCK: usize = 4096;
 
-// How many bytes are given ahead at the most behind a line to which one went back.
-const FEW: usize = 256;
-
 // How many bytes of a line are kept: one more than a line may have.
 const KEPT: usize = 16_385;
 
@@ -29,9 +26,6 @@ pub struct LineReader<'a, R> {
     block: [u8; 4096],
     from: usize,
     to: usize,
-    // Where in the block that begins which was given ahead, and isn't noted yet; how much is given ahead at the most.
-    ahead: usize,
-    most: usize,
     // The first bytes of the line that is begun or was given last, and how many there are.
     line: [u8; 16_385],
     length: usize,
@@ -50,8 +44,6 @@ impl<'a, R: io::Read> LineReader<'a, R> {
             block: [0; 4096],
             from: 0,
             to: 0,
-            ahead: 0,
-            most: BLOCK,
             line: [0; 16_385],
             length: 0,
             number: 0,
@@ -77,7 +69,6 @@ impl<'a, R: io::Read> LineReader<'a, R> {
         }
         let count = self.reader.read(&mut self.block)?;
         self.from = 0;
-        self.ahead = 0;
         self.to = count.min(BLOCK);
         self.is_over = count == 0;
         Ok(())
@@ -105,7 +96,6 @@ impl<'a, R: io::Read> LineReader<'a, R> {
         }
         let byte = self.block[self.from];
         self.from += 1;
-        self.ahead = self.from;
         Some(byte)
     }
 
@@ -124,67 +114,6 @@ impl<'a, R: io::Read> LineReader<'a, R> {
             }
         }
         count
-    }
-}
-
-/// The bytes of a reader of lines, all that was read at once: who reads them goes on behind a line by `go_back`.
-#[derive(Drop)]
-pub struct Ahead<'b, 'a, R> {
-    lines: &'b mut LineReader<'a, R>,
-}
-
-impl<'a, R: io::Read> LineReader<'a, R> {
-    /// Its bytes, without an end behind each line.
-    pub fn ahead(&mut self) -> Ahead<'_, 'a, R> {
-        Ahead { lines: self }
-    }
-
-    // The next byte that was given ahead and isn't noted yet, if there is one.
-    fn next_ahead(&mut self) -> Option<u8> {
-        if self.ahead >= self.from || self.ahead >= BLOCK {
-            return None;
-        }
-        let byte = self.block[self.ahead];
-        self.ahead += 1;
-        Some(byte)
-    }
-
-    /// Of what was given ahead, takes back what stands behind the line of this number, which becomes the one that was given
-    /// last; nothing where it hasn't ended.
-    pub fn go_back(&mut self, number: u64) {
-        for _ in 0..BLOCK {
-            let Some(byte) = self.next_ahead() else {
-                return;
-            };
-            self.note(byte);
-            if self.is_between && self.number >= number {
-                self.from = self.ahead;
-                self.most = FEW;
-                return;
-            }
-        }
-    }
-
-    // Gives what was read, and takes note of what was given ahead before. Behind a line to which it went back it begins with
-    // few bytes, as the next line may be one to go back to.
-    fn give_ahead(&mut self, bytes: &mut [u8]) -> io::Result<usize> {
-        self.go_back(u64::MAX);
-        self.fill()?;
-        let end = self.to.min(BLOCK);
-        let from = self.from.min(end);
-        let count = bytes.len().min(end - from).min(self.most);
-        bytes[..count].copy_from_slice(&self.block[from..from + count]);
-        self.ahead = from;
-        self.from = from + count;
-        self.most = self.most.saturating_mul(2).min(BLOCK);
-        Ok(count)
-    }
-}
-
-impl<'b, 'a, R: io::Read> io::Read for Ahead<'b, 'a, R> {
-    fn read(&mut self, bytes: &mut [u8]) -> io::Result<usize> {
-        let given = self.lines.give_ahead(bytes)?;
-        Ok(at_most(given, bytes.len()))
     }
 }
 
