@@ -122,6 +122,21 @@ fn tell_dependency(
     }
 }
 
+// The signals of these that were not seen yet.
+fn tell_unseen(
+    out: &mut String,
+    scene: &Scene<'_>,
+    signals: [SignalHandle; 5],
+    seen: [bool; 5],
+) -> Result<(), AllocError> {
+    for (signal, seen) in signals.iter().zip(seen.iter()) {
+        if signal.0 != 0 && !*seen {
+            tell_dependency(out, scene, *signal)?;
+        }
+    }
+    Ok(())
+}
+
 /// What a barrier packet still waits for.
 pub fn tell_dependencies(
     out: &mut String,
@@ -129,13 +144,7 @@ pub fn tell_dependencies(
     place: &Place,
 ) -> Result<(), AllocError> {
     let Satisfied(seen) = place.progress.satisfied;
-    let signals = dependencies(&place.packet);
-    for (signal, seen) in signals.iter().zip(seen.iter()) {
-        if signal.0 != 0 && !*seen {
-            tell_dependency(out, scene, *signal)?;
-        }
-    }
-    Ok(())
+    tell_unseen(out, scene, dependencies(&place.packet), seen)
 }
 
 // A packet of a queue in flight, and what brings it to its end.
