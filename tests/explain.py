@@ -544,6 +544,33 @@ def privacy(trials, explained):
     trials.every("no right of another client is told", trial, inputs)
 
 
+def cost(trials, explained):
+    """Explanations after a long history take no more time than without one, and keep nothing."""
+    changes, refused = ["signal alice done add 1"] * 50_000, ["finish 1 0", "read bob 0000000100000000 8"] * 5_000
+
+    def spent(lines):
+        """The processor seconds of an explained run, and the most memory that it had, in kilobytes."""
+        words = [explained.program, "run", SAMPLE, "--explain"]
+        ran = subprocess.Popen(words, stdin=subprocess.PIPE, stdout=subprocess.DEVNULL, stderr=subprocess.DEVNULL)
+        ran.stdin.write(text(lines))
+        ran.stdin.flush()
+        with open(f"/proc/{ran.pid}/status") as status:
+            most = int(re.search(r"VmHWM:\s*(\d+) kB", status.read())[1])
+        ran.stdin.close()
+        _, ended, used = os.wait4(ran.pid, 0)
+        ran.returncode = os.waitstatus_to_exitcode(ended)
+        return used.ru_utime + used.ru_stime, most
+
+    def trial(_):
+        before, alone, both = spent([*HELD, *changes]), spent([*HELD, *refused]), spent([*HELD, *changes, *refused])
+        after = both[0] - before[0]
+        if after > 3 * alone[0] + 0.5:
+            return f"{after:.2f} s after a history, {alone[0]:.2f} s without one"
+        return f"{both[1]} KB with explanations, {before[1]} KB without" if both[1] > before[1] + 1024 else None
+
+    trials.every("an explanation takes no more after a long history", trial, [0])
+
+
 def main(program):
     trials = Trials("explain")
     explained = Explained(os.path.abspath(program))
@@ -554,6 +581,7 @@ def main(program):
     with tempfile.TemporaryDirectory(prefix="explain-") as room:
         policies(trials, explained, room)
         faults(trials, explained, room)
+    cost(trials, explained)
     audit(trials, explained)
     order(trials, explained)
     forms(trials, explained)

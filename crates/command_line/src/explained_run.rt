@@ -91,9 +91,10 @@ impl Explainer {
         if !self.tells {
             return;
         }
-        let told = retold(self.alloc, world, self.number_of(number), self.asked, reply);
-        if let Ok(told) = told {
-            self.told = told;
+        let line = self.number_of(number);
+        let told = retold(self.alloc, &mut self.told, world, line, self.asked, reply);
+        if told.is_err() {
+            self.told.clear();
         }
     }
 

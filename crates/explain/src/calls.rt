@@ -3,15 +3,14 @@
 use crate::asked::{Asked, Verb};
 use crate::lacks::lacked;
 use crate::rings::{tell_dependencies, tell_holder};
-use crate::scene::{Scene, begin, handed_over, put_why_not, rights_of, say, tell_lack};
-use crate::texts::{lies_whole, put_client, put_clients, put_object, put_objects, put_range};
-use crate::work::{errors, flying_of, how_far};
+use crate::scene::{Scene, begin, put_why_not, rights_of, say, tell_lack};
+use crate::texts::{lies_whole, put_clients, put_object, put_objects, put_range};
 use aql_packet::{ClientId, PacketId, QueueId};
-use core_model::{InFlight, MOST_HOST_BYTES, Range, Refusal};
-use packet_processor::is_barrier;
+use core_model::{MOST_HOST_BYTES, Range, Refusal};
+use packet_processor::{Place, is_barrier};
 use policy::{Kind, Object, Right, Rights};
 use queue_error::{QueueError, Rule};
-use std::alloc::{AllocError, Global};
+use std::alloc::AllocError;
 use world::World;
 
 // No client has the name.
@@ -32,8 +31,8 @@ fn tell_object(out: &mut String, scene: &Scene<'_>, object: Object) -> Result<()
 }
 
 // No queue has the number.
-fn tell_queue(out: &mut String, scene: &Scene<'_>, world: &World) -> Result<(), AllocError> {
-    let count = world.core().table_sizes().queues;
+fn tell_queue(out: &mut String, scene: &Scene<'_>) -> Result<(), AllocError> {
+    let count = scene.core.table_sizes().queues;
     begin(out, scene)?;
     if count == 0 {
         return out.push_str("no queue is open: `queue CLIENT AGENT SIZE PRODUCERS` opens one\n");
@@ -169,36 +168,17 @@ fn tell_grant(out: &mut String, scene: &Scene<'_>, asked: Asked) -> Result<(), A
 }
 
 // Why a queue launches nothing more.
-fn tell_down(
-    alloc: Global,
-    out: &mut String,
-    scene: &Scene<'_>,
-    world: &World,
-    asked: Asked,
-) -> Result<(), AllocError> {
+fn tell_down(out: &mut String, scene: &Scene<'_>, asked: Asked) -> Result<(), AllocError> {
     let queue = match asked {
         Asked::Processing { queue, .. } | Asked::Queue { queue } => queue,
         _ => return Ok(()),
     };
     begin(out, scene)?;
-    match errors(alloc, world, queue)?.as_slice().last() {
+    match scene.core.errors_of(queue).last() {
         Some(error) => write!(out, "the queue has the error `{error}`")?,
         None => out.push_str("the queue was stopped")?,
     }
     out.push_str(", and launches nothing more: open another with `queue`\n")
-}
-
-// Whether the packet of a queue and an id was handed over before a history began.
-fn is_before(scene: &Scene<'_>, queue: QueueId, packet: PacketId) -> bool {
-    match scene
-        .start
-        .queues
-        .as_slice()
-        .get((queue.0 as usize).wrapping_sub(1))
-    {
-        Some(queue) => packet.0 < queue.next,
-        None => false,
-    }
 }
 
 // Whether the packet of a queue and an id was handed over: each whose id is below the read index was, none above it.
@@ -207,10 +187,7 @@ fn is_handed_over(scene: &Scene<'_>, world: &World, queue: QueueId, packet: Pack
         return false;
     };
     let head = ring.read_index();
-    packet.0 < head
-        || (packet.0 == head
-            && (is_before(scene, queue, packet)
-                || handed_over(scene.entries, queue, packet).is_some()))
+    packet.0 < head || (packet.0 == head && packet.0 < scene.core.next_packet(queue))
 }
 
 // Whether a rule is one by which a packet isn't launched.
@@ -240,7 +217,6 @@ fn denial(errors: &[QueueError], packet: PacketId) -> Option<QueueError> {
 
 // Where a packet is that isn't in flight.
 fn tell_gone(
-    alloc: Global,
     out: &mut String,
     scene: &Scene<'_>,
     world: &World,
@@ -255,7 +231,7 @@ fn tell_gone(
             "packet {id} of queue {number} was not handed over yet: `serve {number}`"
         );
     }
-    match denial(errors(alloc, world, queue)?.as_slice(), packet) {
+    match denial(scene.core.errors_of(queue), packet) {
         Some(error) => writeln!(out, "it was denied: `{error}`"),
         None => writeln!(
             out,
@@ -266,7 +242,6 @@ fn tell_gone(
 
 // Why a packet isn't in flight for a call.
 fn tell_not_in_flight(
-    alloc: Global,
     out: &mut String,
     scene: &Scene<'_>,
     world: &World,
@@ -281,8 +256,8 @@ fn tell_not_in_flight(
         return Ok(());
     };
     begin(out, scene)?;
-    if flying_of(alloc, scene, queue, packet)?.is_none() {
-        return tell_gone(alloc, out, scene, world, queue, packet);
+    if scene.core.flying(queue, packet).is_none() {
+        return tell_gone(out, scene, world, queue, packet);
     }
     out.push_str(match verb {
         Verb::Run => "it is a barrier packet, which `poll` brings on, not `run`\n",
@@ -290,24 +265,24 @@ fn tell_not_in_flight(
     })
 }
 
-// Why a packet isn't finished.
+// Why a packet of a queue isn't finished.
 fn tell_unfinished(
     out: &mut String,
     scene: &Scene<'_>,
-    flying: &InFlight,
+    queue: QueueId,
+    place: &Place,
 ) -> Result<(), AllocError> {
-    let queue = flying.queue.0;
-    let id = flying.id.0;
-    if is_barrier(&flying.packet) {
-        begin(out, scene)?;
+    let queue = queue.0;
+    let id = place.id.0;
+    begin(out, scene)?;
+    if is_barrier(&place.packet) {
         writeln!(
             out,
             "the barrier packet is not ready: `poll {queue} {id}` until it is"
         )?;
-        return tell_dependencies(out, scene, flying);
+        return tell_dependencies(out, scene, place);
     }
-    let run = how_far(scene, flying.queue, flying.id).groups_run;
-    begin(out, scene)?;
+    let run = place.progress.groups_run;
     writeln!(
         out,
         "work-groups are left, and {run} were run: `run {queue} {id}` until it tells `left 0`"
@@ -315,26 +290,22 @@ fn tell_unfinished(
 }
 
 // Why a packet isn't finished, by its queue and id.
-fn tell_not_finished(
-    alloc: Global,
-    out: &mut String,
-    scene: &Scene<'_>,
-    asked: Asked,
-) -> Result<(), AllocError> {
+fn tell_not_finished(out: &mut String, scene: &Scene<'_>, asked: Asked) -> Result<(), AllocError> {
     let Asked::Flying { queue, packet, .. } = asked else {
         return Ok(());
     };
-    match flying_of(alloc, scene, queue, packet)? {
-        Some(flying) => tell_unfinished(out, scene, &flying),
+    match scene.core.flying(queue, packet) {
+        Some(place) => tell_unfinished(out, scene, queue, place),
         None => Ok(()),
     }
 }
 
 // Why the audit has no room.
-fn tell_full(out: &mut String, scene: &Scene<'_>, world: &World) -> Result<(), AllocError> {
-    let places = world.core().table_sizes().audit_places;
-    let taken = scene.entries.len();
-    let kept = scene.in_flight;
+fn tell_full(out: &mut String, scene: &Scene<'_>) -> Result<(), AllocError> {
+    let sizes = scene.core.table_sizes();
+    let places = sizes.audit_places;
+    let kept = sizes.argument_blocks;
+    let taken = scene.core.audit().len();
     begin(out, scene)?;
     writeln!(
         out,
@@ -384,7 +355,6 @@ fn tell_order(
 
 /// Why a request was refused by the core.
 pub fn tell_refusal(
-    alloc: Global,
     out: &mut String,
     scene: &Scene<'_>,
     world: &World,
@@ -398,15 +368,15 @@ pub fn tell_refusal(
             "memory was wanted and not to be had; all is as before",
         ),
         Refusal::UnknownClient => tell_client(out, scene),
-        Refusal::UnknownQueue => tell_queue(out, scene, world),
+        Refusal::UnknownQueue => tell_queue(out, scene),
         Refusal::Denied(right) => tell_denied_call(out, scene, asked, *right),
-        Refusal::Busy { queue, packet } => tell_holder(alloc, out, scene, *queue, *packet),
+        Refusal::Busy { queue, packet } => tell_holder(out, scene, *queue, *packet),
         Refusal::NotAllowed => tell_grant(out, scene, asked),
         Refusal::OutOfStep(next) => tell_order(out, scene, asked, *next),
-        Refusal::QueueDown => tell_down(alloc, out, scene, world, asked),
-        Refusal::NotInFlight => tell_not_in_flight(alloc, out, scene, world, asked),
-        Refusal::NotFinished => tell_not_finished(alloc, out, scene, asked),
-        Refusal::AuditFull => tell_full(out, scene, world),
+        Refusal::QueueDown => tell_down(out, scene, asked),
+        Refusal::NotInFlight => tell_not_in_flight(out, scene, world, asked),
+        Refusal::NotFinished => tell_not_finished(out, scene, asked),
+        Refusal::AuditFull => tell_full(out, scene),
         Refusal::BadSize => tell_size(out, scene, asked),
         Refusal::TooMany => say(
             out,

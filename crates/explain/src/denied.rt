@@ -1,17 +1,18 @@
 //! Why a packet was denied, by the rule that is told and the packet's own bytes.
 
-use crate::kernel_texts::{Shape, shape_of};
-use crate::lacks::lack_of_need;
+use crate::failed::handed_over;
+use crate::lacks::object_of;
 use crate::packets::{tell_header, tell_reserved, tell_sizes, tell_type};
-use crate::scene::{Scene, begin, handed_over, lack_in, owner_in, say, tell_lack};
+use crate::scene::{Scene, begin, say, tell_lack};
 use crate::texts::{lies_whole, put_object, put_range};
 use aql_packet::{KernelDispatch, Packet, decode};
 use core_model::{Need, Opening, Range, Subject};
 use executor::MOST_SEGMENT_BYTES;
+use kernel_check::Program;
 use packet_processor::{PacketNeeds, function_of};
 use policy::{Object, Right};
 use queue_error::{QueueError, Rule};
-use std::alloc::{AllocError, Global};
+use std::alloc::AllocError;
 
 /// The rules that look at a packet's fields, in the order in which they are tried.
 const RULES: [Rule; 7] = [
@@ -77,7 +78,10 @@ fn tell_need(
             return tell_range(out, scene, range);
         }
     }
-    match lack_of_need(scene.rows, scene.start, scene.entries, opening.client, need) {
+    match scene
+        .known
+        .lack_of(opening.client, object_of(&need.subject), need.right)
+    {
         Some(lack) => tell_lack(out, scene, &lack, wanted(rule)),
         None => Ok(()),
     }
@@ -114,13 +118,13 @@ fn tell_segments(
     out: &mut String,
     scene: &Scene<'_>,
     dispatch: &KernelDispatch,
-    shape: &Option<Shape>,
+    program: Option<&Program>,
 ) -> Result<(), AllocError> {
     let group = dispatch.group_segment_size;
     let private = dispatch.private_segment_size;
     let most = MOST_SEGMENT_BYTES;
-    if let Some(shape) = shape {
-        let least = shape.group;
+    if let Some(program) = program {
+        let least = program.group_bytes();
         if group < least {
             begin(out, scene)?;
             writeln!(
@@ -152,12 +156,9 @@ fn tell_block(
     scene: &Scene<'_>,
     opening: &Opening,
     dispatch: &KernelDispatch,
-    shape: &Option<Shape>,
+    program: &Program,
 ) -> Result<(), AllocError> {
-    let size = match shape {
-        Some(shape) => shape.arguments as u64,
-        None => return Ok(()),
-    };
+    let size = program.kernarg_bytes() as u64;
     let range = Range {
         address: dispatch.kernarg_address,
         size,
@@ -170,7 +171,7 @@ fn tell_block(
         return tell_range(out, scene, range);
     }
     let region = Object::Region(regions::region_of(range.address));
-    match lack_in(scene, opening.client, region, Right::Read) {
+    match scene.known.lack_of(opening.client, region, Right::Read) {
         Some(lack) => tell_lack(out, scene, &lack, ", in which the argument block lies"),
         None => Ok(()),
     }
@@ -178,7 +179,6 @@ fn tell_block(
 
 // What is wrong with a packet for a rule beside the rights that the rule's table names.
 fn tell_form(
-    alloc: Global,
     out: &mut String,
     scene: &Scene<'_>,
     opening: &Opening,
@@ -204,12 +204,14 @@ fn tell_form(
                 out,
                 scene,
                 dispatch,
-                &shape_of(alloc, scene.policy, dispatch.kernel_object)?,
+                scene.core.program(dispatch.kernel_object),
             )
         }
         (Rule::L8, Packet::Kernel(dispatch)) => {
-            let shape = shape_of(alloc, scene.policy, dispatch.kernel_object)?;
-            tell_block(out, scene, opening, dispatch, &shape)
+            match scene.core.program(dispatch.kernel_object) {
+                Some(program) => tell_block(out, scene, opening, dispatch, program),
+                None => Ok(()),
+            }
         }
         _ => Ok(()),
     }
@@ -217,14 +219,13 @@ fn tell_form(
 
 // What is missing of a packet for a rule: its form, and the rights that it needs.
 fn tell_rule(
-    alloc: Global,
     out: &mut String,
     scene: &Scene<'_>,
     opening: &Opening,
     rule: Rule,
     packet: &Packet,
 ) -> Result<(), AllocError> {
-    tell_form(alloc, out, scene, opening, rule, packet)?;
+    tell_form(out, scene, opening, rule, packet)?;
     let asked = PacketNeeds::of(opening.agent, *packet);
     for need in asked.of_rule(rule) {
         if let Some(need) = need {
@@ -236,18 +237,17 @@ fn tell_rule(
 
 // What is missing of a packet for a rule and those behind it.
 fn tell_rules(
-    alloc: Global,
     out: &mut String,
     scene: &Scene<'_>,
     error: &QueueError,
     packet: &Packet,
 ) -> Result<(), AllocError> {
-    let Some(opening) = owner_in(alloc, scene, error.queue)? else {
+    let Some(opening) = scene.known.opening(error.queue) else {
         return Ok(());
     };
     for rule in RULES {
         if place(rule) >= place(error.rule) {
-            tell_rule(alloc, out, scene, &opening, rule, packet)?;
+            tell_rule(out, scene, &opening, rule, packet)?;
         }
     }
     Ok(())
@@ -255,7 +255,6 @@ fn tell_rules(
 
 // What is wrong with 64 bytes by a rule.
 fn tell_bytes(
-    alloc: Global,
     out: &mut String,
     scene: &Scene<'_>,
     error: &QueueError,
@@ -266,7 +265,7 @@ fn tell_bytes(
         Rule::L2 => tell_header(out, scene, bytes),
         Rule::L3 => tell_reserved(out, scene, bytes),
         _ => match decode(bytes) {
-            Ok(packet) => tell_rules(alloc, out, scene, error, &packet),
+            Ok(packet) => tell_rules(out, scene, error, &packet),
             Err(_) => Ok(()),
         },
     }
@@ -274,7 +273,6 @@ fn tell_bytes(
 
 /// Why a packet was denied.
 pub fn tell_denied(
-    alloc: Global,
     out: &mut String,
     scene: &Scene<'_>,
     error: &QueueError,
@@ -287,8 +285,8 @@ pub fn tell_denied(
         out,
         "packet {packet} of queue {queue} breaks {rule}, and the queue launches nothing more"
     )?;
-    match handed_over(scene.entries, error.queue, error.packet) {
-        Some((found, _)) => tell_bytes(alloc, out, scene, error, &found.bytes),
+    match handed_over(scene.known.entries(), error.queue, error.packet) {
+        Some(found) => tell_bytes(out, scene, error, &found.bytes),
         None => Ok(()),
     }
 }

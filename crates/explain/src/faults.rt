@@ -1,14 +1,15 @@
 //! Why a packet failed at its work.
 
-use crate::kernel_texts::{Shape, checked, entry, line_of, put_kernel, put_marked, shape_of};
-use crate::lacks::is_in_force;
-use crate::scene::{Scene, begin, handed_over, lack_in, owner_in, say, tell_lack};
+use crate::failed::{Flown, flown_of, seen_before};
+use crate::kernel_texts::{line_of, put_kernel, put_marked};
+use crate::lacks::was_in_force;
+use crate::rings::dependencies;
+use crate::scene::{Scene, begin, say, tell_lack};
 use crate::texts::{put_address, put_client, put_object};
-use crate::work::{dependencies, first_flying, how_far, signal_value};
-use aql_packet::{Address, KernelDispatch, Packet, REGION_SPAN, SignalHandle, decode};
+use aql_packet::{Address, KernelDispatch, Packet, REGION_SPAN, SignalHandle};
 use byteorder::{ByteOrder, LittleEndian};
-use core_model::{Effect, Entry, Opening, Origin, PacketOrigin, Satisfied};
-use kernel_check::{AtomicPointer, NumberType, Step};
+use core_model::{Effect, Entry, Opening, Origin, Satisfied};
+use kernel_check::{AtomicPointer, NumberType, Program, Step};
 use policy::{Object, Right};
 use queue_error::{FaultPlace, QueueError, Rule, SegmentAddress};
 use std::alloc::{AllocError, Global};
@@ -75,22 +76,7 @@ fn works_at(reach: Reach, address: Option<SegmentAddress>) -> bool {
 }
 
 // What the instruction at a place does to memory: the first of its line that works in the segment of its address.
-fn reach_at(
-    alloc: Global,
-    scene: &Scene<'_>,
-    dispatch: &KernelDispatch,
-    place: FaultPlace,
-) -> Reach {
-    let Some(checked) = checked(alloc, scene.policy, dispatch.kernel_object) else {
-        return Reach::None;
-    };
-    let Some(index) = entry(scene.policy, dispatch.kernel_object, &checked) else {
-        return Reach::None;
-    };
-    if index >= checked.count() {
-        return Reach::None;
-    }
-    let program = checked.kernel(index);
+fn reach_at(program: &Program, place: FaultPlace) -> Reach {
     for (step, of) in program.steps().iter().zip(program.lines().iter()) {
         let reach = reach_of(step);
         if *of == place.line && works_at(reach, place.address) {
@@ -200,7 +186,7 @@ fn put_about(
 fn had(launch: &Launch<'_>, region: Object, right: Right) -> bool {
     let client = launch.opening.client;
     match launch.flown {
-        Flown::Since(before) => is_in_force(launch.start, before, client, region, right),
+        Flown::Since(found) => was_in_force(launch.start, found.before, client, region, right),
         Flown::Before(packet) => launch
             .start
             .grants
@@ -390,15 +376,6 @@ fn put_held(
     })
 }
 
-/// Since when a packet is in flight.
-#[derive(Clone, Copy)]
-enum Flown<'a> {
-    /// Since it was launched, behind these entries of the audit.
-    Since(&'a [Entry]),
-    /// Since before the history began.
-    Before(&'a PacketOrigin),
-}
-
 /// By what a fault and each argument that may point into memory are told: the packet's launch, what the access
 /// wants, and the region in which it begins.
 #[derive(Clone, Copy)]
@@ -425,7 +402,7 @@ fn tell_wanted(
     if had(launch, region, right) {
         return Ok(());
     }
-    match lack_in(scene, client, region, right) {
+    match scene.known.lack_of(client, region, right) {
         Some(lack) => tell_lack(out, scene, &lack, ", and needs it before the launch"),
         None => {
             begin(out, scene)?;
@@ -506,8 +483,8 @@ fn tell_unpointed(
 }
 
 // Whether an argument of 64 bits points into a region.
-fn is_pointed(scene: &Scene<'_>, shape: &Shape, block: &[u8], region: Option<Object>) -> bool {
-    for offset in shape.wide.as_slice() {
+fn is_pointed(scene: &Scene<'_>, program: &Program, block: &[u8], region: Option<Object>) -> bool {
+    for offset in program.wide_arguments() {
         if region.is_some() && region_at(scene, argument(block, *offset)) == region {
             return true;
         }
@@ -520,10 +497,10 @@ fn tell_pointers(
     out: &mut String,
     scene: &Scene<'_>,
     launch: &Launch<'_>,
-    shape: &Shape,
+    program: &Program,
     block: &[u8],
 ) -> Result<(), AllocError> {
-    if shape.wide.is_empty() {
+    if program.wide_arguments().is_empty() {
         return say(
             out,
             scene,
@@ -531,7 +508,7 @@ fn tell_pointers(
         );
     }
     let mut told = false;
-    for offset in shape.wide.as_slice() {
+    for offset in program.wide_arguments() {
         let address = argument(block, *offset);
         tell_pointer(out, scene, launch, *offset, address, &mut told)?;
     }
@@ -550,17 +527,17 @@ fn tell_block(
     dispatch: &KernelDispatch,
     place: FaultPlace,
     launch: &Launch<'_>,
-    shape: &Shape,
+    program: &Program,
     block: &[u8],
 ) -> Result<(), AllocError> {
     let launch = Launch {
-        is_pointed: is_pointed(scene, shape, block, launch.region),
+        is_pointed: is_pointed(scene, program, block, launch.region),
         ..*launch
     };
     tell_place(out, scene, dispatch, launch.rule, place)?;
     tell_rule(out, scene, dispatch, &launch, place.address)?;
     if is_of_regions(launch.rule) {
-        tell_pointers(out, scene, &launch, shape, block)
+        tell_pointers(out, scene, &launch, program, block)
     } else {
         Ok(())
     }
@@ -571,12 +548,18 @@ fn block_of(
     alloc: Global,
     dispatch: &KernelDispatch,
     launch: &Launch<'_>,
-    shape: &Shape,
+    program: &Program,
 ) -> Result<Vec<u8>, AllocError> {
     match launch.flown {
-        Flown::Since(before) => {
+        Flown::Since(found) => {
             let first = dispatch.kernarg_address;
-            memory(alloc, launch.start, before, first, shape.arguments)
+            memory(
+                alloc,
+                launch.start,
+                found.before,
+                first,
+                program.kernarg_bytes(),
+            )
         }
         Flown::Before(packet) => Vec::from_slice(alloc, packet.arguments.as_slice()),
     }
@@ -594,43 +577,31 @@ fn tell_dispatch(
     let Some(place) = error.place else {
         return Ok(());
     };
-    let Some(opening) = owner_in(alloc, scene, error.queue)? else {
+    let Some(opening) = scene.known.opening(error.queue) else {
+        return Ok(());
+    };
+    let Some(program) = scene.core.program(dispatch.kernel_object) else {
         return Ok(());
     };
     let launch = Launch {
         opening,
-        start: scene.start,
+        start: scene.core.start(),
         flown,
         rule: error.rule,
-        reach: reach_at(alloc, scene, dispatch, place),
+        reach: reach_at(program, place),
         region: region_of(scene, place.address),
         is_pointed: false,
     };
-    match shape_of(alloc, scene.policy, dispatch.kernel_object)? {
-        Some(shape) => {
-            let block = block_of(alloc, dispatch, &launch, &shape)?;
-            tell_block(
-                out,
-                scene,
-                dispatch,
-                place,
-                &launch,
-                &shape,
-                block.as_slice(),
-            )
-        }
-        None => Ok(()),
-    }
-}
-
-// The packet of an error that was in flight, and since when it was.
-fn flown_of<'a>(scene: &Scene<'a>, error: &QueueError) -> Option<(Packet, Flown<'a>)> {
-    let Some((found, before)) = handed_over(scene.entries, error.queue, error.packet) else {
-        let packet = first_flying(scene.start, error.queue, error.packet)?;
-        return Some((packet.flying.packet, Flown::Before(packet)));
-    };
-    let packet = decode(&found.bytes).ok()?;
-    Some((packet, Flown::Since(before)))
+    let block = block_of(alloc, dispatch, &launch, program)?;
+    tell_block(
+        out,
+        scene,
+        dispatch,
+        place,
+        &launch,
+        program,
+        block.as_slice(),
+    )
 }
 
 /// Why a packet failed at its work.
@@ -670,13 +641,13 @@ pub fn tell_failed(
     scene: &Scene<'_>,
     error: &QueueError,
 ) -> Result<(), AllocError> {
-    let Some((packet, _)) = flown_of(scene, error) else {
+    let Some((packet, flown)) = flown_of(scene, error) else {
         return Ok(());
     };
-    let Satisfied(seen) = how_far(scene, error.queue, error.packet).satisfied;
+    let Satisfied(seen) = seen_before(scene, error, flown);
     let signals = dependencies(&packet);
     for (signal, was_seen) in signals.iter().zip(seen.iter()) {
-        if let Some(value) = signal_value(scene, *signal) {
+        if let Some(value) = scene.known.value_of(*signal) {
             if value < 0 && !*was_seen {
                 tell_negative(out, scene, *signal, value)?;
             }

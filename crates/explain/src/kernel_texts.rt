@@ -1,71 +1,9 @@
-//! A policy's kernels, read and checked again from their texts.
+//! Lines of a policy's kernels, as their texts have them.
 
 use crate::texts::put_word;
 use aql_packet::KernelObject;
-use hsail_reader::read_module;
-use kernel_check::{Checked, check};
 use policy::Policy;
-use sequences::Sequence;
-use std::alloc::{AllocError, Global};
-
-/// How many bytes a kernel takes of arguments and of group memory, and where its wide arguments lie.
-#[derive(Drop)]
-pub struct Shape {
-    pub arguments: u32,
-    pub group: u32,
-    pub wide: Sequence<u32>,
-}
-
-/// The checked kernels of a kernel's text; none where the policy has no such kernel, or no memory is left for them.
-pub fn checked(alloc: Global, policy: &Policy, kernel: KernelObject) -> Option<Checked> {
-    let source = policy.kernel_source(kernel)?;
-    match read_module(alloc, source.text().as_bytes()) {
-        Ok(module) => match check(alloc, &module) {
-            Ok(checked) => Some(checked),
-            Err(_) => None,
-        },
-        Err(_) => None,
-    }
-}
-
-/// The index of the kernel that a policy's kernel names in its text.
-pub fn entry(policy: &Policy, kernel: KernelObject, checked: &Checked) -> Option<u32> {
-    let source = policy.kernel_source(kernel)?;
-    let index = checked.find(source.entry().as_bytes())?;
-    if index < checked.count() {
-        Some(index)
-    } else {
-        None
-    }
-}
-
-// The shape of a kernel among checked ones.
-fn shape_at(alloc: Global, checked: &Checked, index: u32) -> Result<Option<Shape>, AllocError> {
-    if index >= checked.count() {
-        return Ok(None);
-    }
-    let program = checked.kernel(index);
-    Ok(Some(Shape {
-        arguments: program.kernarg_bytes(),
-        group: program.group_bytes(),
-        wide: Sequence::from_vec(Vec::from_slice(alloc, program.wide_arguments())?),
-    }))
-}
-
-/// The shape of a policy's kernel.
-pub fn shape_of(
-    alloc: Global,
-    policy: &Policy,
-    kernel: KernelObject,
-) -> Result<Option<Shape>, AllocError> {
-    let Some(checked) = checked(alloc, policy, kernel) else {
-        return Ok(None);
-    };
-    match entry(policy, kernel, &checked) {
-        Some(index) => shape_at(alloc, &checked, index),
-        None => Ok(None),
-    }
-}
+use std::alloc::AllocError;
 
 // How many bytes stand before the first line feed.
 fn line_length(text: &[u8]) -> usize {

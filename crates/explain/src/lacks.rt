@@ -4,10 +4,11 @@ ghost use Rattle.std.specs.Prelude.{◌≡◌};
 ghost use Rattle.core_model.specs.Grants.{in_force_after};
 ghost use Rattle.core_model.specs.Needs.{object_of};
 ghost use Rattle.policy.specs.Pairs.{is_one_of};
-ghost use Rattle.explain.specs.Lacks.{in_force_since, lack_of, lack_of_need, lacked};
+ghost use Rattle.explain.specs.Lacks.{in_force_since, lack_of, lacked};
 
+use access_core::AccessCore;
 use aql_packet::ClientId;
-use core_model::{Call, Entry, Event, Need, Origin, Subject};
+use core_model::{Call, Entry, Event, Origin, Subject};
 use policy::{Object, PolicyRows, Right, Rights};
 use regions::region_of;
 
@@ -66,9 +67,9 @@ fn in_force_after(
     }
 }
 
-/// Whether a client's right on an object is in force, by what a history begins from and its entries: it was in force
-/// there or was granted since, and no later revocation or reload took it.
-pub fn is_in_force(
+/// Whether a client's right on an object was in force, by what a history begins from and its first entries, as those before
+/// a launch: it was in force there or was granted since, and no later revocation or reload took it.
+pub fn was_in_force(
     start: &Origin,
     entries: &[Entry],
     client: ClientId,
@@ -96,50 +97,23 @@ pub fn lacked(rows: &PolicyRows, client: ClientId, object: Object, right: Right)
     }
 }
 
-/// The right on an object that a client lacks, if it isn't in force.
-pub fn lack_of(
-    rows: &PolicyRows,
-    start: &Origin,
-    entries: &[Entry],
-    client: ClientId,
-    object: Object,
-    right: Right,
-) -> Option<Lack>
-    ensures { result ≡ lack_of rows.now start.now entries.now client object right }
+/// The right on an object that a client lacks, if it isn't in force: the core knows.
+pub fn lack_of(core: &AccessCore, client: ClientId, object: Object, right: Right) -> Option<Lack>
+    ensures { result ≡ lack_of core.now.history client object right }
 {
-    if is_in_force(start, entries, client, object, right) {
+    if core.has_right(client, object, right) {
         None
     } else {
-        Some(lacked(rows, client, object, right))
+        Some(lacked(core.rows(), client, object, right))
     }
 }
 
-// The object that a right is needed on: of a range, its region.
-pub(crate) fn object_of(subject: &Subject) -> Object
+/// The object that a right is needed on: of a range, its region.
+pub fn object_of(subject: &Subject) -> Object
     ensures { result ≡ object_of subject.now }
 {
     match subject {
         Subject::Object(object) => *object,
         Subject::Range(range) => Object::Region(region_of(range.address)),
     }
-}
-
-/// The right that a client lacks of what its packet needs, if it isn't in force.
-pub fn lack_of_need(
-    rows: &PolicyRows,
-    start: &Origin,
-    entries: &[Entry],
-    client: ClientId,
-    need: &Need,
-) -> Option<Lack>
-    ensures { result ≡ lack_of_need rows.now start.now entries.now client need.now }
-{
-    lack_of(
-        rows,
-        start,
-        entries,
-        client,
-        object_of(&need.subject),
-        need.right,
-    )
 }

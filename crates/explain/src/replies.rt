@@ -4,6 +4,7 @@ use crate::asked::Asked;
 use crate::calls::tell_refusal;
 use crate::denied::tell_denied;
 use crate::faults::{tell_failed, tell_fault};
+use crate::known::Known;
 use crate::refusals::{tell_spent, tell_step};
 use crate::rings::{tell_busy, tell_empty, tell_waiting};
 use crate::scene::{Scene, begin};
@@ -53,7 +54,6 @@ fn busy(
 
 // What became of a packet that was handed over.
 fn taken(
-    alloc: Global,
     out: &mut String,
     scene: &Scene<'_>,
     queue: QueueId,
@@ -61,8 +61,8 @@ fn taken(
 ) -> Result<(), AllocError> {
     match taken {
         Taken::Launched => Ok(()),
-        Taken::Denied(error) => tell_denied(alloc, out, scene, error),
-        Taken::Waiting(cause) => tell_waiting(alloc, out, scene, queue, *cause),
+        Taken::Denied(error) => tell_denied(out, scene, error),
+        Taken::Waiting(cause) => tell_waiting(out, scene, queue, *cause),
     }
 }
 
@@ -89,9 +89,7 @@ fn answered(
     answer: &world::Answer,
 ) -> Result<(), AllocError> {
     match answer {
-        world::Answer::Taken { taken: became, .. } => {
-            taken(alloc, out, scene, queue_of(asked), became)
-        }
+        world::Answer::Taken { taken: became, .. } => { taken(out, scene, queue_of(asked), became) }
         world::Answer::Core(Answer::Outcome(came)) => outcome(alloc, out, scene, came),
         world::Answer::Header { word, .. } => {
             if !aql_packet::is_invalid(*word) {
@@ -141,31 +139,22 @@ fn tell(
         Ok(LineAnswer::Empty) => empty(out, scene, world, queue_of(asked)),
         Ok(LineAnswer::Sent(sent)) => tell_sent(out, scene, world, queue_of(asked), sent),
         Ok(_) => Ok(()),
-        Err(Refusal::Core(refusal)) => tell_refusal(alloc, out, scene, world, asked, refusal),
+        Err(Refusal::Core(refusal)) => tell_refusal(out, scene, world, asked, refusal),
         Err(Refusal::NotAStep) => tell_step(out, scene, world, asked),
         Err(Refusal::Spent) => tell_spent(out, scene, asked),
     }
 }
 
-/// What is told beside the reply to a line of a script, the line of this number, by the world after it: why it was refused
-/// or denied, failed, waits or found nothing, in lines; no text where none of that happened.
+/// Puts behind a text what is told beside the reply to a line of a script, the line of this number, by the world after
+/// it: why it was refused or denied, failed, waits or found nothing, in lines; nothing where none of that happened.
 pub fn retold(
     alloc: Global,
+    out: &mut String,
     world: &World,
     line: u64,
     asked: Asked,
     reply: &LineReply,
-) -> Result<String, AllocError> {
-    let core = world.core();
-    let scene = Scene {
-        policy: core.policy(),
-        rows: core.rows(),
-        start: core.start(),
-        entries: core.audit(),
-        in_flight: core.table_sizes().argument_blocks,
-        line,
-    };
-    let mut out = String::new(alloc);
-    tell(alloc, &mut out, &scene, world, asked, reply)?;
-    Ok(out)
+) -> Result<(), AllocError> {
+    let scene = Scene::of(Known::Now(world.core()), line);
+    tell(alloc, out, &scene, world, asked, reply)
 }

@@ -2,13 +2,12 @@
 
 use crate::scene::{Scene, begin, say};
 use crate::texts::put_object;
-use crate::work::{dependencies, flight, flying_of, how_far, signal_value};
-use aql_packet::{PacketId, QueueId};
-use core_model::{InFlight, Satisfied, WaitCause};
-use packet_processor::is_barrier;
+use aql_packet::{Packet, PacketId, QueueId, SignalHandle};
+use core_model::{Satisfied, WaitCause};
+use packet_processor::{Place, is_barrier};
 use policy::Object;
 use ring_core::{Part, RingState};
-use std::alloc::{AllocError, Global};
+use std::alloc::AllocError;
 
 /// How a ring's ids stand that aren't retired.
 #[derive(Clone, Copy, Debug, PartialEq, Eq)]
@@ -100,29 +99,36 @@ pub fn tell_busy(
     )
 }
 
+/// The signals that a packet depends on.
+pub fn dependencies(packet: &Packet) -> [SignalHandle; 5] {
+    match packet {
+        Packet::BarrierAnd(barrier) | Packet::BarrierOr(barrier) => barrier.dependencies,
+        _ => [SignalHandle(0); 5],
+    }
+}
+
 // A signal that a barrier packet still waits for, and its value.
 fn tell_dependency(
     out: &mut String,
     scene: &Scene<'_>,
-    signal: aql_packet::SignalHandle,
+    signal: SignalHandle,
 ) -> Result<(), AllocError> {
     begin(out, scene)?;
     out.push_str("it waits for ")?;
     put_object(out, scene.policy, Object::Signal(signal))?;
-    match signal_value(scene, signal) {
+    match scene.core.value_of(signal) {
         Some(value) => writeln!(out, ", whose value is {value}"),
         None => out.push_str("\n"),
     }
 }
 
-/// What a barrier packet still waits for.
-pub fn tell_dependencies(
+// The signals of these that were not seen yet.
+fn tell_unseen(
     out: &mut String,
     scene: &Scene<'_>,
-    flying: &InFlight,
+    signals: [SignalHandle; 5],
+    seen: [bool; 5],
 ) -> Result<(), AllocError> {
-    let Satisfied(seen) = how_far(scene, flying.queue, flying.id).satisfied;
-    let signals = dependencies(&flying.packet);
     for (signal, seen) in signals.iter().zip(seen.iter()) {
         if signal.0 != 0 && !*seen {
             tell_dependency(out, scene, *signal)?;
@@ -131,17 +137,32 @@ pub fn tell_dependencies(
     Ok(())
 }
 
-// A packet in flight, and what brings it to its end.
-fn tell_flying(out: &mut String, scene: &Scene<'_>, flying: &InFlight) -> Result<(), AllocError> {
-    let queue = flying.queue.0;
-    let id = flying.id.0;
+/// What a barrier packet still waits for.
+pub fn tell_dependencies(
+    out: &mut String,
+    scene: &Scene<'_>,
+    place: &Place,
+) -> Result<(), AllocError> {
+    let Satisfied(seen) = place.progress.satisfied;
+    tell_unseen(out, scene, dependencies(&place.packet), seen)
+}
+
+// A packet of a queue in flight, and what brings it to its end.
+fn tell_flying(
+    out: &mut String,
+    scene: &Scene<'_>,
+    queue: QueueId,
+    place: &Place,
+) -> Result<(), AllocError> {
+    let queue = queue.0;
+    let id = place.id.0;
     begin(out, scene)?;
-    if is_barrier(&flying.packet) {
+    if is_barrier(&place.packet) {
         writeln!(
             out,
             "barrier packet {id} of queue {queue} is in flight: `poll {queue} {id}` until it is ready, and `finish {queue} {id}`"
         )?;
-        return tell_dependencies(out, scene, flying);
+        return tell_dependencies(out, scene, place);
     }
     writeln!(
         out,
@@ -149,18 +170,16 @@ fn tell_flying(out: &mut String, scene: &Scene<'_>, flying: &InFlight) -> Result
     )
 }
 
-// The packets of these for which a packet of a queue waits.
+// The packets in flight for which a packet of their queue waits.
 fn tell_waited_for(
     out: &mut String,
     scene: &Scene<'_>,
     queue: QueueId,
     cause: WaitCause,
-    flight: &[InFlight],
 ) -> Result<(), AllocError> {
-    for flying in flight {
-        let is_waited_for = cause != WaitCause::Barrier || is_barrier(&flying.packet);
-        if flying.queue == queue && is_waited_for {
-            tell_flying(out, scene, flying)?;
+    for place in scene.core.packets_of(queue) {
+        if cause != WaitCause::Barrier || is_barrier(&place.packet) {
+            tell_flying(out, scene, queue, place)?;
         }
     }
     Ok(())
@@ -168,7 +187,6 @@ fn tell_waited_for(
 
 /// What a packet waits for.
 pub fn tell_waiting(
-    alloc: Global,
     out: &mut String,
     scene: &Scene<'_>,
     queue: QueueId,
@@ -186,16 +204,21 @@ pub fn tell_waiting(
                 "eight packets of its queue are in flight, the most: it waits for one",
         },
     )?;
-    tell_waited_for(out, scene, queue, cause, flight(alloc, scene)?.as_slice())
+    tell_waited_for(out, scene, queue, cause)
 }
 
 // A packet in flight that holds a right, and what releases it.
-fn tell_held_by(out: &mut String, scene: &Scene<'_>, flying: &InFlight) -> Result<(), AllocError> {
-    tell_flying(out, scene, flying)?;
-    if !is_barrier(&flying.packet) {
+fn tell_held_by(
+    out: &mut String,
+    scene: &Scene<'_>,
+    queue: QueueId,
+    place: &Place,
+) -> Result<(), AllocError> {
+    tell_flying(out, scene, queue, place)?;
+    if !is_barrier(&place.packet) {
         return Ok(());
     }
-    let number = flying.queue.0;
+    let number = queue.0;
     begin(out, scene)?;
     writeln!(
         out,
@@ -205,7 +228,6 @@ fn tell_held_by(out: &mut String, scene: &Scene<'_>, flying: &InFlight) -> Resul
 
 /// The packet that holds a right, and what would release it.
 pub fn tell_holder(
-    alloc: Global,
     out: &mut String,
     scene: &Scene<'_>,
     queue: QueueId,
@@ -216,8 +238,8 @@ pub fn tell_holder(
         scene,
         "a packet in flight holds a right that is to be taken; it is released once it is finished",
     )?;
-    match flying_of(alloc, scene, queue, packet)? {
-        Some(flying) => tell_held_by(out, scene, &flying),
+    match scene.core.flying(queue, packet) {
+        Some(place) => tell_held_by(out, scene, queue, place),
         None => Ok(()),
     }
 }

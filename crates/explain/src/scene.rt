@@ -1,23 +1,35 @@
-//! What an explanation is told over: a policy, an audit, and the number of the script's line.
+//! What an explanation is told over: a core, and the number of the script's line.
 
-use crate::lacks::{Lack, lack_of};
-use crate::owners::owner;
+use crate::known::Known;
+use crate::lacks::Lack;
 use crate::texts::{put_client, put_grant, put_object};
-use aql_packet::{ClientId, PacketId, QueueId};
-use core_model::{Entry, Event, Opening, Origin, Outcome, Taken};
+use access_core::AccessCore;
 use policy::{Kind, Object, Policy, PolicyRows, Right};
-use std::alloc::{AllocError, Global};
+use std::alloc::AllocError;
 
-/// A policy, the rows on rights that are in force, what the core's history begins from and the entries since, how many
-/// packets are in flight, and the number of the line that is explained.
+/// What is known, the core that knows it, its policy, the rows on rights that are in force, and the number of the line that
+/// is explained.
 #[derive(Clone, Copy)]
 pub struct Scene<'a> {
+    pub known: Known<'a>,
+    pub core: &'a AccessCore,
     pub policy: &'a Policy,
     pub rows: &'a PolicyRows,
-    pub start: &'a Origin,
-    pub entries: &'a [Entry],
-    pub in_flight: usize,
     pub line: u64,
+}
+
+impl<'a> Scene<'a> {
+    /// Where a line of this number is explained by what is known.
+    pub fn of(known: Known<'a>, line: u64) -> Scene<'a> {
+        let core = known.core();
+        Scene {
+            known,
+            core,
+            policy: core.policy(),
+            rows: known.rows(),
+            line,
+        }
+    }
 }
 
 /// Begins a line of an explanation.
@@ -31,74 +43,6 @@ pub fn say(out: &mut String, scene: &Scene<'_>, text: &str) -> Result<(), AllocE
     begin(out, scene)?;
     out.push_str(text)?;
     out.push_str("\n")
-}
-
-/// The right on an object that a client lacks, if it isn't in force.
-pub fn lack_in(scene: &Scene<'_>, client: ClientId, object: Object, right: Right) -> Option<Lack> {
-    lack_of(
-        scene.rows,
-        scene.start,
-        scene.entries,
-        client,
-        object,
-        right,
-    )
-}
-
-/// Who opened a queue, and on which agent.
-pub fn owner_in(
-    alloc: Global,
-    scene: &Scene<'_>,
-    queue: QueueId,
-) -> Result<Option<Opening>, AllocError> {
-    owner(alloc, scene.start, scene.entries, queue)
-}
-
-/// The 64 bytes of a packet that was handed over, and what became of it.
-#[derive(Clone, Copy)]
-pub struct HandedOver {
-    pub bytes: [u8; 64],
-    pub taken: Taken,
-}
-
-// What an entry hands over of a queue and an id, if it does.
-fn handed_over_by(entry: &Entry, queue: QueueId, packet: PacketId) -> Option<HandedOver> {
-    let Event::Take {
-        queue: of,
-        packet: id,
-        bytes,
-    } = &entry.event
-    else {
-        return None;
-    };
-    match entry.outcome {
-        Outcome::Taken(taken) if *of == queue && *id == packet => Some(HandedOver {
-            bytes: *bytes,
-            taken,
-        }),
-        _ => None,
-    }
-}
-
-// What the first of these entries hands over of a queue and an id, if it does.
-fn first_handed_over(entries: &[Entry], queue: QueueId, packet: PacketId) -> Option<HandedOver> {
-    handed_over_by(entries.first()?, queue, packet)
-}
-
-/// The packet of a queue and an id that these entries hand over, if they do, and those of them before it. The last entry
-/// is looked at first.
-pub fn handed_over(
-    entries: &[Entry],
-    queue: QueueId,
-    packet: PacketId,
-) -> Option<(HandedOver, &[Entry])> {
-    for place in (0..entries.len()).rev() {
-        let (before, rest) = entries.split_at(place.min(entries.len()));
-        if let Some(found) = first_handed_over(rest, queue, packet) {
-            return Some((found, before));
-        }
-    }
-    None
 }
 
 // Whether some allow row covers a right of a client on an object; a deny row takes it away then, where it isn't allowed.

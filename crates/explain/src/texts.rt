@@ -1,7 +1,5 @@
 //! Names, ranges and bytes as explanations have them.
 
-ghost use Rattle.std.specs.Prelude.{◌<◌};
-
 use aql_packet::{Address, ClientId, REGION_SPAN, RegionHandle};
 use core_model::Range;
 use policy::{Kind, Object, Policy, Right};
@@ -10,35 +8,14 @@ use std::alloc::AllocError;
 // How many bytes of a word are shown at the most.
 const SHOWN: usize = 40;
 
-// Puts a hexadecimal digit behind a text.
-fn put_digit(out: &mut String, value: u8) -> Result<(), AllocError>
-    requires { value < 16 }
-{
-    let digit = if value < 10 {
-        b'0' + value
-    } else {
-        b'a' + (value - 10)
-    };
-    out.push(char::from(digit))
-}
-
-// Puts the last `count` hexadecimal digits of a number behind a text.
-fn put_digits(out: &mut String, count: u8, number: u64) -> Result<(), AllocError> {
-    if count == 0 {
-        return Ok(());
-    }
-    put_digits(out, count - 1, number / 16)?;
-    put_digit(out, (number % 16) as u8)
-}
-
 /// Puts an address behind a text: 16 hexadecimal digits.
 pub fn put_address(out: &mut String, address: u64) -> Result<(), AllocError> {
-    put_digits(out, 16, address)
+    write!(out, "{address:016x}")
 }
 
 /// Puts a byte behind a text: two hexadecimal digits.
 pub fn put_byte(out: &mut String, byte: u8) -> Result<(), AllocError> {
-    put_digits(out, 2, byte as u64)
+    write!(out, "{byte:02x}")
 }
 
 /// Puts the beginning of a word of a script or a policy behind a text, in quotes; a byte that is no printing letter of

@@ -58,7 +58,7 @@ fn tell_last(
     };
     write_shown(alloc, out, core, before, entry)?;
     let line = before.saturating_add(LINE_BEHIND);
-    let told = failure_told(alloc, core.policy(), core.start(), entries, line)?;
+    let told = failure_told(alloc, core, entries, line)?;
     out.push_str(told.as_str())
 }
 

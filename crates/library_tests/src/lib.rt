@@ -19,6 +19,8 @@ mod holds;
 #[cfg(test)]
 mod kernels;
 #[cfg(test)]
+mod line_forms;
+#[cfg(test)]
 mod memory;
 #[cfg(test)]
 mod modules;

@@ -3,7 +3,7 @@ use Rattle.std.proofs.Common.{◌≡◌, drop}
 use Rattle.std.specs.Prelude.{fold}
 use Rattle.core_model.specs.Grants.{in_force_after}
 use Rattle.explain.specs.Lacks.{in_force_since}
-use Rattle.explain.proofs.lacks.is_in_force.Given as goal
+use Rattle.explain.proofs.lacks.was_in_force.Given as goal
 
 abbrev pub invariant-entries : goal.invariant-entries
 invariant-entries l =

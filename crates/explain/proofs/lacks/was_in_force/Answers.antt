@@ -1,7 +1,7 @@
 use Rattle.std.proofs.Common.{arith}
 use Rattle.core_model.specs.Grants.{in_force_after}
 use Rattle.explain.proofs.Folding.{fold-next}
-use Rattle.explain.proofs.lacks.is_in_force.Goals as goal
+use Rattle.explain.proofs.lacks.was_in_force.Goals as goal
 
 pub entries-preserved : goal.entries-preserved
 entries-preserved c =
