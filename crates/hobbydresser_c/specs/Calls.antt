@@ -20,6 +20,9 @@ use Rattle.policy.specs.Object.{object_of}
 use Rattle.policy.specs.declared.object.Kind.{Kind}
 use Rattle.policy.specs.declared.object.Kind.TheVariants.{Agent, Region, Signal, Kernel}
 use Rattle.policy.specs.declared.object.Object.{Object}
+use Rattle.policy.specs.declared.object.Object.TheVariants as objects
+use Rattle.policy.specs.declared.rights.Right.TheVariants.{Write}
+use Rattle.regions.specs.Memory.{region_of}
 use Rattle.policy.specs.declared.rights.Rights.{Rights}
 use Rattle.aql_packet.specs.declared.ids.ClientId.{ClientId}
 use Rattle.core_model.specs.Grants.{in_force}
@@ -124,10 +127,12 @@ pub record TellsTaken (status : ℕ) (before after : TakenRecord) (next_before n
   pub taken_is : after ≡ value_after taken_told before answer
   pub next_is : next_now ≡ next_after next_before answer
 
--- bytes that a client would write are copied before anything else is asked: there is the client, and they may be so many
-abbrev pub IsCopied : History → ℕ → List ℕ → Type 0
-IsCopied history client bytes =
-    (knows_client (rules_of (beginning history).policy) (record { 0 = client }) ≡ true) × (is_host_size (length bytes) ≡ true)
+-- bytes that a client would write are copied: there is the client, they may be so many, and its right on the region is in force
+abbrev pub IsCopied : History → ℕ → ℕ → List ℕ → Type 0
+IsCopied history client address bytes =
+    (knows_client (rules_of (beginning history).policy) (record { 0 = client }) ≡ true)
+    × (is_host_size (length bytes) ≡ true)
+    × (in_force (beginning history) history.entries (record { 0 = client }) (objects.Region (record { 0 = region_of address })) Write ≡ true)
 
 -- ---- numbers for which something stands
 

@@ -2,7 +2,7 @@
 
 ghost use Rattle.std.specs.Prelude.{◌≡◌, IfOk, false, length, string_bytes, true};
 ghost use Rattle.std.specs.Option.{option_copied};
-ghost use Rattle.core_model.specs.History.{Part, beginning};
+ghost use Rattle.core_model.specs.History.{beginning};
 ghost use Rattle.script.specs.Entries.{text_of_entry};
 ghost use Rattle.hobbydresser_c.specs.Audits.{Rotated, entry_numbered};
 ghost use Rattle.hobbydresser_c.specs.Buffers.{FillsOrLacks};

@@ -29,8 +29,7 @@ pub extern "C" fn hd_digest_of(text: &[u8], digest: &mut DigestRecord) -> u32
     ensures status { result ≡ ok }
     ensures digest { digest.new.bytes ≡ sha256 text.now }
 {
-    *digest = DigestRecord {
-        bytes: digest_of(text),
-    };
+    let bytes = digest_of(text);
+    *digest = DigestRecord { bytes };
     status::OK
 }

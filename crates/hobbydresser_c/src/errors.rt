@@ -17,24 +17,24 @@ use core_model::Refusal;
 use queue_error::QueueError;
 
 // Puts what is told of each error into the caller's records.
-fn put_errors(errors: &[QueueError], out: &mut [ErrorRecord])
-    requires { length errors.now ≤ length out.old }
-    ensures { out.new ≡ map error_told errors.now ++ drop (length errors.now) out.old }
+fn put_errors(rows: &[QueueError], out: &mut [ErrorRecord])
+    requires { length rows.now ≤ length out.old }
+    ensures { out.new ≡ map error_told rows.now ++ drop (length rows.now) out.old }
 {
-    'errors: for place in 0..errors.len() {
-        out[place] = error_told(errors[place]);
+    'rows: for place in 0..rows.len() {
+        out[place] = error_told(rows[place]);
     }
 }
 
 // Fills the caller's records by errors, and tells how many they are.
-fn fill_errors(errors: &[QueueError], out: &mut [ErrorRecord], needed: &mut u64) -> u32
-    ensures { FillsRecords error_told errors.now result out.old out.new needed.new }
+fn fill_errors(rows: &[QueueError], out: &mut [ErrorRecord], needed: &mut u64) -> u32
+    ensures { FillsRecords error_told rows.now result out.old out.new needed.new }
 {
-    *needed = errors.len() as u64;
-    if errors.len() > out.len() {
+    *needed = rows.len() as u64;
+    if rows.len() > out.len() {
         return status::TOO_SHORT;
     }
-    put_errors(errors, out);
+    put_errors(rows, out);
     status::OK
 }
 

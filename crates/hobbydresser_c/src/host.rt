@@ -19,15 +19,17 @@ use crate::status;
 use access_core::AccessCore;
 use aql_packet::{Address, ClientId, SignalHandle};
 use core_model::{MOST_HOST_BYTES, Refusal};
+use policy::{Object, Right};
+use regions::region_of;
 use sequences::Sequence;
 use signals::{Condition, SignalOp};
 use std::alloc::Global;
 
-// Why bytes may not be written, where that is told by the client or by how many they are.
+// Why bytes may not be written, where that is told by the client, its rights, or how many bytes they are.
 #[tactic(auto, unfolding(core_model::specs::Owed::owed))]
 fn refused_at_once(core: &AccessCore, client: u32, address: u64, bytes: &[u8]) -> Option<Refusal>
     ensures refused { IfSome result (λ why. due core.now.history (event.Call (call.HostWrite (record { 0 = client }) (record { 0 = address }) bytes.now)) ≡ refuses why) }
-    ensures passed { IfNone result (IsCopied core.now.history client bytes.now) }
+    ensures passed { IfNone result (IsCopied core.now.history client address bytes.now) }
 {
     if !core.policy().declares_client(ClientId(client)) {
         return Some(Refusal::UnknownClient);
@@ -35,11 +37,15 @@ fn refused_at_once(core: &AccessCore, client: u32, address: u64, bytes: &[u8]) -
     if bytes.is_empty() || bytes.len() as u64 > MOST_HOST_BYTES {
         return Some(Refusal::BadSize);
     }
+    let region = Object::Region(region_of(Address(address)));
+    if !core.has_right(ClientId(client), region, Right::Write) {
+        return Some(Refusal::Denied(Right::Write));
+    }
     None
 }
 
-/// Writes bytes to memory, as a client. Of bytes that a client of this number may not write, as it isn't there or as they are
-/// too many, no copy is made.
+/// Writes bytes to memory, as a client. They are copied only where there is the client, with the right on the region, and
+/// where they may be so many.
 #[unsafe(no_mangle)]
 pub extern "C" fn hd_write(
     alloc: Global,
@@ -52,7 +58,7 @@ pub extern "C" fn hd_write(
     ensures open { Keeps broker.old broker.new }
     ensures met { is_open broker.old ≡ true →
         IsMade (event.Call (call.HostWrite (record { 0 = client }) (record { 0 = address }) bytes.now)) broker.old broker.new result
-        ⊎ ((result ≡ out_of_memory) × IsSame broker.old broker.new × IsCopied (history_of broker.old) client bytes.now) }
+        ⊎ ((result ≡ out_of_memory) × IsSame broker.old broker.new × IsCopied (history_of broker.old) client address bytes.now) }
 {
     if !broker.is_open() {
         return status::CLOSED;

@@ -33,8 +33,9 @@ pub struct ChainRecord {
 fn chain_told(chain: Chain) -> ChainRecord
     ensures { result ≡ chain_told chain }
 {
+    let digest = chain.digest;
     ChainRecord {
-        digest: chain.digest,
+        digest,
         number: chain.number,
     }
 }
@@ -43,8 +44,9 @@ fn chain_told(chain: Chain) -> ChainRecord
 fn chain_of(told: &ChainRecord) -> Chain
     ensures { result ≡ chain_of told.now }
 {
+    let digest = told.digest;
     Chain {
-        digest: told.digest,
+        digest,
         number: told.number,
     }
 }
@@ -76,7 +78,8 @@ fn policies_of(
     let mut policies = Sequence::new(alloc);
     policies.push(first)?;
     for digest in further {
-        policies.push(digest.bytes)?;
+        let bytes = digest.bytes;
+        policies.push(bytes)?;
     }
     Ok(policies)
 }
@@ -85,10 +88,12 @@ fn policies_of(
 fn head_of(alloc: Global, session: &Session, further: &[DigestRecord]) -> Result<Head, AllocError>
     ensures { IfOk result (λ head. head ≡ head_of session.now further.now) }
 {
+    let first = session.digest;
+    let policies = policies_of(alloc, first, further)?;
     Ok(Head {
         capacity: session.core.table_sizes().audit_places as u64,
         before: session.core.entries_before(),
-        policies: policies_of(alloc, session.digest, further)?,
+        policies,
     })
 }
 

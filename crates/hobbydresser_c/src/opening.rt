@@ -65,10 +65,10 @@ fn open_session(alloc: Global, text: &[u8], places: usize) -> Result<Session, Fa
         Err(KernelError::Fault(fault)) => return Err(Failure::Kernel(fault)),
     };
     match AccessCore::open(alloc, policy, kernels, places) {
-        Ok(core) => Ok(Session {
-            core,
-            digest: digest_of(text),
-        }),
+        Ok(core) => {
+            let digest = digest_of(text);
+            Ok(Session { core, digest })
+        }
         Err(why) => Err(Failure::Opening(why)),
     }
 }

@@ -2,8 +2,8 @@
 
 ghost use Rattle.std.specs.Prelude.{◌≡◌, false, true};
 ghost use Rattle.hobbydresser_c.specs.Statuses.{closed};
-ghost use Rattle.hobbydresser_c.specs.Calls.{IsSame, Keeps, history_of, is_open};
-ghost use Rattle.hobbydresser_c.specs.Reloading.{ComesTo, Reloaded, TellsReload, reload_fault};
+ghost use Rattle.hobbydresser_c.specs.Calls.{IsSame, Keeps, is_open};
+ghost use Rattle.hobbydresser_c.specs.Reloading.{ComesTo, Reloaded, TellsReload};
 
 use crate::broker::Broker;
 use crate::granting::tell_refusal;
