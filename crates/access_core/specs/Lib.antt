@@ -1,3 +1,4 @@
+pub mod Asked
 pub mod Cores
 pub mod Keeping
 pub mod Opening

@@ -6,6 +6,7 @@ ghost use Rattle.core_model.specs.Flight.{flight};
 ghost use Rattle.core_model.specs.Legal.{entry_of};
 ghost use Rattle.access_core.specs.inner.Cached.{IsEntered, is_full};
 
+mod asked;
 mod completing;
 mod granting;
 mod group_writes;

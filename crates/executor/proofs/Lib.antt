@@ -9,6 +9,7 @@ mod ItemLemmas
 mod TurnLemmas
 pub mod HeldWrites
 mod ViewLemmas
+mod AccessLemmas
 mod RoundLemmas
 mod GroupEnds
 mod ReadBytes

@@ -11,3 +11,4 @@ pub mod Flat
 pub mod Stops
 pub mod ItemRuns
 pub mod Words
+pub mod Whole

@@ -4,6 +4,7 @@ ghost use Rattle.std.specs.Option.{option_copied};
 ghost use Rattle.executor.specs.Accesses.{region_of, broken, lent, loaded, stored};
 ghost use Rattle.executor.specs.Items.{lent_region};
 ghost use Rattle.executor.specs.inner.Outcomes.{StoreFails};
+ghost use Rattle.executor.specs.inner.Whole.{broken_first, whole_in};
 ghost use Rattle.executor.specs.inner.Pages.{byte_at};
 
 use crate::held::HeldRegion;
@@ -29,26 +30,51 @@ pub fn region_of<'v>(view: &'v View<'v>, address: u64) -> Option<&'v HeldRegion<
     view.find(address)
 }
 
+/// The held region that an access of a size lies in as a whole.
+#[inline(always)]
+fn whole_region_of<'v>(view: &'v View<'v>, address: u64, size: usize) -> Option<&'v HeldRegion<'v>>
+    requires some { 1 ≤ size }
+    requires few { size ≤ 8 }
+    ensures { option_map lent_region (option_copied result) ≡ whole_in (region_of (map lent_region view.now) address) address size }
+{
+    view.find_whole(address, size)
+}
+
+/// The rule that an access breaks first, where it breaks one.
+#[inline(never)]
+fn first_broken(view: &View<'_>, right: Right, address: u64) -> Rule
+    ensures { result ≡ broken_first (region_of (map lent_region view.now) address) right }
+{
+    match region_of(view, address) {
+        None => Rule::A1,
+        Some(region) => {
+            if region.rights.has(right) {
+                Rule::A3
+            } else {
+                Rule::A2
+            }
+        }
+    }
+}
+
 /// The bytes that are lent for an access of a size, or the rule that it breaks first.
 #[inline(always)]
 fn access<'v>(view: &'v View<'v>, right: Right, address: u64, size: usize) -> Result<&'v [u8], Rule>
-    requires { size ≤ 8 }
+    requires some { 1 ≤ size }
+    requires few { size ≤ 8 }
     ensures allowed { IfOk result (λ bytes. broken (map lent_region view.now) right address size ≡ None) }
     ensures bytes { IfOk result (λ bytes. bytes.now ≡ lent (map lent_region view.now) address size) }
     ensures size { IfOk result (λ bytes. length bytes.now ≡ size) }
     ensures end { IfOk result (λ bytes. address + size ≤ 2 ^ 64) }
     ensures refused { IfErr result (λ rule. broken (map lent_region view.now) right address size ≡ Some rule) }
 {
-    let Some(region) = region_of(view, address) else {
-        return Err(Rule::A1);
+    let Some(region) = whole_region_of(view, address, size) else {
+        return Err(first_broken(view, right, address));
     };
     if !region.rights.has(right) {
-        return Err(Rule::A2);
+        return Err(first_broken(view, right, address));
     }
     let offset = (address % REGION_SPAN) as usize;
-    if offset + size > region.bytes.len() {
-        return Err(Rule::A3);
-    }
     Ok(&region.bytes[offset..offset + size])
 }
 
@@ -75,7 +101,8 @@ pub fn store(
     size: usize,
     value: u64,
 ) -> Result<(), StoreError>
-    requires { size ≤ 8 }
+    requires some { 1 ≤ size }
+    requires few { size ≤ 8 }
     ensures ok { OnOk result (stored (map lent_region view.now) (byte_at written.old) address size value ≡ Ok (byte_at written.new)) }
     ensures err { IfErr result (StoreFails (stored (map lent_region view.now) (byte_at written.old) address size value)) }
 {

@@ -1,7 +1,8 @@
 //! The regions that a packet holds, and how the one that an address lies in is found.
-ghost use Rattle.std.specs.Prelude.{◌≡◌, ◌<◌, ◌≤◌, ◌++◌, ◌∷◌, [], All, OnErr, OnOk, find};
+ghost use Rattle.std.specs.Prelude.{◌≡◌, ◌%◌, ◌<◌, ◌≤◌, ◌++◌, ◌∷◌, [], All, OnErr, OnOk, find};
 ghost use Rattle.std.specs.Option.{option_copied};
-ghost use Rattle.aql_packet.specs.Memory.{most_regions};
+ghost use Rattle.aql_packet.specs.Memory.{most_regions, region_span};
+ghost use Rattle.executor.specs.inner.Places.{if_whole};
 ghost use Rattle.executor.specs.Views.{has_byte_at};
 
 use crate::held::HeldRegion;
@@ -70,6 +71,30 @@ impl<'a> View<'a> {
         }
         let region = &self.regions[place - 1];
         if address % REGION_SPAN < region.bytes.len() as u64 {
+            Some(region)
+        } else {
+            None
+        }
+    }
+
+    /// The region that an access begins in, if it ends in there too. One look at the region's end tells both.
+    #[inline(always)]
+    pub fn find_whole(&self, address: u64, size: usize) -> Option<&HeldRegion<'a>>
+        requires some { 1 ≤ size }
+        requires few { size ≤ 8 }
+        ensures { option_copied result ≡ if_whole (address % region_span) size (find (λ region. has_byte_at region address) self.now) }
+    {
+        let places = &self.places;
+        let number = (address / REGION_SPAN) as usize;
+        if number >= places.len() {
+            return None;
+        }
+        let place = places[number] as usize;
+        if place == 0 {
+            return None;
+        }
+        let region = &self.regions[place - 1];
+        if (address % REGION_SPAN) as usize + size <= region.bytes.len() {
             Some(region)
         } else {
             None
