@@ -1,9 +1,6 @@
 //! A line of a run is done and replied to, and a run does its lines in turn.
 
-ghost use Rattle.std.specs.Prelude.{◌≡◌, ◌++◌, [], IfOk, ℕ, List, string_bytes, true, false};
-ghost use Rattle.core_model.specs.declared.event.Query.TheVariants as query;
-ghost use Rattle.world.specs.declared.request.Request.TheVariants as request;
-ghost use Rattle.script.specs.declared.command.Command.TheVariants as command;
+ghost use Rattle.std.specs.Prelude.{◌≡◌, ◌++◌, IfOk, ℕ, List, string_bytes, true, false};
 ghost use Rattle.readable.specs.Runs.{AsText, RunsByLine};
 ghost use Rattle.readable.specs.Tallies.{text_of_tally};
 ghost use Rattle.readable.specs.inner.Ends.{TellsDrain, with_number};
@@ -102,9 +99,7 @@ fn run_lines<W: io::Write, V: Watch>(
 }
 
 // Whether a line asks for the audit.
-fn asks_for_audit(command: &Command) -> bool
-    ensures { result ≡ true → command.now ≡ command.Ask (request.Query query.Audit) }
-{
+fn asks_for_audit(command: &Command) -> bool {
     match command {
         Command::Ask(Request::Query(Query::Audit)) => true,
         _ => false,
@@ -346,7 +341,7 @@ pub fn serve_line<W: io::Write, V: Watch>(
     writer: &mut W,
     wanted: &mut String,
 ) -> Result<(), ScriptFault>
-    ensures { RunsByLine style.is_json later.now world.old world.new (W.contents writer.old) (W.contents writer.new) result }
+    ensures { RunsByLine style.entry.is_json later.now world.old world.new (W.contents writer.old) (W.contents writer.new) result }
 {
     let place = Place {
         number,
@@ -389,7 +384,7 @@ fn serve_given<L: Lines, W: io::Write, V: Watch>(
     writer: &mut W,
     wanted: &mut String,
 ) -> Result<(), ScriptFault>
-    ensures { RunsByLine style.is_json later.now world.old world.new (W.contents writer.old) (W.contents writer.new) result }
+    ensures { RunsByLine style.entry.is_json later.now world.old world.new (W.contents writer.old) (W.contents writer.new) result }
 {
     serve_line(
         alloc,
@@ -417,7 +412,7 @@ pub fn run_by_line<L: Lines, W: io::Write, V: Watch>(
     writer: &mut W,
     wanted: &mut String,
 ) -> Result<(), ScriptFault>
-    ensures { RunsByLine style.is_json later.now world.old world.new (W.contents writer.old) (W.contents writer.new) result }
+    ensures { RunsByLine style.entry.is_json later.now world.old world.new (W.contents writer.old) (W.contents writer.new) result }
 {
     'lines: for _ in 0..MOST_LINES {
         match lines.next_line() {
