@@ -10,7 +10,7 @@ use crate::draining::drain;
 use crate::moves::{command_of, reply_of};
 use crate::telling::{follow, hand_over, tell_audit, tell_reply};
 use aql_packet::QueueId;
-use assemble::{Book, Fault, LineError, Turned, fault_text, put_lines, without_comment};
+use assemble::{Book, LineError, Turned, fault_text, put_lines, without_comment};
 use core_model::Query;
 use policy::Policy;
 use script::{
@@ -72,7 +72,22 @@ fn with_number(number: u64, ended: Result<(), ScriptFault>) -> Result<(), Script
     }
 }
 
-// Does lines of a script as `run_script` does.
+// Does the lines of a reader as `run_script` does.
+fn run_bytes<R: io::Read, W: io::Write, V: Watch>(
+    alloc: Global,
+    world: &mut World,
+    later: &[Policy],
+    watcher: &mut V,
+    reader: &mut R,
+    writer: &mut W,
+) -> Result<(), ScriptFault>
+    ensures { RunsByLine false later.now world.old world.new (W.contents writer.old) (W.contents writer.new) result }
+{
+    let mut answers = IoLog::none();
+    run_watched(alloc, reader, writer, world, later, watcher, &mut answers)
+}
+
+// Does lines of a script, of which each is told to have one number.
 fn run_lines<W: io::Write, V: Watch>(
     alloc: Global,
     world: &mut World,
@@ -86,15 +101,7 @@ fn run_lines<W: io::Write, V: Watch>(
 {
     let mut watcher = Numbered { watcher, number };
     let mut rest = lines;
-    let ended = run_watched(
-        alloc,
-        &mut rest,
-        writer,
-        world,
-        later,
-        &mut watcher,
-        &mut IoLog::none(),
-    );
+    let ended = run_bytes(alloc, world, later, &mut watcher, &mut rest, writer);
     with_number(number, ended)
 }
 
@@ -270,14 +277,17 @@ fn serve_drain<W: io::Write, V: Watch>(
     }
 }
 
-// What is wanted in a readable line of no form.
-fn tell_wanted(
+// Why a readable line isn't done; what is wanted in one of no form is kept.
+fn why_not(
     alloc: Global,
     place: Place,
     line: &[u8],
-    fault: Fault,
+    error: LineError,
     wanted: &mut String,
 ) -> ScriptFault {
+    let LineError::Fault(fault) = error else {
+        return ScriptFault::OutOfMemory;
+    };
     match fault_text(alloc, place.number, line, fault) {
         Ok(text) => {
             *wanted = text;
@@ -318,8 +328,7 @@ fn serve_readable<W: io::Write, V: Watch>(
         Ok(Turned::Drain(queue)) => {
             serve_drain(alloc, world, later, watcher, place, queue, writer)
         }
-        Err(LineError::OutOfMemory) => Err(ScriptFault::OutOfMemory),
-        Err(LineError::Fault(fault)) => Err(tell_wanted(alloc, place, line, fault, wanted)),
+        Err(error) => Err(why_not(alloc, place, line, error, wanted)),
     }
 }
 
@@ -330,6 +339,7 @@ fn serve_readable<W: io::Write, V: Watch>(
 /// some requests in turn, each as a script's line does it, and hands over just their replies: as text the lines that a
 /// script is replied, and to a drain what begins with the counts of its requests. Where memory is wanted, the requests that
 /// were made last aren't replied to; where the writer fails, a beginning of the replies is handed over.
+#[tactic(auto, using(crate::proofs::Asking::replied_none))]
 pub fn serve_line<W: io::Write, V: Watch>(
     alloc: Global,
     world: &mut World,
