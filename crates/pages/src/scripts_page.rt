@@ -206,7 +206,9 @@ $ brokerd picture crates/brokerd/data/sample.toml < examples/two_queues.script |
 - **In the first lane** green marks are grants, orange ones revocations, blue ones a client's writes and violet ones its changes of signals.
 - **Under the pointer** each mark tells its entry: queue and packet, rights, how many bytes of which region were written, and signals with the values before and after.
 
-The more entries there are, the closer they stand: 200 packets fit on a screen. `--from N` and `--to N` draw the entries from one number to another; what is in flight before the first has its bar from the left edge on. Of more than 5,000 entries the last 5,000 are drawn.
+`brokerd picture POLICY [NEXT..] --journal FILE` draws a journal (`docs/audit.md`) in place of a script's run, all its entries from the first on, and runs nothing.
+
+The more entries there are, the closer they stand: 200 packets fit on a screen. A page that is wider than 1,920 points isn't shrunk to the window: look at it part by part. `--from N` and `--to N` draw the entries from one number to another; what is in flight before the first has its bar from the left edge on. Of more than 5,000 entries the last 5,000 are drawn.
 
 A page is that of a whole script or there is none: where a line has no form, or reading, writing or memory fails, nothing is drawn (but a beginning, where the page's writer fails), and standard error and the status are those of `run`. So put a `#` before the bad line, or end the script before it. Refusals, denials and faults of packets end nothing.
 

@@ -15,6 +15,7 @@ use Rattle.picture.specs.declared.seats.Seat.{Seat}
 use Rattle.picture.specs.Arrows.{last_zero, zeros_after}
 use Rattle.picture.specs.Frames.{is_opening, lanes_in, one_lane_more}
 use Rattle.picture.specs.Reading.{deepened, deepened_to, depths_in, depths_of, ending_of, end_of, lane_of_queue, spot_of}
+use Rattle.picture.specs.Shapes.{height_at, height_of_lanes}
 use Rattle.picture.specs.Seats.{releases, seats_after, seats_of, with_seat}
 use Rattle.picture.specs.Pages.{text_of_entry, text_of_entries, text_of_queue, text_of_queues}
 
@@ -95,6 +96,14 @@ lower_step depths i seats entries entry lt is = rw (at_index entries i entry lt 
 pub lower_end : (depths : List ℕ) (i : ℕ) (seats : List Seat) (entries : List Entry) → length entries ≤ i → depths_in depths seats (drop i entries) ≡ depths
 unfolding depths_in
 lower_end depths i seats entries le = rw (drop_all i entries le) refl
+
+-- ---- how high lanes are
+
+-- one lane more
+pub height_step : (depths : List ℕ) (n height one : ℕ) → height ≡ height_of_lanes depths n → one ≡ height_at depths n
+    → height + (one + 6) ≡ height_of_lanes depths (n + 1)
+unfolding height_of_lanes
+height_step depths n height one h k = rw (add-one, h, k) refl
 
 -- ---- the seats of packets
 

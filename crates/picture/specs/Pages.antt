@@ -1,5 +1,5 @@
 -- The page: its head, and behind it in two layers what an audit begins from, and each of its entries, in order, each once (own).
-use Rattle.std.specs.Prelude.{ℕ, ◌+◌, Bool, List, [], ◌∷◌, ◌++◌, flat_map, codes, decimal, length, if◌then◌else◌}
+use Rattle.std.specs.Prelude.{ℕ, ◌+◌, Bool, List, [], ◌∷◌, ◌++◌, flat_map, codes, decimal, length, nat_lt, if◌then◌else◌}
 use Rattle.aql_packet.specs.declared.ids.QueueId.{QueueId}
 use Rattle.aql_packet.specs.declared.ids.PacketId.{PacketId}
 use Rattle.core_model.specs.declared.outcome.Satisfied.{Satisfied}
@@ -18,7 +18,7 @@ use Rattle.picture.specs.declared.element.Span.{Span}
 use Rattle.picture.specs.declared.element.Frame.{Frame}
 use Rattle.picture.specs.declared.element.Element.{Element}
 use Rattle.picture.specs.declared.seats.Seat.{Seat}
-use Rattle.picture.specs.declared.page.TheConstants.{BEGIN, END, SHRINKING, STYLE, WIDTH}
+use Rattle.picture.specs.declared.page.TheConstants.{BEGIN, END, SCREEN, SHRINKING, STYLE, WIDTH}
 use Rattle.picture.specs.Arrows.{arrow_from, zeros_after}
 use Rattle.picture.specs.Frames.{asked_of, front_of, frame_of}
 use Rattle.picture.specs.Reading.{bar_from_start, element_of, greater, lane_from_start, spot_of, stop_before}
@@ -100,9 +100,13 @@ text_of_size width height = codes " width=\"" ++ decimal width ++ codes "\" heig
 unfoldable pub text_of_shrinking : List ℕ
 text_of_shrinking = SHRINKING.now
 
+-- a page that a screen has no room for is shown as it is, to be looked at part by part
+abbrev pub text_of_fit : ℕ → List ℕ
+text_of_fit width = if nat_lt SCREEN width then codes ">\n" else text_of_shrinking
+
 -- how wide and how high the page is
 unfoldable pub text_of_measures : ℕ → ℕ → List ℕ
-text_of_measures width height = text_of_box width height ++ text_of_size width height ++ text_of_shrinking
+text_of_measures width height = text_of_box width height ++ text_of_size width height ++ text_of_fit width
 
 -- what stands at the head of each page
 unfoldable pub text_of_style : List ℕ

@@ -6,7 +6,7 @@ ghost use Rattle.picture.specs.Frames.{lesser, asked_of, skipped_of, step_of, ro
 ghost use Rattle.picture.specs.Reading.{greater};
 
 use crate::element::{Frame, Span};
-use crate::reading::depths_in;
+use crate::reading::deepen_by_entries;
 use crate::seats::seats_of;
 use core_model::{Entry, Event, Origin, QUEUES};
 use std::alloc::{AllocError, Global};
@@ -192,12 +192,14 @@ pub(crate) fn frame_of(
     let skipped = skipped_of(before, count as u64, span) as u32;
     let step = step_of(count - skipped);
     let seats = seats_of(alloc, origin.packets.as_slice())?;
+    let mut depths = [0; 64];
+    deepen_by_entries(&mut depths, seats, entries)?;
     Ok(Frame {
         is_behind: true,
         before,
         skipped,
         lanes: lanes_in(lanes_of(origin.queues.len()), entries),
-        depths: depths_in(seats, entries)?,
+        depths,
         step: step as u8,
         bare: bare_for(step, room_of_number(before as u128 + count as u128)),
     })

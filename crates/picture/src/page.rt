@@ -2,7 +2,7 @@
 
 ghost use Rattle.std.specs.Prelude.{◌≡◌, ◌++◌, ◌+◌, ◌<◌, ◌^◌, OnOk, [], flat_map, string_bytes, length, if◌then◌else◌};
 ghost use Rattle.picture.specs.Arrows.{arrow_from, zeros_after};
-ghost use Rattle.picture.specs.Pages.{text_of_looks, text_of_arrows, text_of_shown_arrows, text_of_drawn, text_of_entry, text_of_entries, text_of_stop, text_of_queue, text_of_queues, text_of_flight, text_of_layer, text_of_box, text_of_size, text_of_shrinking, text_of_measures, text_of_style, width_of_page, text_of_head, text_of_framed, text_of_page};
+ghost use Rattle.picture.specs.Pages.{text_of_looks, text_of_arrows, text_of_shown_arrows, text_of_drawn, text_of_entry, text_of_entries, text_of_stop, text_of_queue, text_of_queues, text_of_flight, text_of_layer, text_of_box, text_of_size, text_of_shrinking, text_of_fit, text_of_measures, text_of_style, width_of_page, text_of_head, text_of_framed, text_of_page};
 ghost use Rattle.picture.specs.declared.page.TheConstants.{BEGIN};
 ghost use Rattle.picture.specs.Reading.{spot_of};
 ghost use Rattle.picture.specs.Seats.{seats_after};
@@ -32,6 +32,9 @@ pub const STYLE: &str =
 
 /// How wide a page is at the least, which what the colours mean wants.
 pub const WIDTH: u64 = 760;
+
+/// How wide a page is at the most that is shown no larger than there is room.
+pub const SCREEN: u64 = 1920;
 
 /// How much stands to the right of the entries, for the words of the last of them.
 pub const END: u64 = 190;
@@ -340,6 +343,17 @@ fn write_shrinking(out: &mut String) -> Result<(), AllocError>
     out.push_str(SHRINKING)
 }
 
+// Writes how a page of a width is shown: one that a screen has no room for as it is, to be looked at part by part.
+fn write_fit(out: &mut String, width: u64) -> Result<(), AllocError>
+    ensures { OnOk result (string_bytes out.new ≡ string_bytes out.old ++ text_of_fit width) }
+{
+    if SCREEN < width {
+        out.push_str(">\n")
+    } else {
+        write_shrinking(out)
+    }
+}
+
 // Writes how wide and how high the page is.
 #[tactic(auto, unfolding(crate::specs::Pages::text_of_measures))]
 fn write_measures(out: &mut String, width: u64, height: u64) -> Result<(), AllocError>
@@ -347,7 +361,7 @@ fn write_measures(out: &mut String, width: u64, height: u64) -> Result<(), Alloc
 {
     write_box(out, width, height)?;
     write_size(out, width, height)?;
-    write_shrinking(out)
+    write_fit(out, width)
 }
 
 // Writes what stands at the head of each page.

@@ -1,7 +1,7 @@
 //! What an entry is drawn as. This file alone speaks of events.
 
-ghost use Rattle.std.specs.Prelude.{◌≡◌, ◌+◌, ◌<◌, ◌^◌, length, Some, IfOk};
-ghost use Rattle.picture.specs.Reading.{greater, lane_of_queue, in_lane, in_row, at_hosts, opened, spot_of, deepened, deepened_to, depths_in, depths_of, flat, ending_of, end_of, work_of, sign_of_take, sign_of_work, sign_of_call, sign_of_poll, sign_of, reach_of, element_of, lane_from_start, stop_before, bar_from_start};
+ghost use Rattle.std.specs.Prelude.{◌≡◌, ◌+◌, ◌<◌, ◌^◌, length, Some, OnOk};
+ghost use Rattle.picture.specs.Reading.{greater, lane_of_queue, in_lane, in_row, at_hosts, opened, spot_of, deepened, depths_in, depths_of, ending_of, end_of, work_of, sign_of_take, sign_of_work, sign_of_call, sign_of_poll, sign_of, reach_of, element_of, lane_from_start, stop_before, bar_from_start};
 ghost use Rattle.aql_packet.specs.Reading.{decoded};
 
 use crate::element::{Element, Ending, Sign, Spot, Work};
@@ -99,49 +99,43 @@ pub(crate) fn spot_of(seats: &[Seat], at: u32, entry: &Entry) -> Spot
     }
 }
 
-// The lowest row that each lane of a queue needs, where a lane needs one more.
-fn deepened(depths: [u8; 64], lane: u8, row: u8) -> [u8; 64]
-    ensures { result ≡ deepened depths lane row }
+// Deepens a lane, where it has a queue, to a row, where it isn't as deep.
+fn deepen(depths: &mut [u8; 64], lane: u8, row: u8)
+    ensures { depths.new ≡ deepened depths.old lane row }
 {
-    let mut depths = depths;
     if 0 < lane && lane <= 64 {
         let place = lane as usize - 1;
         depths[place] = greater(depths[place], row);
     }
-    depths
 }
 
-// The same, where something stands at a spot.
-fn deepened_to(depths: [u8; 64], spot: Spot) -> [u8; 64]
-    ensures { result ≡ deepened_to depths spot }
+// Deepens lanes to the rows that seats are in.
+fn deepen_by_seats(depths: &mut [u8; 64], seats: &[Seat])
+    ensures { depths.new ≡ depths_of depths.old seats.now }
 {
-    deepened(depths, spot.lane, spot.row)
-}
-
-// The lowest rows that seats are in.
-fn depths_of(seats: &[Seat]) -> [u8; 64]
-    ensures { result ≡ depths_of flat seats.now }
-{
-    let mut depths = [0; 64];
     'seats: for index in 0..seats.len() {
         let seat = &seats[index];
-        depths = deepened(depths, lane_of_queue(seat.flying.queue), seat.row);
+        deepen(depths, lane_of_queue(seat.flying.queue), seat.row);
     }
-    depths
 }
 
-/// The lowest rows that entries and the seats before them stand in.
-pub(crate) fn depths_in(seats: Vec<Seat>, entries: &[Entry]) -> Result<[u8; 64], AllocError>
-    ensures { IfOk result (λ depths. depths ≡ depths_in (depths_of flat seats.items) seats.items entries.now) }
+/// Deepens lanes to the rows that entries and the seats before them stand in.
+pub(crate) fn deepen_by_entries(
+    depths: &mut [u8; 64],
+    seats: Vec<Seat>,
+    entries: &[Entry],
+) -> Result<(), AllocError>
+    ensures { OnOk result (depths.new ≡ depths_in (depths_of depths.old seats.items) seats.items entries.now) }
 {
     let mut seats = seats;
-    let mut depths = depths_of(seats.as_slice());
+    deepen_by_seats(depths, seats.as_slice());
     'entries: for index in 0..entries.len() {
         let entry = &entries[index];
-        depths = deepened_to(depths, spot_of(seats.as_slice(), 0, entry));
+        let spot = spot_of(seats.as_slice(), 0, entry);
+        deepen(depths, spot.lane, spot.row);
         pass_seats(&mut seats, entry)?;
     }
-    Ok(depths)
+    Ok(())
 }
 
 // How a packet ended that an entry releases.

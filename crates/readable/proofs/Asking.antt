@@ -326,6 +326,7 @@ goes_replied later old new held holds text h handed = (h.0, h.1, subst (λ all. 
 
 outcome_by_line : (says : Told → Flow → Type 0) (later : List Declared) (old new : Joined) (held holds left : Option (List ℕ)) (script : List ℕ) (ended : Result ⊤ ScriptFault) →
     Outcome (watched says later) old new held holds left script ended → RunsByLine false later old new held holds ended
+unfolding watched
 outcome_by_line says later old new held holds left script (Ok done) o =
     goes_replied later old new held holds o.1.0 (of_runs says later old (lines_of script) o.1.0 new o.1.1) o.1.2
 outcome_by_line says later old new held holds left script (Err OutOfMemory) o =

@@ -62,7 +62,7 @@ tallied t (made ∷ later) = tallied (with_came t (came_of made.told)) later
 
 -- what became of packets, of groups, of barrier packets, and how many were finished
 abbrev pub text_of_taken : Tally → List ℕ
-text_of_taken t = codes "drained launched " ++ decimal t.launched ++ codes " denied " ++ decimal t.denied
+text_of_taken t = codes " launched " ++ decimal t.launched ++ codes " denied " ++ decimal t.denied
 
 abbrev pub text_of_worked : Tally → List ℕ
 text_of_worked t = codes " ran " ++ decimal t.ran ++ codes " faulted " ++ decimal t.faulted
@@ -71,4 +71,4 @@ abbrev pub text_of_polled : Tally → List ℕ
 text_of_polled t = codes " ready " ++ decimal t.ready ++ codes " failed " ++ decimal t.failed ++ codes " finished " ++ decimal t.finished
 
 unfoldable pub text_of_tally : Tally → List ℕ
-text_of_tally t = text_of_taken t ++ text_of_worked t ++ text_of_polled t
+text_of_tally t = codes "drained" ++ text_of_taken t ++ text_of_worked t ++ text_of_polled t

@@ -95,7 +95,7 @@ fn write_taken(out: &mut String, tally: &Tally) -> Result<(), AllocError>
 {
     let launched = tally.launched;
     let denied = tally.denied;
-    write!(out, "drained launched {launched} denied {denied}")
+    write!(out, " launched {launched} denied {denied}")
 }
 
 // Writes what became of groups.
@@ -122,6 +122,7 @@ fn write_polled(out: &mut String, tally: &Tally) -> Result<(), AllocError>
 fn write_tally(out: &mut String, tally: &Tally) -> Result<(), AllocError>
     ensures { OnOk result (string_bytes out.new ≡ string_bytes out.old ++ text_of_tally tally.now) }
 {
+    out.push_str("drained")?;
     write_taken(out, tally)?;
     write_worked(out, tally)?;
     write_polled(out, tally)

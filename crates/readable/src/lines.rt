@@ -1,9 +1,6 @@
 //! A line of a run is done and replied to, and a run does its lines in turn.
 
-ghost use Rattle.std.specs.Prelude.{◌≡◌, ◌++◌, [], IfOk, ℕ, List, string_bytes, true, false};
-ghost use Rattle.core_model.specs.declared.event.Query.TheVariants as query;
-ghost use Rattle.world.specs.declared.request.Request.TheVariants as request;
-ghost use Rattle.script.specs.declared.command.Command.TheVariants as command;
+ghost use Rattle.std.specs.Prelude.{◌≡◌, ◌++◌, IfOk, ℕ, List, string_bytes, true, false};
 ghost use Rattle.readable.specs.Runs.{AsText, RunsByLine};
 ghost use Rattle.readable.specs.Tallies.{text_of_tally};
 ghost use Rattle.readable.specs.inner.Ends.{TellsDrain, with_number};
@@ -13,7 +10,7 @@ use crate::draining::drain;
 use crate::moves::{command_of, reply_of};
 use crate::telling::{follow, hand_over, tell_audit, tell_reply};
 use aql_packet::QueueId;
-use assemble::{Book, Fault, LineError, Turned, fault_text, put_lines, without_comment};
+use assemble::{Book, LineError, Turned, fault_text, put_lines, without_comment};
 use core_model::Query;
 use policy::Policy;
 use script::{
@@ -75,7 +72,22 @@ fn with_number(number: u64, ended: Result<(), ScriptFault>) -> Result<(), Script
     }
 }
 
-// Does lines of a script as `run_script` does.
+// Does the lines of a reader as `run_script` does.
+fn run_bytes<R: io::Read, W: io::Write, V: Watch>(
+    alloc: Global,
+    world: &mut World,
+    later: &[Policy],
+    watcher: &mut V,
+    reader: &mut R,
+    writer: &mut W,
+) -> Result<(), ScriptFault>
+    ensures { RunsByLine false later.now world.old world.new (W.contents writer.old) (W.contents writer.new) result }
+{
+    let mut answers = IoLog::none();
+    run_watched(alloc, reader, writer, world, later, watcher, &mut answers)
+}
+
+// Does lines of a script, of which each is told to have one number.
 fn run_lines<W: io::Write, V: Watch>(
     alloc: Global,
     world: &mut World,
@@ -89,22 +101,12 @@ fn run_lines<W: io::Write, V: Watch>(
 {
     let mut watcher = Numbered { watcher, number };
     let mut rest = lines;
-    let ended = run_watched(
-        alloc,
-        &mut rest,
-        writer,
-        world,
-        later,
-        &mut watcher,
-        &mut IoLog::none(),
-    );
+    let ended = run_bytes(alloc, world, later, &mut watcher, &mut rest, writer);
     with_number(number, ended)
 }
 
 // Whether a line asks for the audit.
-fn asks_for_audit(command: &Command) -> bool
-    ensures { result ≡ true → command.now ≡ command.Ask (request.Query query.Audit) }
-{
+fn asks_for_audit(command: &Command) -> bool {
     match command {
         Command::Ask(Request::Query(Query::Audit)) => true,
         _ => false,
@@ -275,14 +277,17 @@ fn serve_drain<W: io::Write, V: Watch>(
     }
 }
 
-// What is wanted in a readable line of no form.
-fn tell_wanted(
+// Why a readable line isn't done; what is wanted in one of no form is kept.
+fn why_not(
     alloc: Global,
     place: Place,
     line: &[u8],
-    fault: Fault,
+    error: LineError,
     wanted: &mut String,
 ) -> ScriptFault {
+    let LineError::Fault(fault) = error else {
+        return ScriptFault::OutOfMemory;
+    };
     match fault_text(alloc, place.number, line, fault) {
         Ok(text) => {
             *wanted = text;
@@ -323,8 +328,7 @@ fn serve_readable<W: io::Write, V: Watch>(
         Ok(Turned::Drain(queue)) => {
             serve_drain(alloc, world, later, watcher, place, queue, writer)
         }
-        Err(LineError::OutOfMemory) => Err(ScriptFault::OutOfMemory),
-        Err(LineError::Fault(fault)) => Err(tell_wanted(alloc, place, line, fault, wanted)),
+        Err(error) => Err(why_not(alloc, place, line, error, wanted)),
     }
 }
 
@@ -335,6 +339,7 @@ fn serve_readable<W: io::Write, V: Watch>(
 /// some requests in turn, each as a script's line does it, and hands over just their replies: as text the lines that a
 /// script is replied, and to a drain what begins with the counts of its requests. Where memory is wanted, the requests that
 /// were made last aren't replied to; where the writer fails, a beginning of the replies is handed over.
+#[tactic(auto, using(crate::proofs::Asking::replied_none))]
 pub fn serve_line<W: io::Write, V: Watch>(
     alloc: Global,
     world: &mut World,
@@ -346,7 +351,7 @@ pub fn serve_line<W: io::Write, V: Watch>(
     writer: &mut W,
     wanted: &mut String,
 ) -> Result<(), ScriptFault>
-    ensures { RunsByLine style.is_json later.now world.old world.new (W.contents writer.old) (W.contents writer.new) result }
+    ensures { RunsByLine style.entry.is_json later.now world.old world.new (W.contents writer.old) (W.contents writer.new) result }
 {
     let place = Place {
         number,
@@ -389,7 +394,7 @@ fn serve_given<L: Lines, W: io::Write, V: Watch>(
     writer: &mut W,
     wanted: &mut String,
 ) -> Result<(), ScriptFault>
-    ensures { RunsByLine style.is_json later.now world.old world.new (W.contents writer.old) (W.contents writer.new) result }
+    ensures { RunsByLine style.entry.is_json later.now world.old world.new (W.contents writer.old) (W.contents writer.new) result }
 {
     serve_line(
         alloc,
@@ -417,7 +422,7 @@ pub fn run_by_line<L: Lines, W: io::Write, V: Watch>(
     writer: &mut W,
     wanted: &mut String,
 ) -> Result<(), ScriptFault>
-    ensures { RunsByLine style.is_json later.now world.old world.new (W.contents writer.old) (W.contents writer.new) result }
+    ensures { RunsByLine style.entry.is_json later.now world.old world.new (W.contents writer.old) (W.contents writer.new) result }
 {
     'lines: for _ in 0..MOST_LINES {
         match lines.next_line() {

@@ -1,11 +1,11 @@
--- The lowest rows are found.
+-- The lanes are as deep as the entries want.
 use Rattle.std.proofs.Common.{sym, ◌∙◌, arith}
 use Rattle.picture.proofs.Walks.{lower_step, lower_end}
-use Rattle.picture.proofs.reading.depths_in.Goals as goal
+use Rattle.picture.proofs.reading.deepen_by_entries.Goals as goal
 
 pub entries-preserved : goal.entries-preserved
 entries-preserved c =
-    rw (c.in_ok-pass_seats.ensures, c.deepened_to-depths.ensures, c.spot_of.ensures, c.as_slice-in-entries.ensures.value)
+    rw (c.in_ok-pass_seats.ensures, c.deepen.ensures, c.spot_of-spot.ensures, c.as_slice-in-entries.ensures.value)
     (c.entries.invariant ∙ lower_step c.entries.depths c.entries.index c.entries.seats.items c.args.entries.now
     c.index-entries-index.result (omega arith) c.index-entries-index.is)
 

@@ -1,11 +1,11 @@
--- The lowest rows are found.
+-- The lanes are as deep as the seats want.
 use Rattle.std.proofs.Common.{sym, ◌∙◌, arith}
 use Rattle.picture.proofs.Walks.{depths_step, depths_end}
-use Rattle.picture.proofs.reading.depths_of.Goals as goal
+use Rattle.picture.proofs.reading.deepen_by_seats.Goals as goal
 
 pub seats-preserved : goal.seats-preserved
 seats-preserved c =
-    rw (c.deepened-depths.ensures, c.lane_of_queue.ensures) (c.seats.invariant ∙ depths_step c.seats.depths c.seats.index c.args.seats.now _ (omega arith))
+    rw (c.deepen.ensures, c.lane_of_queue.ensures) (c.seats.invariant ∙ depths_step c.seats.depths c.seats.index c.args.seats.now _ (omega arith))
 
 pub returns : goal.returns
 returns c = sym (c.seats.invariant ∙ depths_end c.seats.depths c.seats.index c.args.seats.now (omega arith))
