@@ -40,7 +40,7 @@ ends_as : (plan : List PlannedQueue) (wanted : ℕ) (parts : List Part) (rings :
 ends_as plan wanted parts rings ends lanes (settlement.Settled core settled) ended is by =
     let entries = entries_in parts ++ core.history.entries in
     let all = are_finished entries wanted (length plan) in
-    (is.0, subst (λ (e : Ending). EndsAs entries lanes all e) (sym by) (agreed_ends entries lanes all is.1.0))
+    (is.0, subst (λ (e : Ending). EndsAs entries lanes all e) (sym by) (agreed_ends entries lanes all is.1))
 ends_as plan wanted parts rings ends lanes (settlement.Mismatch core queue id) ended is by =
     let entries = entries_in parts ++ core.history.entries in
     (is.0, subst (λ (e : Ending). EndsAs entries lanes (are_finished entries wanted (length plan)) e) (sym by) is.1)

@@ -72,24 +72,24 @@ same_policy a b p = ap (λ (h : History). h.origin.policy) p.history
 
 -- an entry of a grant leaves in force what was
 kept_by : (client : ClientId) (on : Object) (one : Right) (before : Bool) (event : Event) → IsGrant event → before ≡ true → in_force_after client on one before event ≡ true
-kept_by client on one before (Call (Grant c o rights)) is yes = ap (λ (b : Bool). b || is_one_of client on one c o rights) yes
-kept_by client on one before (Call (Revoke c o rights)) is yes = absurd is
-kept_by client on one before (Call (Stop q)) is yes = absurd is
-kept_by client on one before (Call (RunNext q id)) is yes = absurd is
-kept_by client on one before (Call (Poll q id)) is yes = absurd is
-kept_by client on one before (Call (Finish q id)) is yes = absurd is
-kept_by client on one before (Call (HostWrite c a bs)) is yes = absurd is
-kept_by client on one before (Call (ChangeSignal c s o)) is yes = absurd is
-kept_by client on one before (Open c a s) is yes = absurd is
-kept_by client on one before (Take q id bytes) is yes = absurd is
-kept_by client on one before (Reload rows) is yes = absurd is
+kept_by client on one before (Call (Grant c o rights)) is so = ap (λ (b : Bool). b || is_one_of client on one c o rights) so
+kept_by client on one before (Call (Revoke c o rights)) is so = absurd is
+kept_by client on one before (Call (Stop q)) is so = absurd is
+kept_by client on one before (Call (RunNext q id)) is so = absurd is
+kept_by client on one before (Call (Poll q id)) is so = absurd is
+kept_by client on one before (Call (Finish q id)) is so = absurd is
+kept_by client on one before (Call (HostWrite c a bs)) is so = absurd is
+kept_by client on one before (Call (ChangeSignal c s o)) is so = absurd is
+kept_by client on one before (Open c a s) is so = absurd is
+kept_by client on one before (Take q id bytes) is so = absurd is
+kept_by client on one before (Reload rows) is so = absurd is
 
 kept : (start : Start) (es more : List Entry) (client : ClientId) (on : Object) (one : Right) → AllGrant more → in_force start es client on one ≡ true → in_force start (es ++ more) client on one ≡ true
-kept start es [] client on one all yes = subst (λ (now : List Entry). in_force start now client on one ≡ true) (sym (append-nil es)) yes
-kept start es (e ∷ more) client on one all yes =
+kept start es [] client on one all so = subst (λ (now : List Entry). in_force start now client on one ≡ true) (sym (append-nil es)) so
+kept start es (e ∷ more) client on one all so =
     subst (λ (now : List Entry). in_force start now client on one ≡ true) (append_assoc es (e ∷ []) more)
     (kept start (es ++ e ∷ []) more client on one all.1
-    (in_force-more start es e client on one ∙ kept_by client on one (in_force start es client on one) e.event all.0 yes))
+    (in_force-more start es e client on one ∙ kept_by client on one (in_force start es client on one) e.event all.0 so))
 
 -- what is in force stays so
 pub has_still : (a b : History) (client : ClientId) (on : Object) → AddsGrants a b → HasAllowed a client on → HasAllowed b client on
@@ -137,24 +137,24 @@ module _ (old : History) (client : ClientId) (on : Object) (rights : Rights) whe
       (either_tests (knows_client (rules_of (beginning old).policy) client) (knows_object (rules_of (beginning old).policy) on) (are_allowed (rules_of (policy_at (beginning old) old.entries)) client on rights))
 
   own : (one : Right) → has rights one ≡ true → is_one_of client on one client on rights ≡ true
-  own one yes = and_from _ _ (and_from _ _ (eq-eqb client.0 client.0 refl) (same_object_itself on)) yes
+  own one so = and_from _ _ (and_from _ _ (eq-eqb client.0 client.0 refl) (same_object_itself on)) so
 
   granted : (one : Right) → has rights one ≡ true → (before : Bool) → in_force_after client on one before event ≡ true
-  granted one yes true = refl
-  granted one yes false = own one yes
+  granted one so true = refl
+  granted one so false = own one so
 
   has_by : (owing : Owed) → IsEither owing → Ok outcome.Accepted ≡ reply_of owing → (one : Right) → has rights one ≡ true
       → in_force (beginning old) (entries_after old.entries event owing) client on one ≡ true
-  has_by (refuses why) e told one yes = absurd (cc (told))
-  has_by (answers o) e told one yes = absurd e
-  has_by (enters o effects) e told one yes =
-      in_force-more (beginning old) old.entries (entry_of event o effects) client on one ∙ granted one yes (in_force (beginning old) old.entries client on one)
+  has_by (refuses why) e told one so = absurd (cc (told))
+  has_by (answers o) e told one so = absurd e
+  has_by (enters o effects) e told one so =
+      in_force-more (beginning old) old.entries (entry_of event o effects) client on one ∙ granted one so (in_force (beginning old) old.entries client on one)
 
   -- a grant that is made puts in force what it grants
   made_has : (new : History) → Meets event old new (Ok outcome.Accepted) → (one : Right) → has rights one ≡ true → in_force (beginning new) new.entries client on one ≡ true
-  made_has new m one yes =
+  made_has new m one so =
       subst (λ (h : History). in_force (beginning h) h.entries client on one ≡ true) (sym m.history_is)
-      (has_by (due old event) either m.reply_is one yes)
+      (has_by (due old event) either m.reply_is one so)
 
   pub grant_has : (new : History) (result : Result (Unit {0}) Refusal) → Meets event old new (as_accepted result)
       → ((one : Right) → has rights one ≡ rows_allow old.origin.policy.rows client on one) → OnOk result (HasAllowed new client on)
@@ -188,7 +188,7 @@ empty_has rights right.Launch none = rw none refl
 pub none_has : (h : History) (client : ClientId) (on : Object) (rights : Rights) → ((one : Right) → has rights one ≡ rows_allow h.origin.policy.rows client on one) → rights.0 ≡ 0 → HasAllowed h client on
 none_has h client on rights are none one allowed =
     let no : has rights one ≡ false = empty_has rights one none in
-    let yes : has rights one ≡ true = are one ∙ allowed in
+    let so : has rights one ≡ true = are one ∙ allowed in
     absurd (cc)
 
 -- ---- objects and clients in turn
@@ -256,3 +256,13 @@ has_for_all a b most p is has_them client known =
     let parts = and_parts (nat_lt 0 client.0) _ known in
     let same : (rules_of b.origin.policy).clients ≡ most = ap (λ (d : Declared). (rules_of d).clients) (same_policy a b p) ∙ sym is in
     has_them client (grind (arith, nat_tests, parts.0)) (grind (arith, nat_tests, parts.1, same))
+
+-- the same, of what the last of four calls came to
+pub has_each_if : (result : Result (Unit {0}) Refusal) (a b c d : History) (client : ClientId) → AddsGrants a b → AddsGrants b c → AddsGrants c d
+    → HasAllowedOn a client kind.Agent (count (rules_of a.origin.policy) kind.Agent)
+    → HasAllowedOn b client kind.Region (count (rules_of b.origin.policy) kind.Region)
+    → HasAllowedOn c client kind.Signal (count (rules_of c.origin.policy) kind.Signal)
+    → OnOk result (HasAllowedOn d client kind.Kernel (count (rules_of d.origin.policy) kind.Kernel))
+    → OnOk result (HasAllowedOnAll d client)
+has_each_if (Ok done) a b c d client p q r agents regions signals kernels = has_each a b c d client p q r agents regions signals kernels
+has_each_if (Err why) a b c d client p q r agents regions signals kernels = tt

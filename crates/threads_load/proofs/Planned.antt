@@ -154,7 +154,8 @@ ready_still plan old new r p lanes = record {
 
 -- a stage is ready once the queues of its plan were opened behind the grants
 pub is_ready : {B : Type 0} (plan : List PlannedQueue) (seen : List Core) (stage : Stage B) → WasLeft seen (λ left. HasAllAllowed left.history) → IsPrefix seen stage.front.left
-    → (WasLeft seen (λ left. HasQueues left []) → AreOf 0 [] → WasLeft stage.front.left (λ left. HasQueues left plan) × AreOf (length plan) stage.lanes.items) → IsReady plan stage
-is_ready plan seen stage granted p opened =
-    let both = opened (none_planned seen granted) no_lanes in
+    → (none : List LaneSeen) → none ≡ []
+    → (WasLeft seen (λ left. HasQueues left []) → AreOf 0 none → WasLeft stage.front.left (λ left. HasQueues left plan) × AreOf (length plan) stage.lanes.items) → IsReady plan stage
+is_ready plan seen stage granted p none is opened =
+    let both = opened (none_planned seen granted) (subst (λ (ls : List LaneSeen). AreOf 0 ls) (sym is) no_lanes) in
     record { granted = left_still seen stage.front.left p granted; queues = both.0; lanes = both.1 }

@@ -25,5 +25,5 @@ both_counts queue before entries counts more (Err why) one other is = tt
 both_counts queue before entries counts more (Ok sum) one other is =
     same_counts sum (packet_counts (before ++ entries) queue)
     (is.0 ∙ ((λ i. (one i).launched + (other i).launched) ∙ in_both (is_launch queue) before entries))
-    (is.1.0 ∙ ((λ i. (one i).finished + (other i).finished) ∙ in_both (is_completion queue) before entries))
-    (is.1.1 ∙ ((λ i. (one i).denied + (other i).denied) ∙ in_both (is_denial queue) before entries))
+    (is.1 ∙ ((λ i. (one i).finished + (other i).finished) ∙ in_both (is_completion queue) before entries))
+    (is.2 ∙ ((λ i. (one i).denied + (other i).denied) ∙ in_both (is_denial queue) before entries))

@@ -199,7 +199,9 @@ impl Gate for LoadGate {
         let Some(tally) = self.tally(lane) else {
             return false;
         };
-        tally.begun.store(1, Ordering::SeqCst);
+        if turn == 1 {
+            tally.begun.store(1, Ordering::SeqCst);
+        }
         if self.lets_in(tally, turn) {
             return true;
         }

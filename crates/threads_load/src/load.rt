@@ -1,10 +1,11 @@
 //! The load, from a policy to its report.
 
-ghost use Rattle.std.specs.Prelude.{◌≡◌, ℕ, [], ◌++◌, All, IfOk, Ok, length, map};
+ghost use Rattle.std.specs.Prelude.{◌≡◌, ℕ, [], ◌++◌, All, IfOk, Ok, OnOk, length, map};
 ghost use Rattle.core_model.specs.Legal.{IsLegalPart, IsOpening};
 ghost use Rattle.core_model.specs.Rotation.{entries_in};
 ghost use Rattle.access_core.specs.Cores.{Core};
 ghost use Rattle.access_core.specs.Opening.{program_of};
+ghost use Rattle.client_threads.specs.Sections.{IsSection};
 ghost use Rattle.client_threads.specs.Settling.{IsEnd, IsSettlement, core_of};
 ghost use Rattle.threads_load.specs.Counts.{are_finished};
 ghost use Rattle.threads_load.specs.Grantings.{HasAllAllowed};
@@ -171,8 +172,18 @@ pub fn open_broker(
     }
 }
 
+// Grants all that the policy of a broker's core allows, in a section.
+#[tactic(auto, using(crate::proofs::Granted::adds_follow))]
+fn grant_alone<B: Room>(broker: &mut Broker<B>, front: &mut Front) -> Result<(), Refusal>
+    requires { front.old.board ≡ B.board }
+    ensures front { front.new.board ≡ B.board }
+    ensures section { IsSection B.opened front.old.left front.new.left (λ before after. OnOk result (HasAllAllowed after.history)) }
+    ensures rings { broker.new ≡ broker.old }
+{
+    broker.with_core_alone(front, |core| grant_all(core))
+}
+
 /// Gives a broker its name, and grants all that its policy allows. The front has seen that.
-#[tactic(auto, using(crate::proofs::Granted::adds_follow, crate::proofs::Planned::granted_left))]
 pub fn name_broker<B: Room>(unnamed: UnnamedBroker) -> Result<(Broker<B>, Front), LoadFault>
     requires { (unnamed.board ≡ B.board) × (unnamed.core ≡ B.opened) }
     ensures rings { IfOk result (λ named. named.0 ≡ []) }
@@ -180,7 +191,7 @@ pub fn name_broker<B: Room>(unnamed: UnnamedBroker) -> Result<(Broker<B>, Front)
     ensures granted { IfOk result (λ named. WasLeft named.1.left (λ left. HasAllAllowed left.history)) }
 {
     let (mut broker, mut front) = unnamed.named::<B>();
-    match broker.with_core_alone(&mut front, |core| grant_all(core)) {
+    match grant_alone(&mut broker, &mut front) {
         Ok(()) => Ok((broker, front)),
         Err(why) => Err(LoadFault::from(why)),
     }

@@ -16,7 +16,7 @@ use crate::fault::LoadFault;
 use crate::plan::PlannedQueue;
 use client_threads::{Broker, ClientEnd, Front, Lane, Opened, Room};
 use core_model::Refusal;
-use std::alloc::{AllocError, Global};
+use std::alloc::{AllocError, AllocFailed, Global};
 
 /// How many slots a queue of the load has.
 const MOST_IN_FLIGHT: u64 = 16;
@@ -75,16 +75,13 @@ fn put_lane<B: Room>(
     broker: &Broker<B>,
     lane: Lane,
     lanes: &mut Vec<Lane>,
-) -> Result<(), AllocError>
+) -> Result<(), AllocFailed<Lane>>
     requires lane { IsLaneOf B.board broker.now lane }
     requires lanes { All (λ lane. IsLaneOf B.board broker.now lane) lanes.old.items }
     ensures lanes { All (λ lane. IsLaneOf B.board broker.now lane) lanes.new.items }
     ensures put { OnOk result (lanes.new.items ≡ lanes.old.items ++ lane ∷ []) }
 {
-    match lanes.push(lane) {
-        Ok(()) => Ok(()),
-        Err(_) => Err(AllocError),
-    }
+    lanes.push(lane)
 }
 
 // Puts the ends and the lane of a queue that was opened behind the others.
@@ -104,7 +101,10 @@ fn put_queue<B: Room>(
 {
     let (_, more, lane) = opened;
     put_ends(broker, more, ends)?;
-    put_lane(broker, lane, lanes)
+    match put_lane(broker, lane, lanes) {
+        Ok(()) => Ok(()),
+        Err(_) => Err(AllocError),
+    }
 }
 
 // Opens a planned queue, and puts its ends and its lane behind the others. It has the number of its place in the plan.

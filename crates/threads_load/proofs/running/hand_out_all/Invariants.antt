@@ -5,6 +5,6 @@ use mathlib.Core.List.{IsPrefix}
 use Rattle.core_model.specs.Legal.{IsLegalPart}
 use Rattle.threads_load.proofs.running.hand_out_all.Given as goal
 
-abbrev pub invariant-loop-_part : goal.invariant-loop-_part
-invariant-loop-_part g l =
+abbrev pub invariant-loop-part : goal.invariant-loop-part
+invariant-loop-part g l =
     (l.front.board ≡ g.B.Room.board) × IsPrefix l.initial.front.left l.front.left × All (IsLegalPart g.B.Room.opened.history.kernels) l.parts.items
