@@ -317,6 +317,27 @@ def replays(trials, program, room):
     trials.every("journals replay, and are read twice the same", trial, [(it, places) for it in scripts.items() for places in PLACES])
 
 
+def loads(trials, program, room):
+    """The journal of a load of threads replays: nine grants, an opening, and of each packet a launch, a run and a completion."""
+
+    def trial(given):
+        producers, packets = given
+        file = f"{room}/load-{producers}-{packets}"
+        ended = run([program, "threads", SAMPLE, "--producers", str(producers), "--packets", str(packets), "--journal", file])
+        if ended.status or ended.err or not ended.out.endswith(b"settled\n"):
+            return f"the load did not settle: {ended}"
+        with open(file, "rb") as it:
+            journal = it.read()
+        told = run([program, "replay", SAMPLE, "--state"], journal)
+        if told.status or told.err or not told.out.startswith(b"legal %d entries\n" % (10 + 3 * producers * packets)):
+            return f"it does not replay: {told}"
+        return None if told == run([*READER, SAMPLE], journal) else "the second reading differs"
+
+    trials.every("journals of loads replay", trial, [(1, 1), (2, 8), (4, 1000), (2, 20_000)])
+    unwritten = lambda it: None if (ended := run([program, "threads", SAMPLE, "--producers", "2", *it])) == Ended(3, b"", b"write fault\n") else f"it ended otherwise: {ended}"
+    trials.every("a journal that isn't written ends a load", unwritten, [["--journal", "/dev/full"], ["--packets", "30000", "--journal", "/dev/full"], ["--journal", f"{room}/no/such"]])
+
+
 def main():
     program = program_given()
     trials = Trials("journals")
@@ -325,6 +346,7 @@ def main():
         case_replays(trials, program, room)
         shown(trials, program, room)
         explains_beside(trials, program, room)
+        loads(trials, program, room)
         journal = journal_of(program, room, "fill", [*PRELUDE, f"submit 1 1 {FILL}", "serve 1", "run 1 0", "finish 1 0"])
         rows = journal.split(b"\n")[:-1]
         place_of = [1 + journal[:at].count(b"\n") for at in range(len(journal))]

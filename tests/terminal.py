@@ -181,6 +181,17 @@ def counts(trials, program):
     silent = lambda it: None if run([program, "run", SAMPLE], b"#\n" * it) == Ended(0, b"", b"") else "it tells something"
     trials.every("where standard error is no terminal it isn't", silent, [35_000])
 
+    def far(it):
+        producers, packets, least = it
+        words = [program, "threads", SAMPLE, "--producers", str(producers), "--packets", str(packets), "--explain=never"]
+        ended = at_terminal(words)
+        first, _, rest = ended.err.partition(b"\n")
+        found = [int(part.split(b" ")[0]) for part in rest.split(b"\r") if part.endswith(b" of %d packets" % (producers * packets))]
+        well = ended.status == 0 and first == b"running, with %d producers a queue" % producers and sorted(set(found)) == found and least <= len(found) <= producers * packets // 10_000
+        return None if well and run(words) == Ended(0, ended.out, b"") else f"{found}: {ended}"
+
+    trials.every("how far a load is, is told on a terminal alone", far, [(2, 8, 0), (2, 4_999, 0), (4, 50_000, 2)])
+
 
 def main(program):
     trials = Trials("terminal")

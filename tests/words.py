@@ -60,6 +60,11 @@ WRONG = [
     (["threads", "--producers", "2"], ["POLICY"]),
     (["threads", SAMPLE, "--producers", "0"], ["0", "1", "16"]),
     (["threads", SAMPLE, "--producers", "17"], ["17", "16"]),
+    (["threads", SAMPLE, "--producers", "1", "--packets", "0"], ["0", "1", "1000000"]),
+    (["threads", SAMPLE, "--producers", "1", "--packets", "1000001"], ["1000001", "1000000"]),
+    (["threads", SAMPLE, "--producers", "1", "--packets", "many"], ["many"]),
+    (["threads", SAMPLE, "--producers", "1", "--packets"], ["--packets"]),
+    (["threads", SAMPLE, "--producers", "1", "--journal"], ["--journal"]),
 ]
 
 
@@ -126,14 +131,23 @@ def lines(trials, program):
 
 
 def loads(trials, program, room):
-    """What a load of threads reports: eight additions of each producer."""
+    """What a load of threads reports: eight additions of each producer, or as many as are asked for."""
 
-    def settles(producers):
-        counted = 8 * producers
+    def report(counted):
         lines = [f"queue 1 client alice agent gpu launched {counted} finished {counted} denied 0", f"region 1 buf {counted.to_bytes(8, 'little').hex()}", "settled"]
-        return wants(answer(program, ["threads", SAMPLE, "--producers", str(producers)]), 0, text(lines))
+        return text(lines)
 
+    settles = lambda producers: wants(answer(program, ["threads", SAMPLE, "--producers", str(producers)]), 0, report(8 * producers))
     trials.every("a load on the sample settles, with as many packets as its producers publish", settles, [1, 2, 3, 16])
+    asked = lambda packets: wants(answer(program, ["threads", SAMPLE, "--producers", "2", "--packets", str(packets)]), 0, report(2 * packets))
+    trials.every("a load settles with the packets that it is asked for, and rotates as its audit fills", asked, [1, 8, 1000, 30_000])
+
+    def told_speed(packets):
+        ended = answer(program, ["threads", SAMPLE, "--producers", "2", "--packets", str(packets), "--explain"])
+        well = (ended.status, ended.out) == (0, report(2 * packets)) and re.fullmatch(rb"[1-9][0-9]* packets a second\n", ended.err)
+        return None if well else f"it ended otherwise: {ended}"
+
+    trials.every("with --explain it is told how many packets a second", told_speed, [1, 1000])
     alone = f"{room}/alone.toml"
     with open(alone, "wb") as it:
         it.write(b'[[client]]\nname = "alice"\n')

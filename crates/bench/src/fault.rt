@@ -130,6 +130,8 @@ impl From<LoadFault> for Fault {
             LoadFault::OutOfMemory => Fault::OutOfMemory,
             LoadFault::Opening(_)
             | LoadFault::Refused(_)
+            | LoadFault::OtherQueue
+            | LoadFault::Unwritten
             | LoadFault::MissingPass
             | LoadFault::NotNext => Fault::Unsettled,
         }

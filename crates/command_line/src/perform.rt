@@ -169,10 +169,55 @@ fn decode(rt: &HostRuntime, slots: Option<&str>, digits: &[&str], explains: bool
     })
 }
 
+// Tells that a file couldn't be made.
+fn unmade(rt: &HostRuntime, error: &io::Error) -> Status {
+    match error.kind() {
+        io::ErrorKind::OutOfMemory => failed(rt, "no memory"),
+        _ => failed(rt, "write fault"),
+    }
+}
+
 // Says on a terminal that a load runs.
 fn tell_running(rt: &HostRuntime, producers: u64) {
     if rt.stderr().is_terminal() {
         let _ = eprintln!(rt; "running, with {producers} producers a queue");
+    }
+}
+
+// Runs the load of threads over a policy, with a journal, if there is one.
+fn run_load_over<R: Threads + Wait + Sync>(
+    rt: &HostRuntime,
+    threads: &R,
+    file: PolicyFile<'_>,
+    asked: AskedLoad,
+    journal: Option<&mut File>,
+) -> Status {
+    run_threads(
+        threads,
+        rt,
+        rt.alloc(),
+        file,
+        asked,
+        journal,
+        &mut rt.stdout(),
+        &mut rt.stderr(),
+    )
+}
+
+// Runs it, with a journal in a file that is there already or is made, if one is named.
+fn run_load_into<R: Threads + Wait + Sync>(
+    rt: &HostRuntime,
+    threads: &R,
+    file: PolicyFile<'_>,
+    asked: AskedLoad,
+    journal: Option<&str>,
+) -> Status {
+    let Some(name) = journal else {
+        return run_load_over(rt, threads, file, asked, None);
+    };
+    match File::create(rt, name) {
+        Ok(mut journal) => run_load_over(rt, threads, file, asked, Some(&mut journal)),
+        Err(error) => unmade(rt, &error),
     }
 }
 
@@ -182,20 +227,17 @@ fn run_load_of<R: Threads + Wait + Sync>(
     threads: &R,
     policy: &str,
     asked: AskedLoad,
+    journal: Option<&str>,
 ) -> Status {
     tell_running(rt, asked.producers);
     match read_file(rt, policy) {
-        Ok(text) => run_threads(
-            threads,
-            rt.alloc(),
-            PolicyFile {
+        Ok(text) => {
+            let file = PolicyFile {
                 name: policy,
                 text: text.as_slice(),
-            },
-            asked,
-            &mut rt.stdout(),
-            &mut rt.stderr(),
-        ),
+            };
+            run_load_into(rt, threads, file, asked, journal)
+        }
         Err(error) => unread(rt, policy, asked.explains, &error),
     }
 }
@@ -326,14 +368,18 @@ fn perform<R: Threads + Wait + Sync>(rt: &HostRuntime, threads: &R, asked: &Aske
     if let Request::Threads {
         policy,
         producers,
+        packets,
+        journal,
         explains,
     } = asked.request
     {
         let load = AskedLoad {
             producers,
+            packets,
             explains,
+            is_counted: rt.stderr().is_terminal(),
         };
-        return run_load_of(rt, threads, policy, load).number();
+        return run_load_of(rt, threads, policy, load, journal).number();
     }
     if let Some(status) = perform_journal(rt, asked) {
         return status.number();

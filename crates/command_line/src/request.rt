@@ -4,8 +4,8 @@ use crate::help::further_help;
 use crate::listing::ListForm;
 use crate::syntax::{
     ALWAYS, ASSEMBLE, AUDIT, CHECK, COMMANDS, DECODE, DIGITS, EXPLAIN, FILE, FROM, HELP, JOURNAL,
-    JSON, KERNEL, LIST, MOST_NEXT, NEXT, PICTURE, POLICY, PRODUCERS, READABLE, REPLAY, RUN, SLOTS,
-    STATE, STRICT, THREADS, TO, WORD, program,
+    JSON, KERNEL, LIST, MOST_NEXT, NEXT, PACKETS, PICTURE, POLICY, PRODUCERS, READABLE, REPLAY, RUN,
+    SLOTS, STATE, STRICT, THREADS, TO, WORD, program,
 };
 use clap::error::ErrorKind;
 use clap::{ArgMatches, Error};
@@ -134,11 +134,14 @@ pub enum Request<'a> {
     Line {
         verb: &'a str,
     },
-    /// `threads POLICY --producers N [--explain]`: to run the load of threads over the policy in this file, with so many
-    /// producers a queue, 1 to 16, and, if it explains, to tell beside a fault or the report why.
+    /// `threads POLICY --producers N [--packets N] [--journal FILE] [--explain]`: to run the load of threads over the policy
+    /// in this file, with so many producers a queue, 1 to 16, and so many packets of each, 1 to 1,000,000, if it says; to
+    /// write its history into a file, if one is named; and, if it explains, to tell beside a fault or the report why.
     Threads {
         policy: &'a str,
         producers: u64,
+        packets: Option<u64>,
+        journal: Option<&'a str>,
         explains: bool,
     },
 }
@@ -323,6 +326,8 @@ fn policy_request<'a>(
         THREADS => Some(Request::Threads {
             policy,
             producers: asked.get_one(PRODUCERS)?,
+            packets: asked.get_one(PACKETS),
+            journal: asked.get_str(JOURNAL),
             explains,
         }),
         _ => None,

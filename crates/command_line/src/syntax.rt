@@ -96,6 +96,9 @@ pub const SLOTS: &str = "slots";
 /// The option that says how many producers each queue has.
 pub const PRODUCERS: &str = "producers";
 
+/// The option that says how many packets each producer publishes.
+pub const PACKETS: &str = "packets";
+
 /// The names of all commands.
 pub const COMMANDS: [&str; 10] = [
     CHECK, RUN, PICTURE, KERNEL, ASSEMBLE, REPLAY, EXPLAIN, DECODE, THREADS, HELP,
@@ -109,6 +112,9 @@ const MOST_PARTS: usize = 64;
 
 /// How many producers a queue has at the most.
 const MOST_PRODUCERS: u64 = 16;
+
+/// How many packets a producer publishes at the most.
+const MOST_PACKETS: u64 = 1_000_000;
 
 fn policy_file<'a>(alloc: Global) -> Arg<'a> {
     Arg::new(alloc, POLICY)
@@ -378,11 +384,30 @@ fn producer_count<'a>(alloc: Global) -> Arg<'a> {
         .help("How many producers each queue has, 1 to 16")
 }
 
+fn packet_count<'a>(alloc: Global) -> Arg<'a> {
+    Arg::new(alloc, PACKETS)
+        .long(PACKETS)
+        .value_name("N")
+        .action(ArgAction::Set)
+        .value_parser(ValueParser::Unsigned(1, MOST_PACKETS))
+        .help("How many packets each producer publishes, 1 to 1000000; 8 if not given")
+}
+
+fn load_journal<'a>(alloc: Global) -> Arg<'a> {
+    Arg::new(alloc, JOURNAL)
+        .long(JOURNAL)
+        .value_name("FILE")
+        .action(ArgAction::Set)
+        .help("Writes the history into this file as it goes, for `replay`")
+}
+
 fn threads_command<'a>(alloc: Global) -> Result<Command<'a>, Error> {
     let threads = Command::new(alloc, THREADS)
         .about("Runs producers and lanes on threads over a policy, and reports what came of it")
         .arg(policy_file(alloc))?
         .arg(producer_count(alloc))?
+        .arg(packet_count(alloc))?
+        .arg(load_journal(alloc))?
         .arg(explaining(alloc))?;
     Ok(threads)
 }

@@ -2,14 +2,20 @@
 
 use crate::author::{fails, told};
 use crate::explaining::{PolicyFile, policy_told, tell};
+use access_core::Kernel;
 use aql_packet::{PacketId, QueueId};
 use commands::{Failure, Status, check_kernels};
+use core_model::{Call, Entry, Event};
+use journal_commands::{JournalFault, JournalWriter};
 use policy::{Policy, read_policy};
 use std::alloc::{AllocError, Global};
-use std::io;
 use std::sync::Wait;
 use std::thread::Threads;
-use threads_load::{Ending, Load, LoadFault, run_load};
+use std::time::{Clock, Duration, Instant};
+use std::{io, thread};
+use threads_load::{
+    Ending, Load, LoadFault, LoadLimits, LoadTerms, PACKETS, PLACES, Watch, run_load_watched,
+};
 
 /// What is told of a load that has no queue.
 const NO_QUEUE: &str =
@@ -19,13 +25,128 @@ const NO_QUEUE: &str =
 const UNSETTLED: &str =
     "a lane made its 10000000 turns, and not all packets of its queue are finished: the lines of the queues tell of which";
 
+/// What is told of a load with a number of packets, whose lanes met their turns.
+const UNSETTLED_PACKETS: &str =
+    "a lane made 10000000 turns without finishing a packet, and not all packets of its queue are finished: the lines of the queues tell of which";
+
+/// After how many finished packets their count is told (own).
+const COUNTED: u64 = 10_000;
+
+/// What takes a count off a terminal's line (own).
+const CLEARED: &str = "                                                            \r";
+
+/// How long the thread that rotates the audit waits between two looks, in milliseconds (own).
+const PAUSE: u64 = 1;
+
 /// What is asked of a load.
 #[derive(Clone, Copy)]
 pub struct AskedLoad {
     /// How many producers each queue has, 1 to 16.
     pub producers: u64,
+    /// How many packets each publishes, if it is said; else 8.
+    pub packets: Option<u64>,
     /// Whether it is told beside a fault or the report why.
     pub explains: bool,
+    /// Whether it is told now and then how far the load is.
+    pub is_counted: bool,
+}
+
+impl AskedLoad {
+    // The terms of the load.
+    fn terms(self) -> LoadTerms {
+        let limits = match self.packets {
+            Some(_) => LoadLimits::for_each_packet(),
+            None => LoadLimits::in_all(),
+        };
+        LoadTerms {
+            producers: self.producers,
+            packets: self.packets.unwrap_or(PACKETS),
+            limits,
+        }
+    }
+}
+
+/// What is shown of a load while it runs: its history in a journal, if there is one, and how far it is.
+#[derive(Drop)]
+struct Shown<'a, C, J, E> {
+    clock: &'a C,
+    alloc: Global,
+    journal: Option<JournalWriter<'a, J>>,
+    err: &'a mut E,
+    is_counted: bool,
+    // How many packets were finished when that was told last, and how many the history tells of.
+    told: u64,
+    finished: u64,
+}
+
+impl<'a, C: Clock, J: io::Write, E: io::Write> Shown<'a, C, J, E> {
+    fn write(&mut self, text: &str) {
+        let _ = self.err.write_all(text.as_bytes());
+        let _ = self.err.flush();
+    }
+
+    // Tells how far the load is.
+    fn tell_count(&mut self, finished: u64, wanted: u64) {
+        self.told = finished;
+        if let Ok(text) = format!(in self.alloc; "{finished} of {wanted} packets\r") {
+            self.write(text.as_str());
+        }
+    }
+
+    // Takes the count off the line.
+    fn clear(&mut self) {
+        if 0 < self.told {
+            self.write(CLEARED);
+        }
+    }
+
+    // Writes the last line of the journal.
+    fn end(&mut self) -> Result<(), LoadFault> {
+        self.clear();
+        match &mut self.journal {
+            None => Ok(()),
+            Some(journal) => match journal.end() {
+                Ok(()) => Ok(()),
+                Err(fault) => Err(fault_of(fault)),
+            },
+        }
+    }
+}
+
+// How many packets entries tell of as finished.
+fn finished_in(entries: &[Entry]) -> u64 {
+    entries
+        .iter()
+        .filter(|entry| matches!(entry.event, Event::Call(Call::Finish { .. })))
+        .count() as u64
+}
+
+// The fault of a load whose journal wasn't written.
+fn fault_of(fault: JournalFault) -> LoadFault {
+    match fault {
+        JournalFault::OutOfMemory => LoadFault::OutOfMemory,
+        JournalFault::Write => LoadFault::Unwritten,
+    }
+}
+
+impl<'a, C: Clock, J: io::Write, E: io::Write> Watch for Shown<'a, C, J, E> {
+    fn take(&mut self, entries: &[Entry]) -> Result<(), LoadFault> {
+        self.finished = self.finished.saturating_add(finished_in(entries));
+        match &mut self.journal {
+            None => Ok(()),
+            Some(journal) => match journal.take(entries) {
+                Ok(()) => Ok(()),
+                Err(fault) => Err(fault_of(fault)),
+            },
+        }
+    }
+
+    fn see(&mut self, finished: u64, wanted: u64) {
+        if self.is_counted && COUNTED <= finished.saturating_sub(self.told) {
+            self.tell_count(finished, wanted);
+        }
+        thread::sleep(self.clock, Duration::from_millis(PAUSE));
+    }
 }
 
 // Tells why the load isn't run.
@@ -45,6 +166,12 @@ fn unreported<E: io::Write>(alloc: Global, err: &mut E, why: LoadFault) -> Statu
         LoadFault::OutOfMemory => fails(err, "no memory\n"),
         LoadFault::Opening(why) => refused(alloc, err, Failure::of_opening(why)),
         LoadFault::Refused(_) => told(err, "threads: a call was refused\n", Status::Refused),
+        LoadFault::Unwritten => fails(err, "write fault\n"),
+        LoadFault::OtherQueue => told(
+            err,
+            "threads: a queue has another number than its place in the plan\n",
+            Status::Refused,
+        ),
         LoadFault::MissingPass => told(err, "threads: a pass is missing\n", Status::Refused),
         LoadFault::NotNext => told(
             err,
@@ -71,12 +198,36 @@ fn settled_told(alloc: Global, load: &Load) -> Result<String, AllocError> {
     }
 }
 
+// What is told of a load that didn't settle.
+fn unsettled_told(alloc: Global, asked: AskedLoad) -> Result<String, AllocError> {
+    match asked.packets {
+        None => format!(in alloc; "{UNSETTLED}\n"),
+        Some(_) => format!(in alloc; "{UNSETTLED_PACKETS}\n"),
+    }
+}
+
 // What is told of how a load ended.
-fn ending_told(alloc: Global, load: &Load) -> Result<String, AllocError> {
+fn ending_told(alloc: Global, load: &Load, asked: AskedLoad) -> Result<String, AllocError> {
     match load.ending {
         Ending::Settled => settled_told(alloc, load),
-        Ending::Unsettled => format!(in alloc; "{UNSETTLED}\n"),
+        Ending::Unsettled => unsettled_told(alloc, asked),
         Ending::Mismatch { queue, packet } => mismatch_told(alloc, queue, packet),
+    }
+}
+
+// How many packets a second were finished.
+fn speed(finished: u64, time: Duration) -> u128 {
+    u128::from(finished) * 1_000_000_000 / time.as_nanos().max(1)
+}
+
+// What is told of how fast a load was that was asked for a number of packets.
+fn speed_told(alloc: Global, asked: AskedLoad, ran: &Ran) -> Result<String, AllocError> {
+    match (asked.packets, ran.time) {
+        (Some(_), Some(time)) => {
+            let a_second = speed(ran.finished, time);
+            format!(in alloc; "{a_second} packets a second\n")
+        }
+        _ => Ok(String::new(alloc)),
     }
 }
 
@@ -89,66 +240,165 @@ fn mismatch_told(alloc: Global, queue: QueueId, packet: PacketId) -> Result<Stri
     )
 }
 
+/// What a load came to, how many of its packets are finished, and how long it took, if the clock tells.
+#[derive(Drop)]
+struct Ran {
+    load: Load,
+    finished: u64,
+    time: Option<Duration>,
+}
+
+// Tells how a load ended, and how fast it was.
+fn explain<E: io::Write>(
+    alloc: Global,
+    ran: &Ran,
+    asked: AskedLoad,
+    err: &mut E,
+    status: Status,
+) -> Status {
+    match tell(err, ending_told(alloc, &ran.load, asked), status) {
+        Status::Failed => Status::Failed,
+        status => tell(err, speed_told(alloc, asked, ran), status),
+    }
+}
+
 // Writes the report of a load, and tells how it ended, if that is asked.
 fn report<O: io::Write, E: io::Write>(
     alloc: Global,
-    load: &Load,
-    explains: bool,
+    ran: &Ran,
+    asked: AskedLoad,
     out: &mut O,
     err: &mut E,
 ) -> Status {
-    match told(out, load.report.as_str(), status_of(load.ending)) {
+    match told(out, ran.load.report.as_str(), status_of(ran.load.ending)) {
         Status::Failed => fails(err, "write fault\n"),
-        status if explains => tell(err, ending_told(alloc, load), status),
+        status if asked.explains => explain(alloc, ran, asked, err, status),
         status => status,
     }
 }
 
-// Runs the load over a policy that was read.
-fn run_over<R: Threads + Wait + Sync, O: io::Write, E: io::Write>(
-    rt: &R,
+// The journal of a load over a policy, if one is written.
+fn begin<'a, J: io::Write>(
     alloc: Global,
+    text: &[u8],
+    journal: Option<&'a mut J>,
+) -> Result<Option<JournalWriter<'a, J>>, LoadFault> {
+    match journal {
+        None => Ok(None),
+        Some(journal) => match JournalWriter::begin(alloc, text, &[], PLACES, journal) {
+            Ok(writer) => Ok(Some(writer)),
+            Err(fault) => Err(fault_of(fault)),
+        },
+    }
+}
+
+// Runs the load over a policy and its kernels while it is shown, and ends what is shown.
+fn run_shown<R: Threads + Wait + Sync, C: Clock, J: io::Write, E: io::Write>(
+    rt: &R,
+    policy: Policy,
+    kernels: Vec<Kernel>,
+    terms: LoadTerms,
+    shown: &mut Shown<'_, C, J, E>,
+) -> Result<Ran, LoadFault> {
+    let start = Instant::now(shown.clock).ok();
+    match run_load_watched(rt, shown.alloc, policy, kernels, terms, shown) {
+        Ok(load) => {
+            let time = start.and_then(|start| start.elapsed(shown.clock).ok());
+            shown.end()?;
+            Ok(Ran {
+                load,
+                finished: shown.finished,
+                time,
+            })
+        }
+        Err(why) => {
+            shown.clear();
+            Err(why)
+        }
+    }
+}
+
+// Runs the load over a policy that was read, and shows it while it runs.
+fn run_over<R: Threads + Wait + Sync, C: Clock, J: io::Write, E: io::Write>(
+    rt: &R,
+    clock: &C,
+    alloc: Global,
+    text: &[u8],
+    policy: Policy,
+    kernels: Vec<Kernel>,
+    asked: AskedLoad,
+    journal: Option<&mut J>,
+    err: &mut E,
+) -> Result<Ran, LoadFault> {
+    let journal = begin(alloc, text, journal)?;
+    let mut shown = Shown {
+        clock,
+        alloc,
+        journal,
+        err,
+        is_counted: asked.is_counted,
+        told: 0,
+        finished: 0,
+    };
+    run_shown(rt, policy, kernels, asked.terms(), &mut shown)
+}
+
+// Runs the load over a policy that was read, and reports what came of it.
+fn run_policy<R: Threads + Wait + Sync, C: Clock, J: io::Write, O: io::Write, E: io::Write>(
+    rt: &R,
+    clock: &C,
+    alloc: Global,
+    text: &[u8],
     policy: Policy,
     asked: AskedLoad,
+    journal: Option<&mut J>,
     out: &mut O,
     err: &mut E,
 ) -> Result<Status, Failure> {
     match check_kernels(alloc, &policy) {
         Err(why) => Err(Failure::of_kernels(why)),
-        Ok(kernels) => match run_load(rt, alloc, policy, kernels, asked.producers) {
-            Ok(load) => Ok(report(alloc, &load, asked.explains, out, err)),
+        Ok(kernels) => match run_over(
+            rt, clock, alloc, text, policy, kernels, asked, journal, err,
+        ) {
+            Ok(ran) => Ok(report(alloc, &ran, asked, out, err)),
             Err(why) => Ok(unreported(alloc, err, why)),
         },
     }
 }
 
 // Runs the load over the policy in a text.
-fn run_text<R: Threads + Wait + Sync, O: io::Write, E: io::Write>(
+fn run_text<R: Threads + Wait + Sync, C: Clock, J: io::Write, O: io::Write, E: io::Write>(
     rt: &R,
+    clock: &C,
     alloc: Global,
     text: &[u8],
     asked: AskedLoad,
+    journal: Option<&mut J>,
     out: &mut O,
     err: &mut E,
 ) -> Result<Status, Failure> {
     match read_policy(alloc, text) {
         Err(why) => Err(Failure::of_reading(why)),
-        Ok(policy) => run_over(rt, alloc, policy, asked, out, err),
+        Ok(policy) => run_policy(rt, clock, alloc, text, policy, asked, journal, out, err),
     }
 }
 
 /// Runs the load of threads over the policy in a file, with so many producers a queue: its report goes to `out`. A fault
 /// of the policy or of a kernel is told on `err` as `run_policy` does. If it explains, it is told on `err` where a fault
-/// lies and what may stand there, and behind the report why it ended so.
-pub fn run_threads<R: Threads + Wait + Sync, O: io::Write, E: io::Write>(
+/// lies and what may stand there, and behind the report why it ended so and, where a number of packets is asked for, how
+/// many were finished a second. Its history goes to the journal as it comes, if there is one. A journal that can't be
+/// written ends the load, as a report that can't be does.
+pub fn run_threads<R: Threads + Wait + Sync, C: Clock, J: io::Write, O: io::Write, E: io::Write>(
     rt: &R,
+    clock: &C,
     alloc: Global,
     file: PolicyFile<'_>,
     asked: AskedLoad,
+    journal: Option<&mut J>,
     out: &mut O,
     err: &mut E,
 ) -> Status {
-    match run_text(rt, alloc, file.text, asked, out, err) {
+    match run_text(rt, clock, alloc, file.text, asked, journal, out, err) {
         Ok(status) => status,
         Err(failure) => match refused(alloc, err, failure) {
             Status::Refused if asked.explains => {

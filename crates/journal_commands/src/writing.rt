@@ -100,6 +100,14 @@ impl<'a, J: io::Write> JournalWriter<'a, J> {
         Ok(())
     }
 
+    /// Writes the entries that follow on those that are written.
+    pub fn take(&mut self, entries: &[Entry]) -> Result<(), JournalFault> {
+        for entry in entries {
+            self.put(entry)?;
+        }
+        Ok(())
+    }
+
     /// Writes the last line.
     pub fn end(&mut self) -> Result<(), JournalFault> {
         write_end(&mut self.text, self.alloc, &self.chain)?;

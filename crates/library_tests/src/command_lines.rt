@@ -280,6 +280,8 @@ fn threads_have_one_to_sixteen_producers(rt: HostRuntime) -> Result<(), Fail> {
         Some(Request::Threads {
             policy,
             producers,
+            packets: None,
+            journal: None,
             explains,
         })
     };

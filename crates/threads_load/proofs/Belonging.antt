@@ -2,7 +2,7 @@
 use Rattle.std.proofs.Common.{ℕ, Bool, true, false, List, ◌∷◌, [], ◌++◌, ◌≡◌, sym, subst, arith, ap, ◌∙◌}
 use lib.ListN.{take}
 use Rattle.std.proofs.Math.Seq.{take-append_seam}
-use Rattle.std.specs.Prelude.{All, cond, ◌<◌, length, slice_index_or}
+use Rattle.std.specs.Prelude.{All, OnOk, Result, Ok, Err, is_ok, cond, ◌<◌, length, slice_index_or}
 use Rattle.std.proofs.lemmas.List.Elements.{All-append, All-push}
 use Rattle.atomic_table.specs.Seated.{TableId}
 use Rattle.aql_packet.specs.declared.ids.QueueId.{QueueId}
@@ -43,6 +43,11 @@ pub one_lane_more : (board : TableId) (rings : List QueueRing) (made : Bool) (ot
     → lanes ≡ cond made (others ++ lane ∷ []) others → All (λ l. IsLaneOf board rings l) lanes
 one_lane_more board rings true others lanes lane h k is = subst (λ xs. All (λ l. IsLaneOf board rings l) xs) (sym is) (All-push (λ l. IsLaneOf board rings l) others lane h k)
 one_lane_more board rings false others lanes lane h k is = subst (λ xs. All (λ l. IsLaneOf board rings l) xs) (sym is) h
+
+-- a lane that was put behind others is there
+pub lane_put : {X E : Type 0} (result : Result X E) (others lanes : List LaneSeen) (lane : LaneSeen) → lanes ≡ cond (is_ok result) (others ++ lane ∷ []) others → OnOk result (lanes ≡ others ++ lane ∷ [])
+lane_put (Ok x) others lanes lane is = is
+lane_put (Err e) others lanes lane is = tt
 
 -- the end at a place is, and ends are where each at its place is
 pub end_at : (rings : List QueueRing) (ends : List ClientEnd) (i : ℕ) (end : ClientEnd) → All (λ e. IsEndOf rings e) ends → i < length ends → end ≡ slice_index_or ends i end → IsEndOf rings end

@@ -1,6 +1,6 @@
 -- What is handed out in a section.
-use Rattle.std.proofs.Common.{◌≡◌, List, sym, subst, inr}
-use Rattle.std.specs.Prelude.{Result, Ok, Err, IfOk}
+use Rattle.std.proofs.Common.{◌≡◌, List, [], sym, subst, inr, arith}
+use Rattle.std.specs.Prelude.{All, Result, Ok, Err, IfOk}
 use Rattle.kernel_check.specs.Programs.{Program}
 use Rattle.core_model.specs.History.{History, Part}
 use Rattle.core_model.specs.Legal.{IsLegalPart}
@@ -31,3 +31,7 @@ legal_by kernels own (Err why) same legal = tt
 pub handed_legal : (opened : Core) (seen new : List Core) (result : Result Part Refusal)
     → IsSection opened seen new (λ before after. Rotates before.history result after.history × IfOk result (λ part. IsLegalPart before.history.kernels part)) → IfOk result (IsLegalPart opened.history.kernels)
 handed_legal opened seen new result s = legal_by opened.history.kernels (last_of opened s.before).history.kernels result (same_kernels opened s.before s.all) s.did.1
+
+-- no part was handed out yet
+pub none_legal : (kernels : List Program) → All (IsLegalPart kernels) []
+none_legal kernels = λ k d lt. absurd (omega (arith, lt))

@@ -1,6 +1,7 @@
 pub mod Belonging
+pub mod Planned
 pub mod Endings
 pub mod Ranges
 pub mod Sums
-pub mod Adding
+pub mod Granted
 pub mod Handing

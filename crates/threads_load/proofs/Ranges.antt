@@ -1,8 +1,9 @@
 -- What a run over numbers in order comes to with one number more.
 use Rattle.std.proofs.Common.{◌≡◌, ℕ, zero, suc, ◌+◌, ◌<◌, Bool, true, false, List, [], ◌∷◌, ◌++◌, map, ap, sym, ◌∙◌, refl, arith, append_assoc, append-nil}
-use Rattle.std.specs.Prelude.{flat_map, Option, Some, None, cond}
-use Rattle.std.specs.List.{find, range_with_len}
+use Rattle.std.specs.Prelude.{flat_map, Option, Some, None, cond, ◌&&◌}
+use Rattle.std.specs.List.{find, list_all, range_with_len}
 use Rattle.std.proofs.lemmas.Grind.{flat_map-append}
+use Rattle.std.proofs.lemmas.List.Folds.{list_all-append}
 
 range_next : (a n k : ℕ) → k ≡ a + n → range_with_len a (suc n) ≡ range_with_len a n ++ k ∷ []
 range_next a zero k e = let h : a ≡ k = omega (arith, e) in ap (λ x. x ∷ []) h
@@ -47,3 +48,14 @@ module _ {X : Type 0} (test : X → Bool) (make : ℕ → X) where
   -- nor does it pass
   pub missed_at : (b k : ℕ) → k ≡ b + 1 → find test (map make (range_with_len 1 b)) ≡ None → test (make k) ≡ false → find test (map make (range_with_len 1 (b + 1))) ≡ None
   missed_at b k e none is = let on : b + 1 ≡ suc b = omega arith in ap (λ n. find test (map make (range_with_len 1 n))) on ∙ missed_from 1 b k (omega (arith, e)) none is
+
+and_true : (b : Bool) → (b && true) ≡ b
+and_true true = refl
+and_true false = refl
+
+module _ (test : ℕ → Bool) where
+  -- what all numbers so far pass, and the next one too
+  pub all_more : (n k : ℕ) (so_far : Bool) → k ≡ n + 1 → so_far ≡ list_all test (range_with_len 1 n) → (so_far && test k) ≡ list_all test (range_with_len 1 (n + 1))
+  all_more n k so_far e is =
+      ap (λ b. b && test k) is ∙ ap (λ b. list_all test (range_with_len 1 n) && b) (sym (and_true (test k)))
+      ∙ sym (list_all-append test (range_with_len 1 n) (k ∷ [])) ∙ ap (list_all test) (sym (range_more 1 n k (omega (arith, e))))

@@ -1,5 +1,6 @@
 -- What became of the packets of a queue, as an audit tells it (own).
 use Rattle.std.specs.Prelude.{ℕ, Bool, true, false, ◌==◌, ◌&&◌, count_by, List}
+use Rattle.std.specs.List.{list_all, range_with_len}
 use Rattle.core_model.specs.declared.event.Event.{Event}
 use Rattle.core_model.specs.declared.event.Event.TheVariants.{Take, Call}
 use Rattle.core_model.specs.declared.call.Call.TheVariants.{Finish}
@@ -48,3 +49,11 @@ packet_counts entries queue = record {
   finished = count_by (is_completion queue) entries;
   denied = count_by (is_denial queue) entries;
 }
+
+-- just so many packets of a queue are finished by these entries (own)
+abbrev pub is_finished : List Entry → ℕ → ℕ → Bool
+is_finished entries wanted queue = (packet_counts entries queue).finished == wanted
+
+-- of each of so many queues, which are numbered from 1 on (own)
+abbrev pub are_finished : List Entry → ℕ → ℕ → Bool
+are_finished entries wanted queues = list_all (is_finished entries wanted) (range_with_len 1 queues)

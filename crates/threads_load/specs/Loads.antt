@@ -1,8 +1,8 @@
 -- What a load comes to (own).
-use Rattle.std.specs.Prelude.{◌≡◌, List, [], ◌∷◌, ◌++◌, map, string_bytes, ⊤}
+use Rattle.std.specs.Prelude.{◌≡◌, ℕ, ◌*◌, ◌^◌, ◌-◌, min, Bool, true, false, List, [], ◌∷◌, ◌++◌, All, length, map, string_bytes}
 use Rattle.policy.specs.Policy.{Declared}
 use Rattle.core_model.specs.History.{Part, beginning}
-use Rattle.core_model.specs.Rotation.{LeadTo}
+use Rattle.core_model.specs.Rotation.{LeadTo, entries_in}
 use Rattle.core_model.specs.Legal.{IsLegal, IsLegalPart, IsOpening}
 use Rattle.core_model.specs.declared.entry.Entry.{Entry}
 use Rattle.access_core.specs.Cores.{Core}
@@ -19,48 +19,61 @@ use Rattle.threads_load.specs.declared.load.TheConstants.{PLACES}
 use Rattle.threads_load.specs.declared.plan.PlannedQueue.{PlannedQueue}
 use Rattle.threads_load.specs.declared.report.Ending.{Ending}
 use Rattle.threads_load.specs.declared.report.Ending.TheVariants as ending
+use Rattle.threads_load.specs.Counts.{are_finished}
+use Rattle.threads_load.specs.Grantings.{HasAllAllowed}
 use Rattle.threads_load.specs.Plans.{planned}
 use Rattle.threads_load.specs.Reports.{text_of_report}
+use Rattle.threads_load.specs.Stages.{AreOf, HasQueues, WasLeft}
 
--- an ending that tells of no mismatch (own)
-abbrev pub IsAgreed : Ending → Type 0
-IsAgreed ending.Settled = ⊤
-IsAgreed ending.Unsettled = ⊤
-IsAgreed (ending.Mismatch queue packet) = ⊥
+-- how many packets of each queue are to be finished: those of all its producers, as a number of 64 bits has it (own)
+abbrev pub wanted_of : ℕ → ℕ → ℕ
+wanted_of packets producers = min (packets * producers) (2 ^ 64 - 1)
 
--- what an ending tells of what was taken and what lanes served (own)
-abbrev pub EndsAs : List Entry → List LaneSeen → Ending → Type 0
-EndsAs entries lanes ending.Settled = AllAgree entries lanes
-EndsAs entries lanes ending.Unsettled = AllAgree entries lanes
-EndsAs entries lanes (ending.Mismatch queue packet) = IsLeastMismatch entries lanes queue.0 packet.0
+-- what an ending tells: what was taken is what lanes served, and all packets are finished, or not all; or where the two first differ (own)
+abbrev pub EndsAs : List Entry → List LaneSeen → (are_all_finished : Bool) → Ending → Type 0
+EndsAs entries lanes all ending.Settled = AllAgree entries lanes × (all ≡ true)
+EndsAs entries lanes all ending.Unsettled = AllAgree entries lanes × (all ≡ false)
+EndsAs entries lanes all (ending.Mismatch queue packet) = IsLeastMismatch entries lanes queue.0 packet.0
 
--- how a load ended whose broker came to this (own)
-abbrev pub EndsBy : Settlement → Ending → Type 0
-EndsBy (settlement.Settled core rings) ended = IsAgreed ended
-EndsBy (settlement.Mismatch core queue id) ended = ended ≡ ending.Mismatch queue id
+-- what ending is told of a broker that agrees: by whether all packets are finished (own)
+abbrev pub ending_if : Bool → Ending
+ending_if true = ending.Settled
+ending_if false = ending.Unsettled
 
--- a load ended so: its core is the one that was opened, as the last section left it; a part that was handed out of it, for
--- its kernels, leads to its audit; and its entries are what some lanes served, which have seen it, or first
--- differ there (own)
-pub record EndsWith (opened : Core) (part : Part) (core : Core) (ended : Ending) : Type 0 where
+-- a load ended so, over a plan whose queues each want so many packets: all that the policy allows was granted; the planned queues were
+-- opened, each by its client on its agent, and its lanes are just theirs; the core is the one that was opened, as the last section left
+-- it; parts that were handed out of it, for its kernels, lead to its audit; and all their entries are what these lanes served, which
+-- have seen it, with all packets finished or not, or first differ there (own)
+pub record EndsWith (opened : Core) (plan : List PlannedQueue) (wanted : ℕ) (parts : List Part) (core : Core) (ended : Ending) : Type 0 where
   pub legal : IsLegal (beginning core.history) core.history.entries
-  pub part_legal : IsLegalPart opened.history.kernels part
-  pub lead : LeadTo (part ∷ []) core.history.origin
+  pub parts_legal : All (IsLegalPart opened.history.kernels) parts
+  pub lead : LeadTo parts core.history.origin
   pub seen : List Core
   pub lanes : List LaneSeen
+  pub granted : WasLeft seen (λ left. HasAllAllowed left.history)
+  pub queues : HasQueues core plan
+  pub lanes_are : AreOf (length plan) lanes
   pub end : IsEnd opened seen lanes core
-  pub ends : EndsAs (part.entries ++ core.history.entries) lanes ended
+  pub ends : EndsAs (entries_in parts ++ core.history.entries) lanes (are_finished (entries_in parts ++ core.history.entries) wanted (length plan)) ended
 
--- a load ended, with the core that it left and the part that was handed out (own)
-abbrev pub EndsLoad : Core → Ended → Type 0
-EndsLoad opened ended = EndsWith opened ended.part ended.core ended.ending
+-- a load ended, with the core that it left and the parts that were handed out (own)
+abbrev pub EndsLoad : Core → List PlannedQueue → ℕ → Ended → Type 0
+EndsLoad opened plan wanted ended = EndsWith opened plan wanted ended.parts.items ended.core ended.ending
 
--- the report of a load with this plan is that of the core that it left, and of the part that leads to it (own)
-abbrev pub TellsPlan : Core → List PlannedQueue → Load → Type 0
-TellsPlan opened plan load =
-    (part : Part) × (core : Core) × EndsWith opened part core load.ending
-    × (string_bytes load.report ≡ text_of_report (beginning core.history) part.entries core.history.entries plan load.ending)
+-- how a load ended whose broker came to this (own)
+abbrev pub EndsBy : List PlannedQueue → ℕ → List Part → Settlement → Ending → Type 0
+EndsBy plan wanted parts (settlement.Settled core rings) ended =
+    ended ≡ ending_if (are_finished (entries_in parts ++ core.history.entries) wanted (length plan))
+EndsBy plan wanted parts (settlement.Mismatch core queue id) ended = ended ≡ ending.Mismatch queue id
 
--- the report of a load over a policy and its kernels: that of a core that was opened over them (own)
-abbrev pub TellsLoad : Declared → List Kernel → Load → Type 0
-TellsLoad policy kernels load = (opened : Core) × IsOpening opened.history policy (map program_of kernels) PLACES × TellsPlan opened (planned policy) load
+-- the report of a load with this plan is that of the core that it left, and of the parts that lead to it (own)
+abbrev pub TellsPlan : Core → List PlannedQueue → ℕ → Load → Type 0
+TellsPlan opened plan wanted load =
+    (parts : List Part) × (core : Core) × EndsWith opened plan wanted parts core load.ending
+    × (string_bytes load.report ≡ text_of_report (beginning core.history) (entries_in parts) core.history.entries plan load.ending)
+
+-- the report of a load over a policy and its kernels, with so many packets of each of so many producers a queue: that of a core that was
+-- opened over them, with the queues that the policy plans (own)
+abbrev pub TellsLoad : Declared → List Kernel → ℕ → ℕ → Load → Type 0
+TellsLoad policy kernels packets producers load =
+    (opened : Core) × IsOpening opened.history policy (map program_of kernels) PLACES × TellsPlan opened (planned policy) (wanted_of packets producers) load

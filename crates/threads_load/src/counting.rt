@@ -1,10 +1,13 @@
 //! What became of packets is counted in the audit.
 
-ghost use Rattle.std.specs.Prelude.{◌≡◌, ◌++◌, count_by};
-ghost use Rattle.threads_load.specs.Counts.{is_completion, is_denial, is_denied, is_launch, is_launched, packet_counts};
+ghost use Rattle.std.specs.Prelude.{◌≡◌, ◌++◌, ◌+◌, IfOk, List, count_by};
+ghost use Rattle.core_model.specs.declared.entry.Entry.{Entry};
+ghost use Rattle.core_model.specs.Rotation.{entries_in};
+ghost use Rattle.threads_load.specs.Counts.{are_finished, is_completion, is_denial, is_denied, is_finished, is_launch, is_launched, packet_counts};
 
 use aql_packet::QueueId;
-use core_model::{Call, Entry, Event, Outcome, Taken};
+use core_model::{Call, Entry, Event, Outcome, Part, Taken};
+use std::alloc::AllocError;
 
 /// How many packets of a queue were launched, finished and denied.
 #[derive(Clone, Copy, Debug, PartialEq, Eq)]
@@ -99,14 +102,98 @@ pub fn count_packets(audit: &[Entry], queue: QueueId) -> PacketCounts
     }
 }
 
-/// Counts what became of the packets of a queue in the entries that were handed out of an audit, and in those since.
-#[tactic(auto, using(crate::proofs::Sums::in_both))]
-pub fn count_all(handed_out: &[Entry], audit: &[Entry], queue: QueueId) -> PacketCounts
-    ensures { result ≡ packet_counts (handed_out.now ++ audit.now) queue.0 }
+// The sum of two counts; none where it is greater than entries can be.
+fn sum(one: usize, other: usize) -> Result<usize, AllocError>
+    ensures { IfOk result (λ sum. sum ≡ one + other) }
 {
-    PacketCounts {
-        launched: launches(handed_out, queue) + launches(audit, queue),
-        finished: completions(handed_out, queue) + completions(audit, queue),
-        denied: denials(handed_out, queue) + denials(audit, queue),
+    match one.checked_add(other) {
+        Some(sum) => Ok(sum),
+        None => Err(AllocError),
     }
+}
+
+// The sum of what was counted in one place and in another.
+fn sum_of(one: PacketCounts, other: PacketCounts) -> Result<PacketCounts, AllocError>
+    ensures { IfOk result (λ sum. (sum.launched ≡ one.launched + other.launched) × (sum.finished ≡ one.finished + other.finished) × (sum.denied ≡ one.denied + other.denied)) }
+{
+    let launched = sum(one.launched, other.launched)?;
+    let finished = sum(one.finished, other.finished)?;
+    let denied = sum(one.denied, other.denied)?;
+    Ok(PacketCounts {
+        launched,
+        finished,
+        denied,
+    })
+}
+
+// Counts what became of the packets of a queue in some entries, and adds it to what was counted in those before.
+#[tactic(auto, using(crate::proofs::Sums::both_counts))]
+fn count_more(
+    counts: PacketCounts,
+    entries: &[Entry],
+    queue: QueueId,
+) -> Result<PacketCounts, AllocError>
+    ensures { (before : List Entry) → counts ≡ packet_counts before queue.0 → IfOk result (λ sum. sum ≡ packet_counts (before ++ entries.now) queue.0) }
+{
+    sum_of(counts, count_packets(entries, queue))
+}
+
+// Counts it in parts that were handed out of an audit.
+fn count_parts(parts: &[Part], queue: QueueId) -> Result<PacketCounts, AllocError>
+    ensures { IfOk result (λ counts. counts ≡ packet_counts (entries_in parts.now) queue.0) }
+{
+    let mut counts = PacketCounts {
+        launched: 0,
+        finished: 0,
+        denied: 0,
+    };
+    for part in parts {
+        counts = count_more(counts, part.entries(), queue)?;
+    }
+    Ok(counts)
+}
+
+/// Counts what became of the packets of a queue in the parts that were handed out of an audit, and in the entries since.
+pub fn count_all(
+    parts: &[Part],
+    audit: &[Entry],
+    queue: QueueId,
+) -> Result<PacketCounts, AllocError>
+    ensures { IfOk result (λ counts. counts ≡ packet_counts (entries_in parts.now ++ audit.now) queue.0) }
+{
+    match count_parts(parts, queue) {
+        Ok(counts) => count_more(counts, audit, queue),
+        Err(want) => Err(want),
+    }
+}
+
+// Whether so many packets of a queue are finished.
+fn is_finished(
+    parts: &[Part],
+    audit: &[Entry],
+    queue: QueueId,
+    wanted: u64,
+) -> Result<bool, AllocError>
+    ensures { IfOk result (λ done. done ≡ is_finished (entries_in parts.now ++ audit.now) wanted queue.0) }
+{
+    match count_all(parts, audit, queue) {
+        Ok(counts) => Ok(counts.finished as u64 == wanted),
+        Err(want) => Err(want),
+    }
+}
+
+/// Whether of each of so many queues so many packets are finished, by these parts and the entries since.
+pub fn are_finished(
+    parts: &[Part],
+    audit: &[Entry],
+    queues: usize,
+    wanted: u64,
+) -> Result<bool, AllocError>
+    ensures { IfOk result (λ done. done ≡ are_finished (entries_in parts.now ++ audit.now) wanted queues) }
+{
+    let mut all = true;
+    for before in 0..queues {
+        all &= is_finished(parts, audit, QueueId(before as u64 + 1), wanted)?;
+    }
+    Ok(all)
 }

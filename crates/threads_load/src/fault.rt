@@ -16,6 +16,12 @@ pub enum LoadFault {
     /// The core refused a call: a grant, an opening, or the read of a region.
     #[error("{0}")]
     Refused(Refusal),
+    /// A queue that was opened doesn't have the number of its place in the plan.
+    #[error("a queue has another number than its place in the plan")]
+    OtherQueue,
+    /// What is shown of the load couldn't be written.
+    #[error("what is shown of the load was not written")]
+    Unwritten,
     /// A pass didn't come back from its thread.
     #[error("a pass is missing")]
     MissingPass,

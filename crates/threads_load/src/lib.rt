@@ -8,20 +8,26 @@ mod counting;
 mod fault;
 mod gate;
 mod granting;
+mod limits;
 mod load;
 mod opening;
 mod plan;
 mod producing;
 mod report;
 mod running;
+mod watch;
 
-pub use counting::{PacketCounts, count_all, count_packets};
+pub use counting::{PacketCounts, are_finished, count_all, count_packets};
 pub use fault::LoadFault;
 pub use gate::LoadGate;
 pub use granting::grant_all;
-pub use load::{Load, LoadLimits, name_broker, open_broker, run_load, run_load_within};
+pub use limits::{LoadLimits, LoadTerms, PACKETS};
+pub use load::{
+    Load, PLACES, name_broker, open_broker, run_load, run_load_watched, run_load_within,
+};
 pub use opening::{Stage, open_stage};
 pub use plan::{PlannedQueue, plan_load};
 pub use producing::{Share, addition, produce};
 pub use report::{Ending, report_load};
 pub use running::{run_rotated, run_stage};
+pub use watch::{Unwatched, Watch};

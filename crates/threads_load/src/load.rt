@@ -1,44 +1,42 @@
 //! The load, from a policy to its report.
 
-ghost use Rattle.std.specs.Prelude.{◌≡◌, [], ◌∷◌, IfOk, Ok, map};
+ghost use Rattle.std.specs.Prelude.{◌≡◌, ℕ, [], ◌++◌, All, IfOk, Ok, OnOk, length, map};
 ghost use Rattle.core_model.specs.Legal.{IsLegalPart, IsOpening};
+ghost use Rattle.core_model.specs.Rotation.{entries_in};
 ghost use Rattle.access_core.specs.Cores.{Core};
 ghost use Rattle.access_core.specs.Opening.{program_of};
+ghost use Rattle.client_threads.specs.Sections.{IsSection};
 ghost use Rattle.client_threads.specs.Settling.{IsEnd, IsSettlement, core_of};
-ghost use Rattle.threads_load.specs.Loads.{EndsBy, EndsLoad, IsAgreed, TellsLoad, TellsPlan};
-ghost use Rattle.threads_load.specs.Stages.{IsStage};
+ghost use Rattle.threads_load.specs.Counts.{are_finished};
+ghost use Rattle.threads_load.specs.Grantings.{HasAllAllowed};
+ghost use Rattle.threads_load.specs.Loads.{EndsBy, EndsLoad, TellsLoad, TellsPlan, ending_if, wanted_of};
+ghost use Rattle.threads_load.specs.Stages.{IsReady, IsStage, WasLeft};
+ghost use Rattle.threads_load.specs.declared.limits.TheConstants.{PACKETS};
 
+use crate::counting::are_finished;
 use crate::fault::LoadFault;
-use crate::gate::{LoadGate, MOST_TURNS};
+use crate::gate::LoadGate;
 use crate::granting::grant_all;
+use crate::limits::{LoadLimits, LoadTerms, PACKETS};
 use crate::opening::{Stage, open_stage};
 use crate::plan::{PlannedQueue, plan_load};
-use crate::producing::{MOST_TRIES, PACKETS, Share};
+use crate::producing::Share;
 use crate::report::{Ending, report_load};
 use crate::running::run_rotated;
+use crate::watch::{Unwatched, Watch};
 use access_core::{AccessCore, Kernel};
 use client_threads::{
     Broker, Front, Room, SettleAllFault, Settlement, UnnamedBroker, UnsettledBroker, settle_all,
 };
 use core_model::{Part, Refusal};
 use policy::Policy;
-use std::alloc::Global;
+use std::alloc::{AllocError, Global};
 use std::marker::Brand;
-use std::slice;
 use std::sync::Wait;
 use std::thread::Threads;
 
 /// How many entries the audit of the load has place for.
 pub const PLACES: usize = 131_072;
-
-/// How far a load goes at the most.
-#[derive(Clone, Copy)]
-pub struct LoadLimits {
-    /// How many turns each lane makes.
-    pub turns: u64,
-    /// How often each producer tries again, over all of its packets.
-    pub tries: u64,
-}
 
 /// What a load came to: its report, and how it ended.
 #[derive(Drop)]
@@ -47,42 +45,67 @@ pub struct Load {
     pub ending: Ending,
 }
 
-// What a broker came to: its core, the part that was handed out of its audit, and how the load ended.
+// What a broker came to: its core, the parts that were handed out of its audit, and how the load ended.
 #[derive(Drop)]
 pub(crate) struct Ended {
     pub core: AccessCore,
-    pub part: Part,
+    pub parts: Vec<Part>,
     pub ending: Ending,
 }
 
-// How a load ended whose lanes' packets are those that the core took.
-fn ending_by(gate: &LoadGate) -> Ending
-    ensures { IsAgreed result }
+// How a load ended whose lanes' packets are those that the core took: by whether all of them are finished.
+fn ending_by(all: bool) -> Ending
+    ensures { result ≡ ending_if all }
 {
-    if gate.is_unsettled() {
-        Ending::Unsettled
-    } else {
+    if all {
         Ending::Settled
+    } else {
+        Ending::Unsettled
+    }
+}
+
+// The same, of a core that took as many packets of each queue of a plan.
+fn ending_of(
+    parts: &[Part],
+    core: &AccessCore,
+    plan: &[PlannedQueue],
+    wanted: u64,
+) -> Result<Ending, AllocError>
+    ensures { IfOk result (λ ending. ending ≡ ending_if (are_finished (entries_in parts.now ++ core.now.history.entries) wanted (length plan.now))) }
+{
+    match are_finished(parts, core.audit(), plan.len(), wanted) {
+        Ok(all) => Ok(ending_by(all)),
+        Err(want) => Err(want),
     }
 }
 
 // How a load ended, by what its broker came to.
-fn ended_by(settlement: Settlement, part: Part, gate: &LoadGate) -> Ended
-    ensures core { result.core ≡ core_of settlement }
-    ensures part { result.part ≡ part }
-    ensures ends { EndsBy settlement result.ending }
+fn ended_by(
+    settlement: Settlement,
+    parts: Vec<Part>,
+    plan: &[PlannedQueue],
+    wanted: u64,
+) -> Result<Ended, LoadFault>
+    ensures core { IfOk result (λ ended. ended.core ≡ core_of settlement) }
+    ensures parts { IfOk result (λ ended. ended.parts.items ≡ parts.items) }
+    ensures ends { IfOk result (λ ended. EndsBy plan.now wanted parts.items settlement ended.ending) }
 {
     match settlement {
-        Settlement::Settled { core, .. } => Ended {
+        Settlement::Settled { core, .. } => {
+            match ending_of(parts.as_slice(), &core, plan, wanted) {
+                Ok(ending) => Ok(Ended {
+                    core,
+                    parts,
+                    ending,
+                }),
+                Err(want) => Err(LoadFault::from(want)),
+            }
+        }
+        Settlement::Mismatch { core, queue, id } => Ok(Ended {
             core,
-            part,
-            ending: ending_by(gate),
-        },
-        Settlement::Mismatch { core, queue, id } => Ended {
-            core,
-            part,
+            parts,
             ending: Ending::Mismatch { queue, packet: id },
-        },
+        }),
     }
 }
 
@@ -95,14 +118,14 @@ fn fault_of<B: Room>(back: UnsettledBroker<B>) -> LoadFault {
     }
 }
 
-// Settles a broker whose threads have ended, and of whose audit a part was handed out.
+// Settles a broker whose threads have ended, and of whose audit parts were handed out.
 fn settle<B: Room>(
     alloc: Global,
     stage: Stage<B>,
-    part: &Part,
+    parts: &[Part],
 ) -> Result<Settlement, UnsettledBroker<B>>
     requires { IsStage B.board stage }
-    ensures settled { IfOk result (IsSettlement stage.broker (part.now ∷ []) stage.ends.items stage.lanes.items) }
+    ensures settled { IfOk result (IsSettlement stage.broker parts.now stage.ends.items stage.lanes.items) }
     ensures end { IfOk result (λ settlement. IsEnd B.opened stage.front.left stage.lanes.items (core_of settlement)) }
 {
     let Stage {
@@ -112,29 +135,24 @@ fn settle<B: Room>(
         lanes,
     } = stage;
     let mut front = front;
-    settle_all(
-        alloc,
-        broker,
-        &mut front,
-        slice::from_ref(part),
-        ends,
-        lanes,
-    )
+    settle_all(alloc, broker, &mut front, parts, ends, lanes)
 }
 
 // Settles it, and tells how the load ended.
 fn finish<B: Room>(
     alloc: Global,
     stage: Stage<B>,
-    part: Part,
-    gate: &LoadGate,
+    parts: Vec<Part>,
+    plan: &[PlannedQueue],
+    wanted: u64,
 ) -> Result<Ended, LoadFault>
     requires stage { IsStage B.board stage }
-    requires part { IsLegalPart B.opened.history.kernels part }
-    ensures { IfOk result (EndsLoad B.opened) }
+    requires ready { IsReady plan.now stage }
+    requires parts { All (IsLegalPart B.opened.history.kernels) parts.items }
+    ensures { IfOk result (EndsLoad B.opened plan.now wanted) }
 {
-    match settle(alloc, stage, &part) {
-        Ok(settlement) => Ok(ended_by(settlement, part, gate)),
+    match settle(alloc, stage, parts.as_slice()) {
+        Ok(settlement) => ended_by(settlement, parts, plan, wanted),
         Err(back) => Err(fault_of(back)),
     }
 }
@@ -154,69 +172,91 @@ pub fn open_broker(
     }
 }
 
+// Grants all that the policy of a broker's core allows, in a section.
+#[tactic(auto, using(crate::proofs::Granted::adds_follow))]
+fn grant_alone<B: Room>(broker: &mut Broker<B>, front: &mut Front) -> Result<(), Refusal>
+    requires { front.old.board ≡ B.board }
+    ensures front { front.new.board ≡ B.board }
+    ensures section { IsSection B.opened front.old.left front.new.left (λ before after. OnOk result (HasAllAllowed after.history)) }
+    ensures rings { broker.new ≡ broker.old }
+{
+    broker.with_core_alone(front, |core| grant_all(core))
+}
+
 /// Gives a broker its name, and grants all that its policy allows. The front has seen that.
-#[tactic(auto, using(client_threads::proofs::Sections::appends_follow))]
 pub fn name_broker<B: Room>(unnamed: UnnamedBroker) -> Result<(Broker<B>, Front), LoadFault>
     requires { (unnamed.board ≡ B.board) × (unnamed.core ≡ B.opened) }
     ensures rings { IfOk result (λ named. named.0 ≡ []) }
     ensures front { IfOk result (λ named. named.1.board ≡ B.board) }
+    ensures granted { IfOk result (λ named. WasLeft named.1.left (λ left. HasAllAllowed left.history)) }
 {
     let (mut broker, mut front) = unnamed.named::<B>();
-    match broker.with_core_alone(&mut front, |core| grant_all(core)) {
+    match grant_alone(&mut broker, &mut front) {
         Ok(()) => Ok((broker, front)),
         Err(why) => Err(LoadFault::from(why)),
     }
 }
 
-// Settles it, if a part was handed out.
+// Settles it, if all parts were handed out.
 fn finish_rotated<B: Room>(
     alloc: Global,
     stage: Stage<B>,
-    rotated: Result<Part, Refusal>,
-    gate: &LoadGate,
+    rotated: Result<Vec<Part>, LoadFault>,
+    plan: &[PlannedQueue],
+    wanted: u64,
 ) -> Result<Ended, LoadFault>
     requires stage { IsStage B.board stage }
-    requires part { IfOk rotated (IsLegalPart B.opened.history.kernels) }
-    ensures { IfOk result (EndsLoad B.opened) }
+    requires ready { IsReady plan.now stage }
+    requires parts { IfOk rotated (λ parts. All (IsLegalPart B.opened.history.kernels) parts.items) }
+    ensures { IfOk result (EndsLoad B.opened plan.now wanted) }
 {
     match rotated {
-        Ok(part) => finish(alloc, stage, part, gate),
-        Err(why) => Err(LoadFault::from(why)),
+        Ok(parts) => finish(alloc, stage, parts, plan, wanted),
+        Err(why) => Err(why),
     }
 }
 
 // Runs the load of a plan over a broker, whose queues were opened for it.
-fn run_over<B: Room + Send + Sync, R: Threads + Wait + Sync>(
+fn run_over<B: Room + Send + Sync, R: Threads + Wait + Sync, W: Watch>(
     rt: &R,
     alloc: Global,
     stage: Stage<B>,
     plan: &[PlannedQueue],
     share: Share,
     gate: &LoadGate,
+    wanted: u64,
+    watch: &mut W,
 ) -> Result<Ended, LoadFault>
-    requires { IsStage B.board stage }
-    ensures { IfOk result (EndsLoad B.opened) }
+    requires stage { IsStage B.board stage }
+    requires ready { IsReady plan.now stage }
+    ensures { IfOk result (EndsLoad B.opened plan.now wanted) }
 {
-    let (stage, rotated) = run_rotated(rt, alloc, stage, plan, share, gate);
-    finish_rotated(alloc, stage, rotated, gate)
+    let (stage, rotated) = run_rotated(rt, alloc, stage, plan, share, gate, watch);
+    finish_rotated(alloc, stage, rotated, plan, wanted)
 }
 
 // Names a broker, opens the queues of a plan, and runs its load.
-fn run_named<B: Room + Send + Sync, R: Threads + Wait + Sync>(
+fn run_named<B: Room + Send + Sync, R: Threads + Wait + Sync, W: Watch>(
     rt: &R,
     alloc: Global,
     unnamed: UnnamedBroker,
     plan: &[PlannedQueue],
-    share: Share,
+    terms: LoadTerms,
+    wanted: u64,
     gate: &LoadGate,
-    producers: u64,
+    watch: &mut W,
 ) -> Result<Ended, LoadFault>
     requires { (unnamed.board ≡ B.board) × (unnamed.core ≡ B.opened) }
-    ensures { IfOk result (EndsLoad unnamed.core) }
+    ensures { IfOk result (EndsLoad unnamed.core plan.now wanted) }
 {
+    let share = Share {
+        packets: terms.packets,
+        tries: terms.limits.tries,
+        are_renewed: terms.limits.are_renewed,
+    };
     let (broker, front) = name_broker::<B>(unnamed)?;
-    let stage = open_stage(alloc, broker, front, plan, producers)?;
-    run_over(rt, alloc, stage, plan, share, gate)
+    let stage = open_stage(alloc, broker, front, plan, terms.producers)?;
+    run_over(rt, alloc, stage, plan, share, gate, wanted, watch)
 }
 
 // A load with its report, if there is one.
@@ -231,40 +271,54 @@ fn load_of(report: Result<String, Refusal>, ending: Ending) -> Result<Load, Load
 
 // The report of a load that ended.
 fn tell(alloc: Global, ended: Ended, plan: &[PlannedQueue]) -> Result<Load, LoadFault>
-    ensures { (opened : Core) → EndsLoad opened ended → IfOk result (TellsPlan opened plan.now) }
+    ensures { (opened : Core) (wanted : ℕ) → EndsLoad opened plan.now wanted ended → IfOk result (TellsPlan opened plan.now wanted) }
 {
-    let handed_out = ended.part.entries();
-    let report = report_load(alloc, handed_out, &ended.core, plan, ended.ending);
+    let parts = ended.parts.as_slice();
+    let report = report_load(alloc, parts, &ended.core, plan, ended.ending);
     load_of(report, ended.ending)
 }
 
+// The report of a load that ended, once the entries in its audit were shown.
+fn show_and_tell<W: Watch>(
+    alloc: Global,
+    ended: Ended,
+    plan: &[PlannedQueue],
+    watch: &mut W,
+) -> Result<Load, LoadFault>
+    ensures { (opened : Core) (wanted : ℕ) → EndsLoad opened plan.now wanted ended → IfOk result (TellsPlan opened plan.now wanted) }
+{
+    match watch.take(ended.core.audit()) {
+        Ok(()) => tell(alloc, ended, plan),
+        Err(why) => Err(why),
+    }
+}
+
 // Runs the load of a plan over a policy: the broker gets its name here.
-fn run_plan<R: Threads + Wait + Sync>(
+fn run_plan<R: Threads + Wait + Sync, W: Watch>(
     rt: &R,
     alloc: Global,
     policy: Policy,
     kernels: Vec<Kernel>,
     plan: &[PlannedQueue],
-    producers: u64,
-    limits: LoadLimits,
+    terms: LoadTerms,
+    watch: &mut W,
 ) -> Result<Ended, LoadFault>
-    ensures { IfOk result (λ ended. (opened : Core) × IsOpening opened.history policy (map program_of kernels.items) PLACES × EndsLoad opened ended) }
+    ensures { IfOk result (λ ended. (opened : Core) × IsOpening opened.history policy (map program_of kernels.items) PLACES × EndsLoad opened plan.now (wanted_of terms.packets terms.producers) ended) }
 {
-    let wanted = PACKETS.saturating_mul(producers);
-    let gate = LoadGate::with_turns(alloc, plan.len(), wanted, limits.turns)?;
-    let share = Share {
-        packets: PACKETS,
-        tries: limits.tries,
-    };
+    let wanted = terms.packets.saturating_mul(terms.producers);
+    let gate = LoadGate::within(alloc, plan.len(), wanted, terms.limits)?;
     match open_broker(alloc, policy, kernels, PLACES) {
-        Ok(unnamed) => run_named::<Brand, R>(rt, alloc, unnamed, plan, share, &gate, producers),
+        Ok(unnamed) => {
+            run_named::<Brand, R, W>(rt, alloc, unnamed, plan, terms, wanted, &gate, watch)
+        }
         Err(why) => Err(why),
     }
 }
 
 /// Runs the load over a policy and its kernels with so many producers a queue, 1 to 16: grants all that the policy
 /// allows, opens the queues of the plan, has the producers publish and the lanes serve, each on a thread of its own,
-/// while this one rotates the audit once, and reports what came of it. That the load settles is not promised.
+/// while this one rotates the audit, and reports what came of it. It is told as settled just where all packets that
+/// producers publish are finished; that they ever are is not promised.
 pub fn run_load<R: Threads + Wait + Sync>(
     rt: &R,
     alloc: Global,
@@ -272,13 +326,9 @@ pub fn run_load<R: Threads + Wait + Sync>(
     kernels: Vec<Kernel>,
     producers: u64,
 ) -> Result<Load, LoadFault>
-    ensures { IfOk result (TellsLoad policy kernels.items) }
+    ensures { IfOk result (TellsLoad policy kernels.items PACKETS producers) }
 {
-    let limits = LoadLimits {
-        turns: MOST_TURNS,
-        tries: MOST_TRIES,
-    };
-    run_load_within(rt, alloc, policy, kernels, producers, limits)
+    run_load_within(rt, alloc, policy, kernels, producers, LoadLimits::in_all())
 }
 
 /// Runs the load just so, with other limits than 10,000,000 turns of each lane and as many tries of each producer.
@@ -290,17 +340,28 @@ pub fn run_load_within<R: Threads + Wait + Sync>(
     producers: u64,
     limits: LoadLimits,
 ) -> Result<Load, LoadFault>
-    ensures { IfOk result (TellsLoad policy kernels.items) }
+    ensures { IfOk result (TellsLoad policy kernels.items PACKETS producers) }
+{
+    let terms = LoadTerms {
+        producers,
+        packets: PACKETS,
+        limits,
+    };
+    run_load_watched(rt, alloc, policy, kernels, terms, &mut Unwatched)
+}
+
+/// Runs the load on these terms, and shows the entries of its history as they come.
+pub fn run_load_watched<R: Threads + Wait + Sync, W: Watch>(
+    rt: &R,
+    alloc: Global,
+    policy: Policy,
+    kernels: Vec<Kernel>,
+    terms: LoadTerms,
+    watch: &mut W,
+) -> Result<Load, LoadFault>
+    ensures { IfOk result (TellsLoad policy kernels.items terms.packets terms.producers) }
 {
     let plan = plan_load(alloc, &policy)?;
-    let ended = run_plan(
-        rt,
-        alloc,
-        policy,
-        kernels,
-        plan.as_slice(),
-        producers,
-        limits,
-    )?;
-    tell(alloc, ended, plan.as_slice())
+    let ended = run_plan(rt, alloc, policy, kernels, plan.as_slice(), terms, watch)?;
+    show_and_tell(alloc, ended, plan.as_slice(), watch)
 }

@@ -1,19 +1,22 @@
 //! The queues of a plan are opened.
 
-ghost use Rattle.std.specs.Prelude.{◌≡◌, All, IfErr, IfOk};
+ghost use Rattle.std.specs.Prelude.{◌≡◌, ◌∷◌, ◌++◌, [], All, IfErr, IfOk, List, OnOk, length};
+ghost use mathlib.Core.List.{IsPrefix};
 ghost use Rattle.client_threads.specs.Opening.{IsOpened, opening_event};
 ghost use Rattle.client_threads.specs.Running.{IsEndOf, IsLaneOf};
 ghost use Rattle.client_threads.specs.Sections.{IsSection};
 ghost use Rattle.core_model.specs.declared.outcome.Outcome.{Outcome};
 ghost use Rattle.core_model.specs.Legal.{MeetsOrLacks};
 ghost use Rattle.policy.specs.Results.{map_ok};
-ghost use Rattle.threads_load.specs.Stages.{IsStage};
+ghost use Rattle.threads_load.specs.Grantings.{HasAllAllowed};
+ghost use Rattle.threads_load.specs.Stages.{AreOf, HasQueues, IsReady, IsStage, WasLeft};
+ghost use Rattle.threads_load.specs.declared.plan.PlannedQueue.{PlannedQueue};
 
 use crate::fault::LoadFault;
 use crate::plan::PlannedQueue;
 use client_threads::{Broker, ClientEnd, Front, Lane, Opened, Room};
 use core_model::Refusal;
-use std::alloc::{AllocError, Global};
+use std::alloc::{AllocError, AllocFailed, Global};
 
 /// How many slots a queue of the load has.
 const MOST_IN_FLIGHT: u64 = 16;
@@ -72,15 +75,13 @@ fn put_lane<B: Room>(
     broker: &Broker<B>,
     lane: Lane,
     lanes: &mut Vec<Lane>,
-) -> Result<(), AllocError>
+) -> Result<(), AllocFailed<Lane>>
     requires lane { IsLaneOf B.board broker.now lane }
     requires lanes { All (λ lane. IsLaneOf B.board broker.now lane) lanes.old.items }
-    ensures { All (λ lane. IsLaneOf B.board broker.now lane) lanes.new.items }
+    ensures lanes { All (λ lane. IsLaneOf B.board broker.now lane) lanes.new.items }
+    ensures put { OnOk result (lanes.new.items ≡ lanes.old.items ++ lane ∷ []) }
 {
-    match lanes.push(lane) {
-        Ok(()) => Ok(()),
-        Err(_) => Err(AllocError),
-    }
+    lanes.push(lane)
 }
 
 // Puts the ends and the lane of a queue that was opened behind the others.
@@ -96,13 +97,17 @@ fn put_queue<B: Room>(
     requires lanes { All (λ lane. IsLaneOf B.board broker.now lane) lanes.old.items }
     ensures ends { All (λ end. IsEndOf broker.now end) ends.new.items }
     ensures lanes { All (λ lane. IsLaneOf B.board broker.now lane) lanes.new.items }
+    ensures put { OnOk result (lanes.new.items ≡ lanes.old.items ++ opened.2 ∷ []) }
 {
     let (_, more, lane) = opened;
     put_ends(broker, more, ends)?;
-    put_lane(broker, lane, lanes)
+    match put_lane(broker, lane, lanes) {
+        Ok(()) => Ok(()),
+        Err(_) => Err(AllocError),
+    }
 }
 
-// Opens a planned queue, and puts its ends and its lane behind the others.
+// Opens a planned queue, and puts its ends and its lane behind the others. It has the number of its place in the plan.
 #[tactic(auto, using(crate::proofs::Belonging::new_ends, crate::proofs::Belonging::new_lane, crate::proofs::Belonging::kept_ends, crate::proofs::Belonging::kept_lanes))]
 fn open_next<B: Room>(
     alloc: Global,
@@ -117,15 +122,24 @@ fn open_next<B: Room>(
     requires ends { All (λ end. IsEndOf broker.old end) ends.old.items }
     requires lanes { All (λ lane. IsLaneOf B.board broker.old lane) lanes.old.items }
     ensures front { front.new.board ≡ B.board }
-    ensures ends { All (λ end. IsEndOf broker.new end) ends.new.items }
-    ensures lanes { All (λ lane. IsLaneOf B.board broker.new lane) lanes.new.items }
+    ensures begins { IsPrefix front.old.left front.new.left }
+    ensures ends { OnOk result (All (λ end. IsEndOf broker.new end) ends.new.items) }
+    ensures lanes { OnOk result (All (λ lane. IsLaneOf B.board broker.new lane) lanes.new.items) }
+    ensures queues { (before : List PlannedQueue) → WasLeft front.old.left (λ left. HasQueues left before) → AreOf (length before) lanes.old.items
+        → OnOk result (WasLeft front.new.left (λ left. HasQueues left (before ++ planned ∷ [])) × AreOf (length (before ++ planned ∷ [])) lanes.new.items) }
 {
+    let number = lanes.len() as u64 + 1;
     match open_queue(alloc, broker, front, planned, producers) {
         Err(why) => Err(LoadFault::from(why)),
-        Ok(opened) => match put_queue(broker, opened, ends, lanes) {
-            Err(want) => Err(LoadFault::from(want)),
-            Ok(()) => Ok(()),
-        },
+        Ok(opened) => {
+            if opened.0.0 != number {
+                return Err(LoadFault::OtherQueue);
+            }
+            match put_queue(broker, opened, ends, lanes) {
+                Err(want) => Err(LoadFault::from(want)),
+                Ok(()) => Ok(()),
+            }
+        }
     }
 }
 
@@ -143,8 +157,11 @@ fn open_queues<B: Room>(
     requires ends { All (λ end. IsEndOf broker.old end) ends.old.items }
     requires lanes { All (λ lane. IsLaneOf B.board broker.old lane) lanes.old.items }
     ensures front { front.new.board ≡ B.board }
-    ensures ends { All (λ end. IsEndOf broker.new end) ends.new.items }
-    ensures lanes { All (λ lane. IsLaneOf B.board broker.new lane) lanes.new.items }
+    ensures begins { IsPrefix front.old.left front.new.left }
+    ensures ends { OnOk result (All (λ end. IsEndOf broker.new end) ends.new.items) }
+    ensures lanes { OnOk result (All (λ lane. IsLaneOf B.board broker.new lane) lanes.new.items) }
+    ensures queues { WasLeft front.old.left (λ left. HasQueues left []) → AreOf 0 lanes.old.items
+        → OnOk result (WasLeft front.new.left (λ left. HasQueues left plan.now) × AreOf (length plan.now) lanes.new.items) }
 {
     for planned in plan {
         open_next(alloc, broker, front, *planned, producers, ends, lanes)?;
@@ -152,7 +169,9 @@ fn open_queues<B: Room>(
     Ok(())
 }
 
-/// Opens the queues of a plan over a broker, of whose core a front has seen some, each for so many producers.
+/// Opens the queues of a plan over a broker, of whose core a front has seen some, each for so many producers. Where all
+/// that is allowed was granted, the stage is ready: its lanes are just those of the plan's queues, each opened by its
+/// client on its agent, in order.
 pub fn open_stage<B: Room>(
     alloc: Global,
     broker: Broker<B>,
@@ -161,7 +180,8 @@ pub fn open_stage<B: Room>(
     producers: u64,
 ) -> Result<Stage<B>, LoadFault>
     requires { front.board ≡ B.board }
-    ensures { IfOk result (IsStage B.board) }
+    ensures stage { IfOk result (IsStage B.board) }
+    ensures ready { WasLeft front.left (λ left. HasAllAllowed left.history) → IfOk result (IsReady plan.now) }
 {
     let mut broker = broker;
     let mut front = front;

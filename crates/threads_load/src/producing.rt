@@ -8,6 +8,7 @@ ghost use Rattle.client_threads.specs.Running.{IsEndOf};
 ghost use Rattle.threads_load.specs.Additions.{addition};
 ghost use Rattle.threads_load.specs.Stages.{StaysOf};
 
+use crate::gate::LoadGate;
 use crate::plan::PlannedQueue;
 use aql_packet::{
     Address, AgentDispatch, Header, Packet, QueueId, REGION_SPAN, RegionHandle, Scope,
@@ -18,17 +19,13 @@ use core_model::ADD64;
 use ring::{Publication, Ticket};
 use std::thread;
 
-/// How many packets a producer of the load publishes.
-pub const PACKETS: u64 = 8;
-
-/// How often a producer tries again at the most, over all of its packets.
-pub const MOST_TRIES: u64 = 10_000_000;
-
-/// What each producer does: it publishes so many packets, and tries again so often at the most, over all of them.
+/// What each producer does: it publishes so many packets, and tries again so often at the most, over all of them or, if
+/// the tries are counted anew, for each.
 #[derive(Clone, Copy)]
 pub struct Share {
     pub packets: u64,
     pub tries: u64,
+    pub are_renewed: bool,
 }
 
 /// The bytes of a packet of the load: it adds 1 to the number at a region's start, its result goes nowhere, and it
@@ -50,6 +47,16 @@ pub fn addition(region: RegionHandle) -> [u8; 64]
     }))
 }
 
+// Whether a producer tries again: it has tries left, and the load wasn't stopped.
+fn tries_again(gate: &LoadGate, tries_left: &mut u64) -> bool {
+    if *tries_left == 0 || gate.is_stopped() {
+        return false;
+    }
+    *tries_left -= 1;
+    thread::yield_now();
+    true
+}
+
 // Publishes a packet under a ticket, trying again while its slot is busy and tries are left. Answers whether it was
 // published.
 fn publish_under<B: Room>(
@@ -57,6 +64,7 @@ fn publish_under<B: Room>(
     end: &mut ClientEnd,
     ticket: Ticket,
     bytes: &[u8; 64],
+    gate: &LoadGate,
     tries_left: &mut u64,
 ) -> bool
     requires end { IsEndOf broker.now end.old }
@@ -70,11 +78,9 @@ fn publish_under<B: Room>(
             Publication::NotPublishable(_) => return false,
             Publication::SlotBusy(back, _) => ticket = back,
         }
-        if *tries_left == 0 {
+        if !tries_again(gate, tries_left) {
             return false;
         }
-        *tries_left -= 1;
-        thread::yield_now();
     }
     false
 }
@@ -84,25 +90,35 @@ fn publish_one<B: Room>(
     broker: &Broker<B>,
     end: &mut ClientEnd,
     bytes: &[u8; 64],
+    gate: &LoadGate,
     tries_left: &mut u64,
 ) -> bool
     requires { IsEndOf broker.now end.old }
     ensures { IsEndOf broker.now end.new }
 {
     match end.reserve(broker) {
-        Ok(ticket) => publish_under(broker, end, ticket, bytes, tries_left),
+        Ok(ticket) => publish_under(broker, end, ticket, bytes, gate, tries_left),
         Err(_) => false,
     }
 }
 
 // Publishes a producer's packets, until it gives up.
-fn publish_all<B: Room>(broker: &Broker<B>, end: &mut ClientEnd, bytes: &[u8; 64], share: Share)
+fn publish_all<B: Room>(
+    broker: &Broker<B>,
+    end: &mut ClientEnd,
+    bytes: &[u8; 64],
+    share: Share,
+    gate: &LoadGate,
+)
     requires { IsEndOf broker.now end.old }
     ensures { IsEndOf broker.now end.new }
 {
     let mut tries_left = share.tries;
     for _packet in 0..share.packets {
-        if !publish_one(broker, end, bytes, &mut tries_left) {
+        if share.are_renewed {
+            tries_left = share.tries;
+        }
+        if !publish_one(broker, end, bytes, gate, &mut tries_left) {
             return;
         }
     }
@@ -114,17 +130,18 @@ fn planned_of(plan: &[PlannedQueue], queue: QueueId) -> Option<PlannedQueue> {
     plan.get(before).copied()
 }
 
-/// Publishes a producer's packets on the queue of its end, until it gives up.
+/// Publishes a producer's packets on the queue of its end, until it gives up, or its gate is stopped.
 pub fn produce<B: Room>(
     broker: &Broker<B>,
     plan: &[PlannedQueue],
     share: Share,
+    gate: &LoadGate,
     end: &mut ClientEnd,
 )
     requires { IsEndOf broker.now end.old }
     ensures { StaysOf broker.now end.old end.new }
 {
     if let Some(planned) = planned_of(plan, end.queue()) {
-        publish_all(broker, end, &addition(planned.region), share);
+        publish_all(broker, end, &addition(planned.region), share, gate);
     }
 }

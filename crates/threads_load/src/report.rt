@@ -2,6 +2,7 @@
 
 ghost use Rattle.std.specs.Prelude.{◌≡◌, ◌++◌, IfOk, OnOk, string_bytes, length};
 ghost use Rattle.core_model.specs.History.{beginning};
+ghost use Rattle.core_model.specs.Rotation.{entries_in};
 ghost use Rattle.std.specs.Option.{option_copied};
 ghost use Rattle.threads_load.specs.Reports.{counted_bytes, text_of_counts, text_of_ending, text_of_names, text_of_queue, text_of_queues, text_of_region, text_of_regions, text_of_report, text_of_used, user_of};
 
@@ -9,7 +10,7 @@ use crate::counting::{PacketCounts, count_all};
 use crate::plan::{COUNTED_BYTES, PlannedQueue};
 use access_core::AccessCore;
 use aql_packet::{Address, ClientId, PacketId, QueueId, REGION_SPAN, RegionHandle};
-use core_model::{Entry, Refusal};
+use core_model::{Part, Refusal};
 use policy::{Kind, Object, Policy};
 use sequences::Sequence;
 use std::alloc::{AllocError, Global};
@@ -18,9 +19,10 @@ use words::{client_name, object_name, write_bytes};
 /// How a load ended.
 #[derive(Clone, Copy, Debug, PartialEq, Eq)]
 pub enum Ending {
-    /// Of each queue the core took what its lane served, and no lane met its turns.
+    /// Of each queue the core took what its lane served, and all packets that its producers publish are finished.
     Settled,
-    /// Of each queue the core took what its lane served, and a lane met its turns.
+    /// Of each queue the core took what its lane served, and of some not all of these are finished: its lane met its
+    /// turns.
     Unsettled,
     /// They differ: this is the least queue and the least id at which.
     Mismatch { queue: QueueId, packet: PacketId },
@@ -56,30 +58,31 @@ fn write_counts(counts: PacketCounts, out: &mut String) -> Result<(), AllocError
 
 // Writes a queue's line.
 fn write_queue(
-    handed_out: &[Entry],
+    parts: &[Part],
     core: &AccessCore,
     queue: QueueId,
     planned: PlannedQueue,
     out: &mut String,
 ) -> Result<(), AllocError>
-    ensures { OnOk result (string_bytes out.new ≡ string_bytes out.old ++ text_of_queue (beginning core.now.history) (handed_out.now ++ core.now.history.entries) queue.0 planned) }
+    ensures { OnOk result (string_bytes out.new ≡ string_bytes out.old ++ text_of_queue (beginning core.now.history) (entries_in parts.now ++ core.now.history.entries) queue.0 planned) }
 {
+    let counts = count_all(parts, core.audit(), queue)?;
     write_names(core.policy(), queue, planned, out)?;
-    write_counts(count_all(handed_out, core.audit(), queue), out)
+    write_counts(counts, out)
 }
 
 // Writes the lines of all queues, which are numbered from 1 in the order of the plan.
 fn write_queues(
-    handed_out: &[Entry],
+    parts: &[Part],
     core: &AccessCore,
     plan: &[PlannedQueue],
     out: &mut String,
 ) -> Result<(), AllocError>
-    ensures { OnOk result (string_bytes out.new ≡ string_bytes out.old ++ text_of_queues (beginning core.now.history) (handed_out.now ++ core.now.history.entries) 1 plan.now) }
+    ensures { OnOk result (string_bytes out.new ≡ string_bytes out.old ++ text_of_queues (beginning core.now.history) (entries_in parts.now ++ core.now.history.entries) 1 plan.now) }
 {
     let mut number = 1;
     for planned in plan {
-        write_queue(handed_out, core, QueueId(number), *planned, out)?;
+        write_queue(parts, core, QueueId(number), *planned, out)?;
         number += 1;
     }
     Ok(())
@@ -175,33 +178,33 @@ fn write_ending(ending: Ending, out: &mut String) -> Result<(), AllocError>
 // Writes all lines.
 fn write_lines(
     alloc: Global,
-    handed_out: &[Entry],
+    parts: &[Part],
     core: &AccessCore,
     plan: &[PlannedQueue],
     ending: Ending,
     out: &mut String,
 ) -> Result<(), Refusal>
-    ensures { OnOk result (string_bytes out.new ≡ string_bytes out.old ++ text_of_report (beginning core.now.history) handed_out.now core.now.history.entries plan.now ending) }
+    ensures { OnOk result (string_bytes out.new ≡ string_bytes out.old ++ text_of_report (beginning core.now.history) (entries_in parts.now) core.now.history.entries plan.now ending) }
 {
-    write_queues(handed_out, core, plan, out)?;
+    write_queues(parts, core, plan, out)?;
     write_regions(alloc, core, plan, out)?;
     write_ending(ending, out)?;
     Ok(())
 }
 
-/// The report of a load, from the entries that were handed out of its core's audit and the core that it left: a line for each queue of the plan, with how many of its packets
-/// were launched, finished and denied; a line for each region that is counted in, with its first eight bytes; and how
-/// the load ended.
+/// The report of a load, from the parts that were handed out of its core's audit and the core that it left: a line for
+/// each queue of the plan, with how many of its packets were launched, finished and denied; a line for each region that
+/// is counted in, with its first eight bytes; and how the load ended.
 pub fn report_load(
     alloc: Global,
-    handed_out: &[Entry],
+    parts: &[Part],
     core: &AccessCore,
     plan: &[PlannedQueue],
     ending: Ending,
 ) -> Result<String, Refusal>
-    ensures { IfOk result (λ text. string_bytes text ≡ text_of_report (beginning core.now.history) handed_out.now core.now.history.entries plan.now ending) }
+    ensures { IfOk result (λ text. string_bytes text ≡ text_of_report (beginning core.now.history) (entries_in parts.now) core.now.history.entries plan.now ending) }
 {
     let mut text = String::new(alloc);
-    write_lines(alloc, handed_out, core, plan, ending, &mut text)?;
+    write_lines(alloc, parts, core, plan, ending, &mut text)?;
     Ok(text)
 }

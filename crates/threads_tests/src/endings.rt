@@ -17,7 +17,7 @@ use std::alloc::Global;
 use std::marker::Brand;
 use std::sync::Wait;
 use std::thread::Threads;
-use threads_load::{PlannedQueue, Share, Stage, produce};
+use threads_load::{LoadGate, PlannedQueue, Share, Stage, produce};
 
 /// The plan of the first queue.
 const FIRST_PLANNED: [PlannedQueue; 1] = [PlannedQueue {
@@ -30,6 +30,7 @@ const FIRST_PLANNED: [PlannedQueue; 1] = [PlannedQueue {
 const TOO_MANY: Share = Share {
     packets: 20,
     tries: 3,
+    are_renewed: false,
 };
 
 /// Ends each lane behind so many turns.
@@ -112,21 +113,21 @@ fn ended_early<R: Threads + Wait + Sync>(rt: &R, alloc: Global) -> Option<(usize
 }
 
 // Publishes more packets of an end than its queue has slots.
-fn produce_too_many<B: Room>(broker: &Broker<B>, end: &mut ClientEnd)
+fn produce_too_many<B: Room>(broker: &Broker<B>, gate: &LoadGate, end: &mut ClientEnd)
     requires { IsEndOf broker.now end.old }
     ensures { IsEndOf broker.now end.new }
 {
-    produce(broker, &FIRST_PLANNED, TOO_MANY, end);
+    produce(broker, &FIRST_PLANNED, TOO_MANY, gate, end);
 }
 
 // Publishes more packets of the last end of a stage than its queue has slots.
-fn with_too_many<B: Room>(stage: Stage<B>) -> Option<Stage<B>>
+fn with_too_many<B: Room>(stage: Stage<B>, gate: &LoadGate) -> Option<Stage<B>>
     requires { IsStage B.board stage }
     ensures { IfSome result (IsStage B.board) }
 {
     let (stage, end) = split_last_end(stage)?;
     let mut end = end;
-    produce_too_many(&stage.broker, &mut end);
+    produce_too_many(&stage.broker, gate, &mut end);
     with_end(stage, end)
 }
 
@@ -134,7 +135,8 @@ fn with_too_many<B: Room>(stage: Stage<B>) -> Option<Stage<B>>
 fn named_given_up<B: Room>(alloc: Global, unnamed: UnnamedBroker) -> Option<(u64, u64)>
     requires { (unnamed.board ≡ B.board) × (unnamed.core ≡ B.opened) }
 {
-    let stage = with_too_many(stage::<B>(alloc, unnamed, 1, 1)?)?;
+    let gate = LoadGate::new(alloc, 1, 20).ok()?;
+    let stage = with_too_many(stage::<B>(alloc, unnamed, 1, 1)?, &gate)?;
     settled_indices(alloc, stage)
 }
 

@@ -95,7 +95,11 @@ const REPORT: &str = "queue 1 client alice agent gpu launched 16 finished 16 den
     settled\n";
 
 /// Lanes make no turn, and producers don't try again.
-const NO_TURNS: LoadLimits = LoadLimits { turns: 0, tries: 0 };
+const NO_TURNS: LoadLimits = LoadLimits {
+    turns: 0,
+    tries: 0,
+    are_renewed: false,
+};
 
 /// What it reports where a lane may make no turn: nothing is launched, and the number stays 0.
 const UNSETTLED: &str = "queue 1 client alice agent gpu launched 0 finished 0 denied 0\n\

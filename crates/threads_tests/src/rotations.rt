@@ -10,11 +10,11 @@ use client_threads::{Room, SettleAllFault, UnnamedBroker};
 use core_model::Part;
 use std::alloc::Global;
 use std::marker::Brand;
-use std::slice;
 use std::sync::Wait;
 use std::thread::Threads;
 use threads_load::{
-    LoadGate, PlannedQueue, Share, Stage, name_broker, open_stage, plan_load, run_rotated,
+    LoadGate, PlannedQueue, Share, Stage, Unwatched, name_broker, open_stage, plan_load,
+    run_rotated,
 };
 
 /// How many packets each of two producers publishes to each of two queues.
@@ -24,6 +24,7 @@ const PACKETS: u64 = 500;
 const SHARE: Share = Share {
     packets: PACKETS,
     tries: LOOKS,
+    are_renewed: false,
 };
 
 // Runs a plan, and rotates meanwhile.
@@ -33,12 +34,12 @@ fn run_planned<B: Room + Send + Sync, R: Threads + Wait + Sync>(
     stage: Stage<B>,
     plan: &[PlannedQueue],
     gate: &LoadGate,
-) -> Option<(Stage<B>, Part)>
+) -> Option<(Stage<B>, Vec<Part>)>
     requires { IsStage B.board stage }
     ensures { IfSome result (λ run. IsStage B.board run.0) }
 {
-    match run_rotated(rt, alloc, stage, plan, SHARE, gate) {
-        (stage, Ok(part)) => Some((stage, part)),
+    match run_rotated(rt, alloc, stage, plan, SHARE, gate, &mut Unwatched) {
+        (stage, Ok(parts)) => Some((stage, parts)),
         (_, Err(_)) => None,
     }
 }
@@ -48,7 +49,7 @@ fn run_two_queues<B: Room + Send + Sync, R: Threads + Wait + Sync>(
     rt: &R,
     alloc: Global,
     unnamed: UnnamedBroker,
-) -> Option<(Stage<B>, Part)>
+) -> Option<(Stage<B>, Vec<Part>)>
     requires { (unnamed.board ≡ B.board) × (unnamed.core ≡ B.opened) }
     ensures { IfSome result (λ run. IsStage B.board run.0) }
 {
@@ -63,16 +64,16 @@ fn run_two_queues<B: Room + Send + Sync, R: Threads + Wait + Sync>(
     }
 }
 
-// How many entries came behind a part that was handed out, where the broker settles with it, and without it is told
-// that it isn't next, and comes back.
-fn entries_behind<B: Room>(alloc: Global, stage: Stage<B>, part: &Part) -> Option<usize>
+// How many entries came behind the parts that were handed out, where the broker settles with them, and without them is
+// told that they aren't next, and comes back.
+fn entries_behind<B: Room>(alloc: Global, stage: Stage<B>, parts: &[Part]) -> Option<usize>
     requires { IsStage B.board stage }
 {
     let (fault, stage) = unsettled(alloc, stage, &[])?;
     if fault != SettleAllFault::NotNext {
         return None;
     }
-    let core = settled_core(alloc, stage, slice::from_ref(part))?;
+    let core = settled_core(alloc, stage, parts)?;
     Some(core.audit().len())
 }
 
@@ -84,9 +85,9 @@ fn named_run_with_part<B: Room + Send + Sync, R: Threads + Wait + Sync>(
 ) -> Option<(bool, usize)>
     requires { (unnamed.board ≡ B.board) × (unnamed.core ≡ B.opened) }
 {
-    let (stage, part) = run_two_queues::<B, R>(rt, alloc, unnamed)?;
-    let handed_out = part.entries().len();
-    let since = entries_behind(alloc, stage, &part)?;
+    let (stage, parts) = run_two_queues::<B, R>(rt, alloc, unnamed)?;
+    let handed_out = parts.first()?.entries().len();
+    let since = entries_behind(alloc, stage, parts.as_slice())?;
     Some((11 <= handed_out, handed_out.checked_add(since)?))
 }
 

@@ -1,7 +1,7 @@
-use Rattle.std.proofs.Common.{sym, subst}
-use Rattle.std.specs.Prelude.{All}
-use Rattle.client_threads.specs.Running.{IsEndOf, IsLaneOf}
+use Rattle.std.proofs.Common.{◌≡◌, ◌+◌, ap, length, rules}
+use Rattle.client_threads.specs.Lanes.{LaneSeen}
 use Rattle.threads_load.proofs.Belonging.{kept_ends, kept_lanes, new_ends, new_lane}
+use Rattle.threads_load.proofs.Planned.{opened_next}
 use Rattle.threads_load.proofs.opening.open_next.Goals as goal
 
 pub put_queue-requires-clause-more : goal.put_queue-requires-clause-more
@@ -13,11 +13,11 @@ put_queue-requires-clause-ends g c = kept_ends _ _ _ _ _ _ _ _ c.args.ends.now.i
 pub put_queue-requires-clause-lanes : goal.put_queue-requires-clause-lanes
 put_queue-requires-clause-lanes g c = kept_lanes g.B.Room.board _ _ _ _ _ _ _ _ c.args.lanes.now.items c.in-Ok.ensures.opened c.requires.lanes
 
-pub returns-in-Err-clause-ends : goal.returns-in-Err-clause-ends
-returns-in-Err-clause-ends g c = subst (λ rings. All (λ end. IsEndOf rings end) c.args.ends.now.items) (sym c.in-Err.ensures.refused) c.requires.ends
-
-pub returns-in-Err-clause-lanes : goal.returns-in-Err-clause-lanes
-returns-in-Err-clause-lanes g c = subst (λ rings. All (λ lane. IsLaneOf g.B.Room.board rings lane) c.args.lanes.now.items) (sym c.in-Err.ensures.refused) c.requires.lanes
-
 pub put_queue-requires-clause-lane : goal.put_queue-requires-clause-lane
 put_queue-requires-clause-lane g c = new_lane g.B.Room.board _ _ _ _ _ _ _ _ c.in-Ok.ensures.opened c.in-Ok.ensures.front
+
+pub returns-in-Ok-put_queue-clause-queues : goal.returns-in-Ok-put_queue-clause-queues
+returns-in-Ok-put_queue-clause-queues g c = λ before w are.
+    let number : c.in-Ok.opened.0.0 ≡ length c.args.lanes.now.items + 1 = search rules in
+    opened_next g.B.Room.opened c.args.front.now.left c.open_queue.new.front.left c.args.planned _ c.args.producers c.in-Ok.opened.0 before c.args.lanes.now.items c.put_queue.new.lanes.items c.in-Ok.opened.2
+    c.in-Ok.ensures.section number (ap (λ (l : LaneSeen). l.queue) c.in-Ok.ensures.opened.lane_is) c.in-Ok-put_queue.ensures.put w are

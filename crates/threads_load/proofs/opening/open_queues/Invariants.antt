@@ -1,8 +1,14 @@
-use Rattle.std.proofs.Common.{◌≡◌}
+-- The ends and the lanes of the queues so far are of the broker, and these are the first of the plan.
+use Rattle.std.proofs.Common.{◌≡◌, [], take, length}
 use Rattle.std.specs.Prelude.{All}
+use mathlib.Core.List.{IsPrefix}
 use Rattle.client_threads.specs.Running.{IsEndOf, IsLaneOf}
+use Rattle.threads_load.specs.Stages.{AreOf, HasQueues, WasLeft}
 use Rattle.threads_load.proofs.opening.open_queues.Given as goal
 
 abbrev pub invariant-loop-planned : goal.invariant-loop-planned
 invariant-loop-planned g l =
     (l.front.board ≡ g.B.Room.board) × All (λ end. IsEndOf l.broker end) l.ends.items × All (λ lane. IsLaneOf g.B.Room.board l.broker lane) l.lanes.items
+    × IsPrefix l.initial.front.left l.front.left
+    × (WasLeft l.initial.front.left (λ left. HasQueues left []) → AreOf 0 l.initial.lanes.items
+    → WasLeft l.front.left (λ left. HasQueues left (take l.planned-index l.plan)) × AreOf (length (take l.planned-index l.plan)) l.lanes.items)
