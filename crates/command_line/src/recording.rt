@@ -79,9 +79,10 @@ impl<'a, J: io::Write> Recorder<'a, J> {
         if !self.manner.explains {
             return;
         }
-        let told = retold(self.alloc, world, self.number_of(number), self.asked, reply);
-        if let Ok(told) = told {
-            self.told = told;
+        let line = self.number_of(number);
+        let told = retold(self.alloc, &mut self.told, world, line, self.asked, reply);
+        if told.is_err() {
+            self.told.clear();
         }
     }
 
