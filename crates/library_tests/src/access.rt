@@ -408,3 +408,42 @@ fn a_dispatch_runs_group_by_group(rt: HostRuntime) -> Result<(), Fail> {
     assert!(rt; runs_group_by_group(rt.alloc(), fresh(rt.alloc())?));
     Ok(())
 }
+
+/// A region as long as the longest write.
+const LONG: &str = r#"
+client = [{ name = "nora" }]
+agent = [{ name = "mixer", takes = ["agent"] }]
+region = [{ name = "tape", length = 65536 }]
+allow = [{ client = "nora", kind = "region", object = "tape", rights = ["READ", "WRITE"] }]
+"#;
+
+fn long_bytes(alloc: Global, count: usize) -> Option<Sequence<u8>> {
+    let bytes = vec![in alloc; 7u8; count].ok()?;
+    Some(Sequence::from_vec(bytes))
+}
+
+fn written_long(alloc: Global, core: &mut AccessCore, bytes: Sequence<u8>) -> Result<(), Refusal> {
+    core.host_write(alloc, NORA, Address(0x1_0000_0000), bytes)
+}
+
+/// Nora writes so many bytes from the tape's first address on.
+fn writes_long(alloc: Global, core: &mut AccessCore, count: usize) -> Result<(), Refusal> {
+    match long_bytes(alloc, count) {
+        Some(bytes) => written_long(alloc, core, bytes),
+        None => Err(Refusal::OutOfMemory),
+    }
+}
+
+fn writes_the_longest(alloc: Global, mut core: AccessCore) -> bool {
+    grants(&mut core, Object::Region(TAPE), Rights::WRITE)
+        && writes_long(alloc, &mut core, 65_537) == Err(Refusal::BadSize)
+        && writes_long(alloc, &mut core, 65_536) == Ok(())
+}
+
+// (a line of a script has no room for it)
+#[test]
+fn a_write_has_65536_bytes_at_the_most(rt: HostRuntime) -> Result<(), Fail> {
+    let alloc = rt.alloc();
+    assert!(rt; writes_the_longest(alloc, core_over(alloc, LONG, Vec::new(alloc))?));
+    Ok(())
+}
