@@ -1,4 +1,6 @@
 mod AsBox
+mod Numbers
 mod Reading
 mod Records
+mod Refusing
 mod Rows

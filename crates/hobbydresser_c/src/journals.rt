@@ -112,6 +112,9 @@ fn entry_after(core: &AccessCore, number: u64) -> Option<&Entry>
     ensures entry { option_copied result ≡ entry_numbered core.now.history (number + 1) }
     ensures small { IfSome result (λ _. number + 1 < 2 ^ 64) }
 {
+    // (how many entries there may be is known by these two)
+    let _ = core.entries_before();
+    let _ = core.audit();
     if number == u64::MAX {
         return None;
     }
