@@ -15,7 +15,7 @@ import sys
 import tempfile
 
 import commands
-from trial import SAMPLE, Trials, blocks, library_of, run, text
+from trial import SAMPLE, Ended, Trials, blocks, library_of, run, text
 
 WANT = "refused 0 OutOfMemory"
 # what takes no memory, and so isn't refused for want of it
@@ -111,6 +111,9 @@ class TextTrial:
         # (threads that were begun may have what they need, or try again and again in vain, up to 10,000,000 times)
         seconds = 600 if self.row.form == "threads" else 60
         ended = self.memory.run(self.row.words, self.given, at, True, seconds=seconds)
+        if self.row.form == "strict" and "--journal" in self.row.words and ended.out.endswith(f"{WANT}\n".encode()) and (ended.status, ended.err) == (3, NO_MEMORY):
+            # (a line was refused, and the journal's last line wanted memory, too)
+            return self.is_refused(Ended(1, ended.out, b""))
         is_over = self.row.form == "threads" and ended == self.whole
         return None if is_over or self.is_unsettled(ended) else starves(ended, self.whole)
 
@@ -171,10 +174,13 @@ class ScriptTrial:
 
     def from_then_on(self, number):
         """The replies are as with memory up to the first line that is refused for want of it. A reply needs none, once there
-        was room for one of its length: so the run goes on, and ends where a line's words or its reply want memory."""
+        was room for one of its length: so the run goes on, and ends where a line's words or its reply want memory; behind the
+        last reply, where a journal's last line does."""
         ended = self.memory.run(self.words, text(self.lines), number, True)
         replies = blocks(self.asked, ended.out)
-        if replies is None or (ended.status, ended.err) not in ((0, b""), (3, NO_MEMORY)) or (ended.status == 0) != (len(replies) == len(self.asked)):
+        is_over = replies is not None and len(replies) == len(self.asked)
+        ends_well = (ended.status == 0) == is_over or is_over and "--journal" in self.words
+        if replies is None or (ended.status, ended.err) not in ((0, b""), (3, NO_MEMORY)) or not ends_well:
             return f"it ended otherwise: {ended}"
         at = next((at for at, pair in enumerate(zip(replies, self.replies)) if pair[0] != pair[1]), len(replies))
         if at < len(replies) and replies[at] != WANT:
