@@ -20,7 +20,7 @@ import sys
 import tempfile
 
 import commands
-from trial import SAMPLE, Trials, blocks, library_of, run, text
+from trial import SAMPLE, Ended, Trials, blocks, library_of, run, text
 
 WANT = "refused 0 OutOfMemory"
 NO_MEMORY = b"no memory\n"
@@ -120,6 +120,9 @@ class TextTrial:
         # (threads that were begun may have what they need, or try again and again in vain, up to 10,000,000 times)
         seconds = 600 if self.row.form == "threads" else 60
         ended = self.memory.run(self.row.words, self.given, at, True, seconds=seconds)
+        if self.row.form == "strict" and "--journal" in self.row.words and ended.out.endswith(f"{WANT}\n".encode()) and (ended.status, ended.err) == (3, NO_MEMORY):
+            # (a line was refused, and the journal's last line wanted memory, too)
+            return self.is_refused(Ended(1, ended.out, b""))
         is_over = self.row.form == "threads" and ended == self.whole
         return None if is_over or self.is_unsettled(ended) else starves(ended, self.whole)
 
@@ -189,7 +192,7 @@ class ScriptTrial:
 
     def from_then_on(self, number):
         """A reply needs no memory, once there was room for one of its length: so the run goes on, and ends where a line's words
-        or its reply want memory."""
+        or its reply want memory; after the last reply, where a journal's last line does."""
         return self.goes_on(self.memory.run(self.words, text(self.asked), number, True))
 
     def for_a_while(self, number):
@@ -200,7 +203,9 @@ class ScriptTrial:
         """What is wrong with a run of which several requests were refused."""
         self.found["as ever" if ended == self.whole else "ended" if ended.status else "refused"] += 1
         replies = blocks(self.asked, ended.out)
-        if replies is None or (ended.status, ended.err) not in ((0, b""), (3, NO_MEMORY)) or (ended.status == 0) != (len(replies) == len(self.asked)):
+        is_over = replies is not None and len(replies) == len(self.asked)
+        ends_well = (ended.status == 0) == is_over or is_over and "--journal" in self.words
+        if replies is None or (ended.status, ended.err) not in ((0, b""), (3, NO_MEMORY)) or not ends_well:
             return f"it ended otherwise: {ended}"
         at = next((at for at, reply in enumerate(replies) if reply == WANT), None)
         if at is not None and not may_want(self.asked[at], self.replies[at]):
