@@ -186,12 +186,25 @@ impl LoadGate {
     }
 }
 
-// Whether a lane did nothing in a turn.
-fn is_idle(done: LaneAnswer) -> bool {
-    match (done.served, done.advanced) {
-        (ServeAnswer::Empty, Advanced::Idle) => true,
+// Whether the core took a packet.
+fn is_served(answer: ServeAnswer) -> bool {
+    match answer {
+        ServeAnswer::Launched(_) | ServeAnswer::Denied(_) => true,
         _ => false,
     }
+}
+
+// Whether a packet got on.
+fn is_advanced(answer: Advanced) -> bool {
+    match answer {
+        Advanced::Idle | Advanced::Refused(_, _) => false,
+        _ => true,
+    }
+}
+
+// Whether a lane did nothing in a turn: nothing was there, or all was refused, as by a full audit.
+fn is_idle(done: LaneAnswer) -> bool {
+    !is_served(done.served) && !is_advanced(done.advanced)
 }
 
 impl Gate for LoadGate {

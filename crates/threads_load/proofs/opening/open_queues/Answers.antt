@@ -10,16 +10,16 @@ loop-planned-preserved g c = (
   c.in_ok-open_next.ensures.ends,
   c.in_ok-open_next.ensures.lanes,
   prefix_trans c.args.front.now.left c.loop-planned.front.left c.open_next.new.front.left c.loop-planned.invariant.3 c.open_next.ensures.begins,
-  λ none no.
+  λ queues lanes.
       let before = take c.loop-planned.planned-index c.args.plan.now in
-      let so_far = c.loop-planned.invariant.4 none no in
+      let so_far = c.loop-planned.invariant.4 queues lanes in
       let more : before ++ slice_index c.args.plan.now c.loop-planned.planned-index ∷ [] ≡ take (c.loop-planned.planned-index + 1) c.args.plan.now = search rules in
       subst (λ (ps : List PlannedQueue). WasLeft c.open_next.new.front.left (λ left. HasQueues left ps) × AreOf (length ps) c.open_next.new.lanes.items) more
       (c.in_ok-open_next.ensures.queues before so_far.0 so_far.1),
 )
 
 pub returns-clause-queues : goal.returns-clause-queues
-returns-clause-queues g c = λ none no.
+returns-clause-queues g c = λ queues lanes.
     let whole : take c.loop-planned.planned-index c.args.plan.now ≡ c.args.plan.now = search rules in
     subst (λ (ps : List PlannedQueue). WasLeft c.loop-planned.front.left (λ left. HasQueues left ps) × AreOf (length ps) c.loop-planned.lanes.items) whole
-    (c.loop-planned.invariant.4 none no)
+    (c.loop-planned.invariant.4 queues lanes)
