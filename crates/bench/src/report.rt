@@ -208,9 +208,9 @@ fn least_of(one: Replayed, other: Replayed) -> Replayed {
     }
 }
 
-// How many hundredths the replay took of what the core did.
-fn hundredths(least: Replayed) -> u128 {
-    least.replayed.as_nanos() * 100 / least.made.as_nanos().max(1)
+// How many tenths the replay took of what the core did.
+fn tenths(least: Replayed) -> u128 {
+    least.replayed.as_nanos() * 10 / least.made.as_nanos().max(1)
 }
 
 /// Measures the replay of a journal of so many packets, beside what the core took that made its history.
@@ -226,9 +226,9 @@ pub fn measure_replay<R: Print + Eprint + Clock + AllocGlobal>(
     let entries = least.entries;
     let (made, made_tenth) = each(entries, least.made);
     let (told, told_tenth) = each(entries, least.replayed);
-    let (times, rest) = (hundredths(least) / 100, hundredths(least) % 100);
+    let (times, tenth) = (tenths(least) / 10, tenths(least) % 10);
     println!(rt; "replay: {entries} entries, all legal")?;
     eprintln!(rt; "core: {made}.{made_tenth} ns an entry")?;
-    eprintln!(rt; "replay: {told}.{told_tenth} ns an entry, {times}.{rest:02} times the core")?;
+    eprintln!(rt; "replay: {told}.{told_tenth} ns an entry, {times}.{tenth} times the core")?;
     Ok(())
 }
