@@ -4,8 +4,8 @@ use crate::help::further_help;
 use crate::listing::ListForm;
 use crate::syntax::{
     ALWAYS, ASSEMBLE, AUDIT, CHECK, COMMANDS, DECODE, DIGITS, EXPLAIN, FILE, FROM, HELP, JOURNAL,
-    JSON, KERNEL, LIST, MOST_NEXT, NEXT, PACKETS, PICTURE, POLICY, PRODUCERS, READABLE, REPLAY, RUN,
-    SLOTS, STATE, STRICT, THREADS, TO, WORD, program,
+    JSON, KERNEL, LIST, MOST_NEXT, NEXT, PACKETS, PICTURE, POLICY, PRODUCERS, READABLE, REPLAY,
+    RUN, SLOTS, STATE, STRICT, THREADS, TO, WORD, program,
 };
 use clap::error::ErrorKind;
 use clap::{ArgMatches, Error};
