@@ -23,7 +23,10 @@ pub both_counts : {E : Type 0} (queue : ℕ) (before entries : List Entry) (coun
     → IfOk result (λ sum. IsSum sum counts more) → IfOk result (λ sum. sum ≡ packet_counts (before ++ entries) queue)
 both_counts queue before entries counts more (Err why) one other is = tt
 both_counts queue before entries counts more (Ok sum) one other is =
+    let launched : counts.launched + more.launched ≡ count_by (is_launch queue) before + count_by (is_launch queue) entries = λ i. (one i).launched + (other i).launched in
+    let finished : counts.finished + more.finished ≡ count_by (is_completion queue) before + count_by (is_completion queue) entries = λ i. (one i).finished + (other i).finished in
+    let denied : counts.denied + more.denied ≡ count_by (is_denial queue) before + count_by (is_denial queue) entries = λ i. (one i).denied + (other i).denied in
     same_counts sum (packet_counts (before ++ entries) queue)
-    (is.0 ∙ ((λ i. (one i).launched + (other i).launched) ∙ in_both (is_launch queue) before entries))
-    (is.1 ∙ ((λ i. (one i).finished + (other i).finished) ∙ in_both (is_completion queue) before entries))
-    (is.2 ∙ ((λ i. (one i).denied + (other i).denied) ∙ in_both (is_denial queue) before entries))
+    (is.0 ∙ launched ∙ in_both (is_launch queue) before entries)
+    (is.1 ∙ finished ∙ in_both (is_completion queue) before entries)
+    (is.2 ∙ denied ∙ in_both (is_denial queue) before entries)

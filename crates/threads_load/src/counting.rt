@@ -127,7 +127,6 @@ fn sum_of(one: PacketCounts, other: PacketCounts) -> Result<PacketCounts, AllocE
 }
 
 // Counts what became of the packets of a queue in some entries, and adds it to what was counted in those before.
-#[tactic(auto, using(crate::proofs::Sums::both_counts))]
 fn count_more(
     counts: PacketCounts,
     entries: &[Entry],
@@ -193,7 +192,8 @@ pub fn are_finished(
 {
     let mut all = true;
     for before in 0..queues {
-        all &= is_finished(parts, audit, QueueId(before as u64 + 1), wanted)?;
+        let done = is_finished(parts, audit, QueueId(before as u64 + 1), wanted)?;
+        all &= done;
     }
     Ok(all)
 }

@@ -1,7 +1,8 @@
-use Rattle.std.proofs.Common.{◌≡◌, ◌+◌, ◌∷◌, ◌++◌, [], List, length, rules, slice_index, subst, sym, take}
+use Rattle.std.proofs.Common.{◌≡◌, ◌<◌, List, arith, length, rules, subst, take}
 use Rattle.client_threads.proofs.Fronts.{prefix_trans}
 use Rattle.threads_load.specs.declared.plan.PlannedQueue.{PlannedQueue}
 use Rattle.threads_load.specs.Stages.{AreOf, HasQueues, WasLeft}
+use Rattle.threads_load.proofs.Planned.{next_too}
 use Rattle.threads_load.proofs.opening.open_queues.Goals as goal
 
 pub loop-planned-preserved : goal.loop-planned-preserved
@@ -11,11 +12,11 @@ loop-planned-preserved g c = (
   c.in_ok-open_next.ensures.lanes,
   prefix_trans c.args.front.now.left c.loop-planned.front.left c.open_next.new.front.left c.loop-planned.invariant.3 c.open_next.ensures.begins,
   λ queues lanes.
-      let before = take c.loop-planned.planned-index c.args.plan.now in
       let so_far = c.loop-planned.invariant.4 queues lanes in
-      let more : before ++ slice_index c.args.plan.now c.loop-planned.planned-index ∷ [] ≡ take (c.loop-planned.planned-index + 1) c.args.plan.now = search rules in
-      subst (λ (ps : List PlannedQueue). WasLeft c.open_next.new.front.left (λ left. HasQueues left ps) × AreOf (length ps) c.open_next.new.lanes.items) more
-      (c.in_ok-open_next.ensures.queues before so_far.0 so_far.1),
+      let within : c.loop-planned.planned-index < length c.args.plan.now = omega arith in
+      next_too (λ (ps : List PlannedQueue). WasLeft c.open_next.new.front.left (λ left. HasQueues left ps) × AreOf (length ps) c.open_next.new.lanes.items)
+      c.args.plan.now c.loop-planned.planned-index _ within
+      (c.in_ok-open_next.ensures.queues (take c.loop-planned.planned-index c.args.plan.now) so_far.0 so_far.1),
 )
 
 pub returns-clause-queues : goal.returns-clause-queues
