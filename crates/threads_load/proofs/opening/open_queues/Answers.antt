@@ -1,4 +1,5 @@
-use Rattle.std.proofs.Common.{◌≡◌, ◌<◌, List, arith, length, rules, subst, take}
+use Rattle.std.proofs.Common.{◌≡◌, ◌<◌, List, arith, length, subst, take}
+use Rattle.std.proofs.lemmas.List.{take_all}
 use Rattle.client_threads.proofs.Fronts.{prefix_trans}
 use Rattle.threads_load.specs.declared.plan.PlannedQueue.{PlannedQueue}
 use Rattle.threads_load.specs.Stages.{AreOf, HasQueues, WasLeft}
@@ -21,6 +22,6 @@ loop-planned-preserved g c = (
 
 pub returns-clause-queues : goal.returns-clause-queues
 returns-clause-queues g c = λ queues lanes.
-    let whole : take c.loop-planned.planned-index c.args.plan.now ≡ c.args.plan.now = search rules in
+    let whole : take c.loop-planned.planned-index c.args.plan.now ≡ c.args.plan.now = take_all c.loop-planned.planned-index c.args.plan.now (omega arith) in
     subst (λ (ps : List PlannedQueue). WasLeft c.loop-planned.front.left (λ left. HasQueues left ps) × AreOf (length ps) c.loop-planned.lanes.items) whole
     (c.loop-planned.invariant.4 queues lanes)
