@@ -2,12 +2,13 @@
 use Rattle.std.proofs.Common.{◌≡◌, ℕ, List, [], ◌∷◌, ◌++◌, refl, ap, ◌∙◌, sym, subst, rules, append_assoc, arith}
 use lib.ListN.{take}
 use Rattle.std.proofs.Math.Seq.{take-append_seam}
-use Rattle.std.specs.Prelude.{All, slice_index_or, length, ◌<◌}
+use Rattle.std.specs.Prelude.{All, Some, slice_index_or, length, ◌<◌}
 use Rattle.std.proofs.lemmas.List.{append-nil}
 use Rattle.atomic_table.specs.Seated.{TableId}
 use Rattle.core_model.specs.declared.served.Served.{Served}
+use Rattle.ring.specs.Passes.{RingSeen}
 use Rattle.client_threads.specs.Lanes.{LaneSeen}
-use Rattle.client_threads.specs.Rings.{QueueRing, ring_of}
+use Rattle.client_threads.specs.Rings.{IsRingOf, QueueRing, ring_of}
 use Rattle.client_threads.specs.Running.{EachGoesOn, GoesOn, IsLaneOf, KeepsOn}
 use Rattle.client_threads.specs.inner.Turns.{HasSeen, Looks, StandsIn}
 
@@ -56,6 +57,17 @@ keeps_on_both board rings one two three a b = record { on = goes_on_both one two
 -- a lane that looked and then went on went on
 pub looked_then_on : (board : TableId) (rings : List QueueRing) (old mid new : LaneSeen) → Looks old mid → KeepsOn board rings mid new → KeepsOn board rings old new
 looked_then_on board rings old mid new looks b = record { on = goes_on_both old mid new (looked_on old mid looks) b.on; lane = b.lane }
+
+-- a lane that went on is on the same ring
+pub still_on : (board : TableId) (rings : List QueueRing) (ring : RingSeen) (old new : LaneSeen) → KeepsOn board rings old new → old.pass.table ≡ ring.table → new.pass.table ≡ ring.table
+still_on board rings ring old new keeps of = keeps.on.table ∙ of
+
+some_same : {X : Type 0} → (x y : X) → Some x ≡ Some y → x ≡ y
+some_same x y e = cc
+
+-- a lane of a broker is on the ring of its queue
+pub table_of : (board : TableId) (rings : List QueueRing) (lane : LaneSeen) (ring : RingSeen) → IsLaneOf board rings lane → IsRingOf rings lane.queue.0 ring → lane.pass.table ≡ ring.table
+table_of board rings lane ring h is = h.is.2 ∙ ap (λ (r : RingSeen). r.table) (some_same h.is.0 ring (sym h.is.1 ∙ is))
 
 pub at_place : (board : TableId) (rings : List QueueRing) (lanes : List LaneSeen) (i : ℕ) (lane : LaneSeen) → All (λ l. IsLaneOf board rings l) lanes → i < length lanes → lane ≡ slice_index_or lanes i lane → IsLaneOf board rings lane
 at_place board rings lanes i lane all lt is = subst (λ (l : LaneSeen). IsLaneOf board rings l) (sym is) (all i lane lt)

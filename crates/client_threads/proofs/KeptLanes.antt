@@ -9,13 +9,14 @@ use Rattle.ring.specs.declared.processor.Peeked.TheVariants as peeked
 use Rattle.ring.specs.Bytes.{words_of}
 use Rattle.ring.specs.Passes.{RingSeen, ProcessorSeen, as_processor}
 use Rattle.ring.specs.Made.{retiring}
-use Rattle.ring.specs.Showing.{HasPeeked, ProcessorGains}
+use Rattle.ring.specs.Showing.{HasPeeked, IsShownBy, ProcessorGains}
 use Rattle.core_model.specs.History.{History}
 use Rattle.core_model.specs.Legal.{MeetsOrLacks}
 use Rattle.core_model.specs.declared.outcome.Outcome.TheVariants as outcome
 use Rattle.core_model.specs.declared.outcome.Taken.{Taken}
 use Rattle.core_model.specs.declared.served.Served.{Served}
-use Rattle.client_threads.specs.Serving.{IsServed, take_of, served_of}
+use Rattle.client_threads.specs.Serving.{take_of, served_of}
+use Rattle.client_threads.specs.inner.Turns.{IsHanded}
 use Rattle.client_threads.proofs.Calls.{answered_meets}
 use Rattle.client_threads.specs.Lanes.{LaneSeen, IsLane, AreNumbered, words_served}
 
@@ -32,27 +33,27 @@ map_length [] = refl
 map_length (s ∷ ss) = ap suc (map_length ss)
 
 -- a lane whose packet was retired and is served keeps what a lane keeps
-pub served_keeps : (ring : RingSeen) (old : LaneSeen) (mid new : ProcessorSeen) (shown : Shown) (index : ℕ) (pending : List PacketId)
-    → IsLane old → HasPeeked ring old.pass (peeked.Shown shown) mid → mid.part.retired ≡ old.pass.part.retired
-    → ProcessorGains ring mid (retiring index) new → new.part.retired ≡ mid.part.retired ++ words_of shown.bytes ∷ [] → All (λ id. id.0 < length old.served + 1) pending
+pub served_keeps : (ring : RingSeen) (old : LaneSeen) (new : ProcessorSeen) (shown : Shown) (index : ℕ) (pending : List PacketId)
+    → IsLane old → IsShownBy shown old.pass
+    → ProcessorGains ring old.pass (retiring index) new → new.part.retired ≡ old.pass.part.retired ++ words_of shown.bytes ∷ [] → All (λ id. id.0 < length old.served + 1) pending
     → IsLane (record { queue = old.queue; pass = new; served = old.served ++ served_of shown ∷ []; pending = pending; front = old.front })
-served_keeps ring old mid new shown index pending kept looked leaves retired adds below =
+served_keeps ring old new shown index pending kept looked retired adds below =
     let count : length old.served ≡ length old.pass.part.retired = sym (map_length old.served) ∙ ap length kept.retired in
     let id : shown.id.0 ≡ length old.pass.part.retired = looked.1 in
     let more : length (old.served ++ served_of shown ∷ []) ≡ length old.served + 1 = length_push old.served (served_of shown) in
     record {
       few = kept.few;
       numbered = numbered_more 0 old.served (served_of shown) kept.numbered (omega (arith, id, count));
-      retired = map_more old.served (served_of shown) ∙ ap (λ ws. ws ++ words_of shown.bytes ∷ []) (kept.retired ∙ sym leaves) ∙ sym adds;
+      retired = map_more old.served (served_of shown) ∙ ap (λ ws. ws ++ words_of shown.bytes ∷ []) kept.retired ∙ sym adds;
       pending = λ k d h. omega (arith, below k d h, more);
       resting = ap (λ p. (as_processor p).raising) retired.1.1;
     }
 
-pub is_served : (ring : RingSeen) (old : LaneSeen) (before after : History) (shown : Shown) (became : Taken) (pending : List PacketId) (mid pass : ProcessorSeen)
-    → HasPeeked ring old.pass (peeked.Shown shown) mid → MeetsOrLacks (take_of old shown) before after (Ok (outcome.Taken became)) → ProcessorGains ring mid (retiring (length mid.part.retired)) pass
-    → IsServed ring old before shown became pending (record { queue = old.queue; pass = pass; served = old.served ++ served_of shown ∷ []; pending = pending; front = old.front }) after
-is_served ring old before after shown became pending mid pass looked met retired =
-    record { mid = mid; peeked = looked; taken = answered_meets (take_of old shown) before after (outcome.Taken became) met; retired = retired; lane = refl }
+pub is_handed : (ring : RingSeen) (old : LaneSeen) (before after : History) (shown : Shown) (became : Taken) (pending : List PacketId) (pass : ProcessorSeen)
+    → MeetsOrLacks (take_of old shown) before after (Ok (outcome.Taken became)) → ProcessorGains ring old.pass (retiring (length old.pass.part.retired)) pass
+    → IsHanded ring shown old before became pending (record { queue = old.queue; pass = pass; served = old.served ++ served_of shown ∷ []; pending = pending; front = old.front }) after
+is_handed ring old before after shown became pending pass met retired =
+    record { taken = answered_meets (take_of old shown) before after (outcome.Taken became) met; retired = retired; lane = refl }
 
 -- what is pending was served
 pub pending_below : (n : ℕ) (pending : List PacketId) → All (λ id. id.0 < n) pending → All (λ id. id.0 < n + 1) pending

@@ -2,6 +2,8 @@ pub mod Apart
 pub mod RingOfDesks
 pub mod KeptLanes
 pub mod Calls
+pub mod OtherTypes
+pub mod Handing
 pub mod GoingOn
 pub mod Settled
 pub mod Belonging

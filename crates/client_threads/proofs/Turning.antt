@@ -41,9 +41,9 @@ use Rattle.client_threads.specs.Boards.{PassSeen}
 use Rattle.client_threads.specs.Lanes.{LaneSeen}
 use Rattle.client_threads.specs.Running.{GoesOn}
 use Rattle.client_threads.specs.Sections.{AllFollow, Appends, IsFirst, Stand, last_of, seen_entries}
-use Rattle.client_threads.specs.Serving.{IsServed, ServesTo, served_of}
+use Rattle.client_threads.specs.Serving.{served_of}
 use Rattle.client_threads.specs.Takes.{taken_by, takes}
-use Rattle.client_threads.specs.inner.Turns.{ServesIn, StandsIn}
+use Rattle.client_threads.specs.inner.Turns.{HandsTo, IsHanded, IsKeptBack, ServesIn, StandsIn}
 use Rattle.client_threads.proofs.Differences.{takes-append}
 use Rattle.client_threads.proofs.Sections.{none_more, same_number, served_stand}
 
@@ -150,27 +150,34 @@ looked_in old new before after table lane audit = record {
   served = ap (λ l. l.served) lane ∙ sym (append-nil old.served);
 }
 
-served_in : (ring : RingSeen) (old new : LaneSeen) (before after : History) (shown : Shown) (became : Taken) (pending : List PacketId) → ((cause : WaitCause) → became ≢ taken.Waiting cause)
-    → IsServed ring old before shown became pending new after → ServesIn old before new after
-served_in ring old new before after shown became pending goes h =
+-- a lane that does nothing serves nothing
+pub stays_in : (lane : LaneSeen) (history : History) → ServesIn lane history lane history
+stays_in lane history = looked_in lane lane history history refl refl refl
+
+handed_in : (ring : RingSeen) (old new : LaneSeen) (before after : History) (shown : Shown) (became : Taken) (pending : List PacketId) → ((cause : WaitCause) → became ≢ taken.Waiting cause)
+    → IsHanded ring shown old before became pending new after → ServesIn old before new after
+handed_in ring old new before after shown became pending goes h =
     let entered = taken_enters old.queue shown.id shown.bytes before after became goes h.taken in
     let entry = entry_of (Take old.queue shown.id shown.bytes) entered.0 entered.1 in
     let took : takes (entry ∷ []) old.queue.0 ≡ served_of shown ∷ [] = takes_one (Take old.queue shown.id shown.bytes) entered.0 entered.1 old.queue.0 ∙ ap (λ o. cons_option o []) (own_take old.queue shown.id shown.bytes) in
     record {
       queue = ap (λ l. l.queue) h.lane;
-      table = h.retired.0 ∙ h.peeked.2.0;
+      table = h.retired.0;
       front = ap (λ l. l.front) h.lane;
       entries = entry ∷ [];
       history = entered.2;
       served = ap (λ l. l.served) h.lane ∙ ap (λ (xs : List Served). old.served ++ xs) (sym took);
     }
 
-pub serves_in : (ring : RingSeen) (old : LaneSeen) (before : History) (answer : ServeAnswer) (new : LaneSeen) (after : History) → ServesTo ring old before answer new after → ServesIn old before new after
-serves_in ring old before Empty new after h = looked_in old new before after h.peeked.2.0 h.lane h.audit
-serves_in ring old before (Launched id) new after h = served_in ring old new before after _ taken.Launched _ (λ cause e. absurd cc) h.2
-serves_in ring old before (Denied error) new after h = served_in ring old new before after _ (taken.Denied error) _ (λ cause e. absurd cc) h.1
-serves_in ring old before (Waiting id cause) new after h = looked_in old new before after h.peeked.2.0 h.lane h.audit
-serves_in ring old before (Refused id why) new after h = looked_in old new before after h.peeked.2.0 h.lane h.audit
+kept_in : (old new : LaneSeen) (before after : History) (shown : Shown) (reply : Result Taken Refusal) → IsKeptBack shown old before reply new after → ServesIn old before new after
+kept_in old new before after shown reply h = looked_in old new before after (ap (λ l. l.pass.table) h.lane) (h.lane ∙ ap (λ p. record old { pass = p }) (sym (ap (λ l. l.pass) h.lane))) h.audit
+
+pub hands_in : (ring : RingSeen) (shown : Shown) (old : LaneSeen) (before : History) (answer : ServeAnswer) (new : LaneSeen) (after : History) → HandsTo ring shown old before answer new after → ServesIn old before new after
+hands_in ring shown old before Empty new after h = absurd h
+hands_in ring shown old before (Launched id) new after h = handed_in ring old new before after shown taken.Launched _ (λ cause e. absurd cc) h.1
+hands_in ring shown old before (Denied error) new after h = handed_in ring old new before after shown (taken.Denied error) _ (λ cause e. absurd cc) h
+hands_in ring shown old before (Waiting id cause) new after h = kept_in old new before after shown (Ok (taken.Waiting cause)) h.1
+hands_in ring shown old before (Refused id why) new after h = kept_in old new before after shown (Err why) h.1
 
 -- ---- what a lane advanced
 

@@ -1,14 +1,14 @@
 //! A lane advances its pending packets.
 
 ghost use Rattle.std.specs.Prelude.{◌≡◌, ◌<◌, ◌++◌, ◌∷◌, [], length, if◌then◌else◌};
-ghost use Rattle.aql_packet.specs.Reading.{decoded};
+ghost use Rattle.aql_packet.specs.Reading.{decoded, packet_type};
 ghost use Rattle.core_model.specs.Legal.{MeetsOrLacks};
 ghost use Rattle.core_model.specs.declared.event.Event.{Event};
-ghost use Rattle.client_threads.specs.Advancing.{AdvancesTo, IsLastCall, is_some_barrier, leaves, next_call, served_barrier, told};
+ghost use Rattle.client_threads.specs.Advancing.{AdvancesTo, IsLastCall, has_barrier_type, is_some_barrier, leaves, next_call, served_barrier, told};
 
 use crate::lane::Lane;
 use access_core::AccessCore;
-use aql_packet::{Packet, PacketId, QueueId, decode};
+use aql_packet::{Packet, PacketId, QueueId, decode, header_in_first_word, header_of, words_of};
 use core_model::{Outcome, Polled, Refusal, Served, Worked};
 use queue_error::QueueError;
 use std::alloc::Global;
@@ -39,8 +39,7 @@ pub fn advance_one(alloc: Global, lane: &mut Lane, core: &mut AccessCore) -> Adv
         return Advanced::Idle;
     }
     let id = lane.pending.remove(0);
-    let barrier = is_barrier(lane.served.as_slice(), id);
-    let reply = call(alloc, core, lane.queue, id, barrier);
+    let reply = call(alloc, core, lane.queue, id, lane.served.as_slice());
     if !leaves(&reply) {
         lane.pending.push_reserved(id);
     }
@@ -57,10 +56,30 @@ fn is_barrier(served: &[Served], id: PacketId) -> bool
     }
 }
 
-// Whether bytes are a barrier packet's.
+// The type of a packet.
+fn type_of(bytes: &[u8; 64]) -> u8
+    ensures { result ≡ packet_type bytes.now }
+{
+    header_in_first_word();
+    header_of(words_of(bytes)[0]).kind
+}
+
+// Whether the type of a packet is that of a barrier packet.
+fn has_barrier_type(bytes: &[u8; 64]) -> bool
+    ensures { result ≡ has_barrier_type bytes.now }
+{
+    let kind = type_of(bytes);
+    kind == 3 || kind == 5
+}
+
+// Whether bytes are a barrier packet's. Those of another type aren't decoded for it.
+#[tactic(auto, using(crate::proofs::OtherTypes::other_type))]
 fn lays_out_barrier(bytes: &[u8; 64]) -> bool
     ensures { result ≡ is_some_barrier (decoded bytes.now) }
 {
+    if !has_barrier_type(bytes) {
+        return false;
+    }
     match decode(bytes) {
         Err(_) => false,
         Ok(Packet::BarrierAnd(_)) => true,
@@ -76,13 +95,16 @@ fn call(
     core: &mut AccessCore,
     queue: QueueId,
     id: PacketId,
-    barrier: bool,
+    served: &[Served],
 ) -> Result<Outcome, Refusal>
-    ensures { (event : Event) × IsLastCall core.old.history queue id barrier event result × MeetsOrLacks event core.old.history core.new.history result }
+    ensures { (event : Event) × IsLastCall core.old.history queue id (served_barrier served.now id) event result × MeetsOrLacks event core.old.history core.new.history result }
 {
     match core.finish(queue, id) {
         Ok(()) => Ok(Outcome::Accepted),
-        Err(Refusal::NotFinished) => { call_next(alloc, core, queue, id, barrier) }
+        Err(Refusal::NotFinished) => {
+            let barrier = is_barrier(served, id);
+            call_next(alloc, core, queue, id, barrier)
+        }
         Err(why) => Err(why),
     }
 }

@@ -1,12 +1,14 @@
 //! A lane: what serves a queue.
 
 ghost use Rattle.std.specs.Prelude.{◌≡◌};
+ghost use Rattle.ring.specs.Showing.{HasPeeked};
 ghost use Rattle.client_threads.specs.Lanes.{IsLane};
+ghost use Rattle.client_threads.specs.inner.Turns.{IsFoundBy, Looks};
 
 use crate::board::{Board, Front};
 use aql_packet::{PacketId, QueueId};
 use core_model::Served;
-use ring::ProcessorPass;
+use ring::{Peeked, ProcessorPass, Ring};
 use std::marker::Model;
 
 /// What serves a queue: its processor's pass, the packets that it served, which of them are launched and not done, and the
@@ -61,6 +63,16 @@ impl Lane {
         ensures { result ≡ self.now.queue.0 }
     {
         self.queue.0 as u32
+    }
+
+    // What its pass finds at the read index.
+    pub(crate) fn look(&mut self, ring: &Ring) -> Peeked
+        requires { self.old.pass.table ≡ ring.now.table }
+        ensures looks { Looks self.old self.new }
+        ensures peeked { HasPeeked ring.now self.old.pass result self.new.pass }
+        ensures found { IsFoundBy result self.new.pass }
+    {
+        self.pass.peek(ring)
     }
 
     // Another front that has seen the same.

@@ -2,14 +2,14 @@
 
 ghost use Rattle.std.specs.Prelude.{◌≡◌, ◌<◌, length, All};
 ghost use Rattle.client_threads.specs.Running.{EachGoesOn, GoesOn, IsLaneOf, KeepsOn};
-ghost use Rattle.client_threads.specs.inner.Turns.{Looks, ServesIn, StandsIn};
+ghost use Rattle.client_threads.specs.inner.Turns.{IsFoundBy, ServesIn, StandsIn};
 
 use crate::advancing::{Advanced, advance_one};
 use crate::board::Board;
 use crate::broker::Broker;
 use crate::lane::Lane;
 use crate::room::{Held, Room, leave};
-use crate::serving::{ServeAnswer, serve_one};
+use crate::serving::{ServeAnswer, serve_shown};
 use access_core::AccessCore;
 use ring::{Peeked, Ring};
 use std::alloc::Global;
@@ -36,33 +36,31 @@ pub trait Gate {
     fn leave(&self, lane: u32, turn: u64, done: LaneAnswer);
 }
 
-// Whether a lane's ring shows a packet.
-fn has_next(lane: &mut Lane, ring: &Ring) -> bool
-    requires { lane.old.pass.table ≡ ring.now.table }
-    ensures { Looks lane.old lane.new }
-{
-    match lane.pass.peek(ring) {
-        Peeked::Empty => false,
-        Peeked::Shown(_) => true,
+// Whether a lane has nothing to do: its pass found no packet, and none is pending.
+fn is_idle(found: &Peeked, lane: &Lane) -> bool {
+    match found {
+        Peeked::Empty => lane.pending().is_empty(),
+        Peeked::Shown(_) => false,
     }
 }
 
-// Whether a lane has nothing to do: its ring shows no packet, and none is pending.
-fn is_idle(lane: &mut Lane, ring: &Ring) -> bool
-    requires { lane.old.pass.table ≡ ring.now.table }
-    ensures { Looks lane.old lane.new }
-{
-    let next = has_next(lane, ring);
-    !next & lane.pending().is_empty()
-}
-
-// A lane hands the next packet of its queue to the core.
-#[tactic(auto, using(crate::proofs::Turning::serves_in))]
-fn serve(alloc: Global, lane: &mut Lane, core: &mut AccessCore, ring: &Ring) -> ServeAnswer
-    requires { lane.old.pass.table ≡ ring.now.table }
+// A lane hands what its pass found to the core, if that is a packet.
+#[tactic(auto, using(crate::proofs::Turning::hands_in, crate::proofs::Turning::stays_in))]
+fn serve(
+    alloc: Global,
+    lane: &mut Lane,
+    core: &mut AccessCore,
+    ring: &Ring,
+    found: Peeked,
+) -> ServeAnswer
+    requires ring { lane.old.pass.table ≡ ring.now.table }
+    requires found { IsFoundBy found lane.old.pass }
     ensures { ServesIn lane.old core.old.history lane.new core.new.history }
 {
-    serve_one(alloc, lane, core, ring)
+    match found {
+        Peeked::Empty => ServeAnswer::Empty,
+        Peeked::Shown(shown) => serve_shown(alloc, lane, core, ring, shown),
+    }
 }
 
 // It advances its first pending packet.
@@ -73,22 +71,36 @@ fn advance(alloc: Global, lane: &mut Lane, core: &mut AccessCore) -> Advanced
     advance_one(alloc, lane, core)
 }
 
-// What a lane does under the lock, in one section.
-#[tactic(auto, using(crate::proofs::Turning::serves_both))]
-fn do_turn(alloc: Global, lane: &mut Lane, core: &mut AccessCore, ring: &Ring) -> LaneAnswer
-    requires { lane.old.pass.table ≡ ring.now.table }
+// One turn of a lane, in a section.
+fn do_turn(
+    alloc: Global,
+    lane: &mut Lane,
+    core: &mut AccessCore,
+    ring: &Ring,
+    found: Peeked,
+) -> LaneAnswer
+    requires ring { lane.old.pass.table ≡ ring.now.table }
+    requires found { IsFoundBy found lane.old.pass }
     ensures { ServesIn lane.old core.old.history lane.new core.new.history }
 {
-    let served = serve(alloc, lane, core, ring);
+    let served = serve(alloc, lane, core, ring, found);
     let advanced = advance(alloc, lane, core);
     LaneAnswer { served, advanced }
 }
 
 impl<B: Room> Held<B> {
     // One turn of a lane, in a section of the core, which the lane has seen then.
-    fn turn(&mut self, alloc: Global, board: &Board, lane: &mut Lane, ring: &Ring) -> LaneAnswer
+    fn turn(
+        &mut self,
+        alloc: Global,
+        board: &Board,
+        lane: &mut Lane,
+        ring: &Ring,
+        found: Peeked,
+    ) -> LaneAnswer
         requires board { (board.now ≡ B.board) × (lane.old.front.board ≡ B.board) }
         requires ring { lane.old.pass.table ≡ ring.now.table }
+        requires found { IsFoundBy found lane.old.pass }
         requires stands { StandsIn lane.old }
         ensures on { GoesOn lane.old lane.new }
         ensures board { lane.new.front.board ≡ B.board }
@@ -97,7 +109,7 @@ impl<B: Room> Held<B> {
         let seen = lane.copy_front(board);
         board.check(&mut self.keeper, seen);
         self.core.audit();
-        let done = do_turn(alloc, lane, &mut self.core, ring);
+        let done = do_turn(alloc, lane, &mut self.core, ring, found);
         self.core.audit();
         lane.see(leave(board, &mut self.keeper, &self.core));
         done
@@ -112,35 +124,63 @@ impl<B: Room> Broker<B> {
         alloc: Global,
         lane: &mut Lane,
         ring: &Ring,
+        found: Peeked,
     ) -> LaneAnswer
         requires ring { lane.old.pass.table ≡ ring.now.table }
+        requires found { IsFoundBy found lane.old.pass }
         requires lane { IsLaneOf B.board self.now lane.old }
         ensures { KeepsOn B.board self.now lane.old lane.new }
     {
         let mut guard = self.held.lock(rt);
         let held = &mut *guard;
-        held.turn(alloc, &self.board, lane, ring)
+        held.turn(alloc, &self.board, lane, ring, found)
     }
 
     // One turn of a lane. Where it has nothing to do, it doesn't ask for the lock.
-    #[tactic(auto, using(crate::proofs::GoingOn::looked_of, crate::proofs::GoingOn::looked_keeps_on, crate::proofs::GoingOn::looked_then_on))]
-    fn turn<R: Wait>(&self, rt: &R, alloc: Global, lane: &mut Lane) -> LaneAnswer
-        requires { IsLaneOf B.board self.now lane.old }
+    #[tactic(auto, using(crate::proofs::GoingOn::looked_of, crate::proofs::GoingOn::looked_keeps_on, crate::proofs::GoingOn::looked_then_on, crate::proofs::Handing::looked_table))]
+    fn turn<R: Wait>(&self, rt: &R, alloc: Global, lane: &mut Lane, ring: &Ring) -> LaneAnswer
+        requires ring { lane.old.pass.table ≡ ring.now.table }
+        requires lane { IsLaneOf B.board self.now lane.old }
         ensures { KeepsOn B.board self.now lane.old lane.new }
     {
-        let ring = self.ring_of(lane.queue());
-        if is_idle(lane, ring) {
+        let found = lane.look(ring);
+        if is_idle(&found, lane) {
             return LaneAnswer {
                 served: ServeAnswer::Empty,
                 advanced: Advanced::Idle,
             };
         }
-        self.turn_locked(rt, alloc, lane, ring)
+        self.turn_locked(rt, alloc, lane, ring, found)
     }
 }
 
-// Turns of a lane, from 1 on, until the gate doesn't let it in.
-#[tactic(auto, using(crate::proofs::GoingOn::keeps_on_none, crate::proofs::GoingOn::keeps_on_both))]
+// Turns of a lane on its ring, from 1 on, until the gate doesn't let it in.
+#[tactic(auto, using(crate::proofs::GoingOn::keeps_on_none, crate::proofs::GoingOn::keeps_on_both, crate::proofs::GoingOn::still_on))]
+fn run_on<B: Room, R: Wait, G: Gate>(
+    rt: &R,
+    alloc: Global,
+    broker: &Broker<B>,
+    lane: &mut Lane,
+    ring: &Ring,
+    gate: &G,
+)
+    requires ring { lane.old.pass.table ≡ ring.now.table }
+    requires lane { IsLaneOf B.board broker.now lane.old }
+    ensures { KeepsOn B.board broker.now lane.old lane.new }
+{
+    let number = lane.number();
+    for before in 0..u64::MAX {
+        let turn = before + 1;
+        if !gate.enter(number, turn) {
+            return;
+        }
+        let done = broker.turn(rt, alloc, lane, ring);
+        gate.leave(number, turn, done);
+    }
+}
+
+// Turns of a lane. Its ring is looked up once.
+#[tactic(auto, using(crate::proofs::GoingOn::table_of))]
 fn run_lane<B: Room, R: Wait, G: Gate>(
     rt: &R,
     alloc: Global,
@@ -151,15 +191,8 @@ fn run_lane<B: Room, R: Wait, G: Gate>(
     requires { IsLaneOf B.board broker.now lane.old }
     ensures { KeepsOn B.board broker.now lane.old lane.new }
 {
-    let number = lane.number();
-    for before in 0..u64::MAX {
-        let turn = before + 1;
-        if !gate.enter(number, turn) {
-            return;
-        }
-        let done = broker.turn(rt, alloc, lane);
-        gate.leave(number, turn, done);
-    }
+    let ring = broker.ring_of(lane.queue());
+    run_on(rt, alloc, broker, lane, ring, gate);
 }
 
 // Runs lanes, each on a thread of its own where one can be made, until each has ended.

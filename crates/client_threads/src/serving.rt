@@ -1,7 +1,9 @@
 //! A lane hands the next packet to the core.
 
 ghost use Rattle.std.specs.Prelude.{◌≡◌};
+ghost use Rattle.ring.specs.Showing.{IsShownBy};
 ghost use Rattle.client_threads.specs.Serving.{ServesTo, served_of};
+ghost use Rattle.client_threads.specs.inner.Turns.{HandsTo};
 
 use crate::lane::Lane;
 use access_core::AccessCore;
@@ -28,14 +30,29 @@ pub enum ServeAnswer {
 
 /// Hands the next packet of a lane's queue to the core: the one that its own pass is shown. Where it is launched or
 /// denied, it counts as served, and its slot is retired.
+#[tactic(auto, using(crate::proofs::Handing::empty_serves, crate::proofs::Handing::shown_serves, crate::proofs::Handing::looked_table))]
 pub fn serve_one(alloc: Global, lane: &mut Lane, core: &mut AccessCore, ring: &Ring) -> ServeAnswer
     requires ring { lane.old.pass.table ≡ ring.now.table }
     ensures { ServesTo ring.now lane.old core.old.history result lane.new core.new.history }
 {
-    let shown = match lane.pass.peek(ring) {
-        Peeked::Empty => return ServeAnswer::Empty,
-        Peeked::Shown(shown) => shown,
-    };
+    match lane.look(ring) {
+        Peeked::Empty => ServeAnswer::Empty,
+        Peeked::Shown(shown) => serve_shown(alloc, lane, core, ring, shown),
+    }
+}
+
+// Hands the packet to the core that a lane's pass was shown.
+pub(crate) fn serve_shown(
+    alloc: Global,
+    lane: &mut Lane,
+    core: &mut AccessCore,
+    ring: &Ring,
+    shown: Shown,
+) -> ServeAnswer
+    requires ring { lane.old.pass.table ≡ ring.now.table }
+    requires shown { IsShownBy shown lane.old.pass }
+    ensures { HandsTo ring.now shown lane.old core.old.history result lane.new core.new.history }
+{
     let id = shown.id;
     if lane.served.reserve(1).is_err() || lane.pending.reserve(1).is_err() {
         return ServeAnswer::Refused(id, Refusal::OutOfMemory);

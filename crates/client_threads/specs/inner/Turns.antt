@@ -1,10 +1,27 @@
 -- What a lane's turn does to it, and to the core.
-use Rattle.std.specs.Prelude.{◌≡◌, ◌++◌, List}
+use Rattle.std.specs.Prelude.{◌≡◌, ◌⊎◌, ◌++◌, ◌∷◌, [], List, length, Result, Ok, Err, ⊤}
+use Rattle.aql_packet.specs.declared.ids.PacketId.{PacketId}
 use Rattle.atomic_table.specs.Seated.{TableId}
+use Rattle.policy.specs.Results.{map_ok}
+use Rattle.ring.specs.declared.processor.Shown.{Shown}
+use Rattle.ring.specs.declared.processor.Peeked.{Peeked}
+use Rattle.ring.specs.declared.processor.Peeked.TheVariants as peeked
+use Rattle.ring.specs.Made.{retiring}
+use Rattle.ring.specs.Passes.{ProcessorSeen, RingSeen}
+use Rattle.ring.specs.Showing.{IsShownBy, ProcessorGains}
 use Rattle.core_model.specs.History.{History}
+use Rattle.core_model.specs.Legal.{Meets}
 use Rattle.core_model.specs.declared.entry.Entry.{Entry}
+use Rattle.core_model.specs.declared.outcome.Outcome.TheVariants as outcome
+use Rattle.core_model.specs.declared.outcome.Taken.{Taken}
+use Rattle.core_model.specs.declared.outcome.Taken.TheVariants as taken
+use Rattle.core_model.specs.declared.refusal.Refusal.{Refusal}
+use Rattle.core_model.specs.declared.refusal.Refusal.TheVariants as refusal
+use Rattle.client_threads.specs.declared.serving.ServeAnswer.{ServeAnswer}
+use Rattle.client_threads.specs.declared.serving.ServeAnswer.TheVariants.{Empty, Launched, Denied, Waiting, Refused}
 use Rattle.client_threads.specs.Lanes.{LaneSeen}
 use Rattle.client_threads.specs.Sections.{Stand, seen_entries}
+use Rattle.client_threads.specs.Serving.{served_of, take_of}
 use Rattle.client_threads.specs.Takes.{takes}
 
 -- a lane served what the core took of its queue meanwhile: entries were added, and no other handed out
@@ -19,6 +36,30 @@ pub record ServesIn (old : LaneSeen) (before : History) (new : LaneSeen) (after 
 -- what a lane served stands among what it has seen
 abbrev pub StandsIn : LaneSeen → Type 0
 StandsIn lane = Stand lane.served (takes (seen_entries lane.front.left) lane.queue.0)
+
+-- what was found, if it is a packet, is what the pass has collected
+abbrev pub IsFoundBy : Peeked → ProcessorSeen → Type 0
+IsFoundBy peeked.Empty pass = ⊤
+IsFoundBy (peeked.Shown shown) pass = IsShownBy shown pass
+
+-- the packet that the pass had collected was taken: the audit gains the entry that is due, the slot is retired, and the packet is served
+pub record IsHanded (ring : RingSeen) (shown : Shown) (old : LaneSeen) (before : History) (became : Taken) (pending : List PacketId) (new : LaneSeen) (after : History) : Type 0 where
+  pub taken : Meets (take_of old shown) before after (Ok (outcome.Taken became))
+  pub retired : ProcessorGains ring old.pass (retiring (length old.pass.part.retired)) new.pass
+  pub lane : new ≡ record { queue = old.queue; pass = new.pass; served = old.served ++ served_of shown ∷ []; pending = pending; front = old.front }
+
+-- it was not taken, and all stays
+pub record IsKeptBack (shown : Shown) (old : LaneSeen) (before : History) (reply : Result Taken Refusal) (new : LaneSeen) (after : History) : Type 0 where
+  pub due : (reply ≡ Err refusal.OutOfMemory) ⊎ Meets (take_of old shown) before after (map_ok outcome.Taken reply)
+  pub audit : after ≡ before
+  pub lane : new ≡ old
+
+abbrev pub HandsTo : RingSeen → Shown → LaneSeen → History → ServeAnswer → LaneSeen → History → Type 0
+HandsTo ring shown old before Empty new after = ⊥
+HandsTo ring shown old before (Launched id) new after = (shown.id ≡ id) × IsHanded ring shown old before taken.Launched (old.pending ++ id ∷ []) new after
+HandsTo ring shown old before (Denied error) new after = IsHanded ring shown old before (taken.Denied error) old.pending new after
+HandsTo ring shown old before (Waiting id cause) new after = (shown.id ≡ id) × IsKeptBack shown old before (Ok (taken.Waiting cause)) new after
+HandsTo ring shown old before (Refused id why) new after = (shown.id ≡ id) × IsKeptBack shown old before (Err why) new after
 
 -- a lane looked, and all stays but what its pass knows
 pub record Looks (old new : LaneSeen) : Type 0 where
