@@ -39,8 +39,6 @@ pub struct Broker<B: Room> {
     pub(crate) held: Mutex<Held<B>>,
     pub(crate) board: Board,
     pub(crate) desks: Vec<Desk>,
-    // It has seen each opening of a queue that has a ring.
-    pub(crate) openings: Front,
 }
 
 impl<B: Room> Model for Broker<B> {
@@ -50,12 +48,10 @@ impl<B: Room> Model for Broker<B> {
     ghost Value = { List QueueRing };
 
     ghost use Rattle.client_threads.specs.Desks.{seen};
-    ghost use Rattle.client_threads.specs.Opening.{AreOpened};
-    ghost use Rattle.client_threads.specs.Sections.{last_of};
 
     ghost view = { λ b. map seen b.desks.items };
 
-    ghost invariant = { λ b. AreApart (map seen b.desks.items) × (b.board ≡ B.board) × (b.openings.board ≡ B.board) × AreOpened (last_of B.opened b.openings.left) (map seen b.desks.items) };
+    ghost invariant = { λ b. AreApart (map seen b.desks.items) × (b.board ≡ B.board) };
 }
 
 /// A broker that has no name yet, and no ring. A contract sees its board and its core.
@@ -113,7 +109,6 @@ impl UnnamedBroker {
             alloc,
         } = self;
         let front = board.front(&mut keeper);
-        let openings = board.front(&mut keeper);
         let held = Held {
             core,
             keeper,
@@ -123,7 +118,6 @@ impl UnnamedBroker {
             held: Mutex::new(held),
             board,
             desks: Vec::new(alloc),
-            openings,
         };
         (broker, front)
     }

@@ -8,8 +8,7 @@ ghost use Rattle.client_threads.specs.Rings.{AreApart};
 ghost use Rattle.client_threads.specs.Running.{IsEndOf, IsLaneOf};
 ghost use Rattle.client_threads.specs.Lanes.{LaneSeen};
 ghost use Rattle.client_threads.specs.Takes.{lane_at};
-ghost use Rattle.client_threads.specs.Opening.{AreOpened};
-ghost use Rattle.client_threads.specs.Sections.{IsReached, last_of};
+ghost use Rattle.client_threads.specs.Sections.{IsReached};
 ghost use Rattle.client_threads.specs.Settling.{AreSettled, IsEnd, IsLedTo, IsQueueSettled, IsRingSettled, IsSettlement, IsShown, IsUnsettledFor, core_of, has_all_passes, has_its_passes, passes_of};
 ghost use Rattle.client_threads.specs.inner.Turns.{HasSeen};
 ghost use Rattle.client_threads.specs.inner.Rooms.{AreReady, AreRoomy, IsRoomFor, IsSomeOf};
@@ -337,13 +336,11 @@ fn unsettled<B: Room>(
     held: Held<B>,
     board: Board,
     desks: Vec<Desk>,
-    openings: Front,
     ends: Vec<ClientEnd>,
     lanes: Vec<Lane>,
 ) -> UnsettledBroker<B>
     requires apart { AreApart (map seen desks.items) }
     requires board { board ≡ B.board }
-    requires openings { (openings.board ≡ B.board) × AreOpened (last_of B.opened openings.left) (map seen desks.items) }
     ensures fault { result.fault ≡ fault }
     ensures back { (result.broker ≡ map seen desks.items) × (result.ends.items ≡ ends.items) × (result.lanes.items ≡ lanes.items) }
 {
@@ -351,7 +348,6 @@ fn unsettled<B: Room>(
         held: Mutex::new(held),
         board,
         desks,
-        openings,
     };
     UnsettledBroker {
         fault,
@@ -498,25 +494,20 @@ pub fn settle_all<B: Room>(
     ensures fault { IfErr result (λ u. IsUnsettledFor B.opened broker parts.now ends.items lanes.items u.fault) }
     ensures back { IfErr result (λ u. (u.broker ≡ broker) × (u.ends.items ≡ ends.items) × (u.lanes.items ≡ lanes.items)) }
 {
-    let Broker {
-        held,
-        board,
-        desks,
-        openings,
-    } = broker;
+    let Broker { held, board, desks } = broker;
     let held = held.into_inner();
     if !has_all_passes(desks.as_slice(), ends.as_slice(), lanes.as_slice()) {
         let why = SettleAllFault::MissingPass;
-        return Err(unsettled(why, held, board, desks, openings, ends, lanes));
+        return Err(unsettled(why, held, board, desks, ends, lanes));
     }
     if !leads(parts, held.core()) {
         let why = SettleAllFault::NotNext;
-        return Err(unsettled(why, held, board, desks, openings, ends, lanes));
+        return Err(unsettled(why, held, board, desks, ends, lanes));
     }
     match get_rooms(alloc, desks.as_slice(), ends.as_slice()) {
         Err(_) => {
             let why = SettleAllFault::OutOfMemory;
-            Err(unsettled(why, held, board, desks, openings, ends, lanes))
+            Err(unsettled(why, held, board, desks, ends, lanes))
         }
         Ok(rooms) => Ok(settle_shown(held, &board, front, parts, desks, rooms, ends, lanes)),
     }

@@ -4,8 +4,8 @@ use Rattle.std.proofs.Common.{◌≡◌, ℕ, zero, suc, ◌+◌, ◌<◌, List,
 -- the next record is put after those before it
 next-set : {A T : Type 0} (told : A → T) (items : List A) (before : List T) (i : ℕ) (other : A) → i < length items → i < length before
     → slice_set (map told (take i items) ++ drop i before) i (told (slice_index_or items i other)) ≡ map told (take (suc i) items) ++ drop (suc i) before
-next-set told [] before i other there room = omega (arith, there)
-next-set told (x ∷ xs) [] i other there room = omega (arith, room)
+next-set told [] before i other there room = absurd (omega (arith, there))
+next-set told (x ∷ xs) [] i other there room = absurd (omega (arith, room))
 next-set told (x ∷ xs) (b ∷ bs) zero other there room = refl
 next-set told (x ∷ xs) (b ∷ bs) (suc i) other there room =
     let less : i < length xs = omega (arith, there) in let fits : i < length bs = omega (arith, room) in
