@@ -449,7 +449,7 @@ fn help_told(alloc: Global, words: &[String]) -> Result<Unread, Unread> {
 }
 
 // Why the words ask for nothing. The help is told with all that stands below the commands, which is made for it alone.
-fn unread(alloc: Global, words: &[String], error: Error) -> Unread {
+fn why_unread(alloc: Global, words: &[String], error: Error) -> Unread {
     match error.kind() {
         ErrorKind::DisplayHelp | ErrorKind::DisplayHelpOnMissingArgumentOrSubcommand => {
             match help_told(alloc, words) {
@@ -494,6 +494,6 @@ pub fn read_words<'a>(
     }
     match program(alloc, "")?.try_get_matches_from(words) {
         Ok(matches) => asked_in(alloc, &matches, unasked),
-        Err(error) => Err(unread(alloc, words, error)),
+        Err(error) => Err(why_unread(alloc, words, error)),
     }
 }
