@@ -136,7 +136,7 @@ fn replay(alloc: Global, journal: &str, entries: u64) -> Result<(), Fault> {
 }
 
 /// Measures a core that is handed so many packets, and the replay of the journal of that.
-pub fn measure_replay(rt: &impl Clock, alloc: Global, packets: u64) -> Result<Replayed, Fault> {
+pub fn time_replay(rt: &impl Clock, alloc: Global, packets: u64) -> Result<Replayed, Fault> {
     let mut core = open_core(alloc)?;
     let start = Instant::now(rt)?;
     send_all(alloc, &mut core, packets)?;

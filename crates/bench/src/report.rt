@@ -3,7 +3,7 @@
 use crate::fault::Fault;
 use crate::kernel_speed::{Taken, count, meet, store};
 use crate::lane_speed::{MOST_LANE_PACKETS, lanes};
-use crate::replay_speed::{Replayed, measure_replay};
+use crate::replay_speed::{Replayed, time_replay};
 use crate::ring_speed::{many_threads, one_thread};
 use crate::script_speed::{LINES, serve};
 use std::sync::Wait;
@@ -219,9 +219,9 @@ pub fn measure_replay<R: Print + Eprint + Clock + AllocGlobal>(
     packets: u64,
     runs: u64,
 ) -> Result<(), Fault> {
-    let mut least = measure_replay(rt, rt.alloc(), packets)?;
+    let mut least = time_replay(rt, rt.alloc(), packets)?;
     for _ in 1..runs {
-        least = least_of(least, measure_replay(rt, rt.alloc(), packets)?);
+        least = least_of(least, time_replay(rt, rt.alloc(), packets)?);
     }
     let entries = least.entries;
     let (made, made_tenth) = each(entries, least.made);
