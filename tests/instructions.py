@@ -17,6 +17,8 @@ import tomllib
 from trial import FILL, HERE, PRELUDE, SAMPLE, TOP, program_given, text
 
 BENCH = f"{TOP}/crates/bench/out/bench"
+# counts only what lies in the settling of a broker that has run, and in letting it go
+SETTLING = "--toggle-collect=bench::lane_speed::is_settled*"
 
 # kernels that count in registers, that load and store once in twelve steps at random places, and that meet at barriers,
 # with how many steps an item takes
@@ -120,9 +122,9 @@ class Counter:
             it.write(written)
         return path
 
-    def instructions(self, words, given=b""):
+    def instructions(self, words, given=b"", options=()):
         out = f"{self.room}/counted"
-        ran = subprocess.run(["valgrind", "--tool=callgrind", f"--callgrind-out-file={out}", *words], input=given, capture_output=True)
+        ran = subprocess.run(["valgrind", "--tool=callgrind", f"--callgrind-out-file={out}", *options, *words], input=given, capture_output=True)
         found = re.search(rb"Collected : (\d+)", ran.stderr)
         if ran.returncode or not found:
             self.wrong.append(f"{' '.join(words)[:120]}: status {ran.returncode}, {ran.stdout[-120:]!r} {ran.stderr[-200:]!r}")
@@ -169,12 +171,15 @@ class Counter:
         yield "scripted packet with a journal", lambda: self.script(sample, packets(500), packets(1500), 1000, ["--journal", "/dev/null"])
         yield "replayed entry", lambda: self.replay(sample)
         if os.path.exists(BENCH):
-            yield "packet of a lane", lambda: self.lanes()
+            yield "packet of a lane", self.lanes
+            yield "packet of a lane, from its ring to its finish", lambda: self.lanes() - self.lanes([SETTLING])
 
-    def lanes(self):
-        """Each run has 1, 2 and 4 lanes with 1, 4 and 16 producers a lane."""
-        few, many = (self.instructions([BENCH, "lanes", str(count), "--runs", "1"]) for count in (100, 300))
-        return (many - few) / (200 * (1 + 2 + 4) * (1 + 4 + 16))
+    def lanes(self, options=()):
+        """A packet of runs that have 1, 2 and 4 lanes with 1, 4 and 16 producers a lane.
+
+        Threads look in vain now more and now less often, so that of three runs the least counts."""
+        count = lambda packets: min(self.instructions([BENCH, "lanes", str(packets), "--runs", "1"], options=options) for _ in range(3))
+        return (count(300) - count(100)) / (200 * (1 + 2 + 4) * (1 + 4 + 16))
 
 
 def has_valgrind():

@@ -13,9 +13,9 @@ import tempfile
 from memory import NO_MEMORY, WANT, Memory, starves
 from trial import TOP, Ended, Trials, library_of, program_given
 
-# what joining these parts takes: room for all entries; of the call that writes, its bytes, and those of its change; of the
-# packet's run, the list of its two changes, and the bytes of each; of the policy, its allow rows and its deny rows
-JOINING = 8
+# what joining these parts takes: room for all entries; of the call that writes, its bytes, and those of its change, which
+# are more than lie in place; of the packet's run, the list of its two changes; of the policy, its allow and its deny rows
+JOINING = 6
 
 
 class Joins:

@@ -6,8 +6,9 @@ has a lane serve and run two packets, and settles their broker: a line each. Whe
 it says `NAME refused 0 OutOfMemory`, and makes the call once more with what came back; a lane serves the packet that was
 refused next. With one request refused it writes that line before the call's own, and all else as ever. Or the request wasn't of
 such a call, and it ends with status 3 and `no memory` behind a beginning of its output, or nobody needed the memory.
-With all requests refused from one of a call's on, it says so once and ends. What it writes with memory is known from its
-calls: crates/wants/stdout.
+With all requests refused from one of a call's on, it says so once and ends; but a lane may serve the packet that it was refused
+with the memory of one that has left flight by then, and the next call is refused. What it writes with memory is known
+from its calls: crates/wants/stdout.
 """
 import os
 import tempfile
@@ -29,6 +30,8 @@ class Wants:
         self.refused = [b"".join([*self.lines[:at], self.want_of(at), *self.lines[at:]]) for at in range(len(self.lines))]
         # where it was refused memory from there on
         self.starved = [Ended(3, b"".join([*self.lines[:at], self.want_of(at)]), NO_MEMORY) for at in range(len(self.lines))]
+        lane = next(at for at in range(len(self.lines)) if self.name_of(at) == "serve")
+        self.reused = {lane: Ended(3, b"".join([*self.lines[:lane], self.want_of(lane), self.lines[lane], self.want_of(lane + 1)]), NO_MEMORY)}
         self.wanted = [set() for _ in self.lines]
         self.ended, self.requests = memory.count([], b"")
 
@@ -53,7 +56,7 @@ class Wants:
         ended = self.memory.run([], b"", number, True)
         at = next((at for at, some in enumerate(self.wanted) if number in some), None)
         if at is not None:
-            return None if ended == self.starved[at] else f"it ended otherwise: {ended}"
+            return None if ended in (self.starved[at], self.reused.get(at)) else f"it ended otherwise: {ended}"
         # (where nobody needed the memory, a thread for one, a later call may be the first that is refused)
         return None if ended == self.whole or ended in self.starved else starves(ended, self.whole)
 

@@ -1,7 +1,7 @@
 -- What lacked memory had asked for some.
 use Rattle.core_model.specs.History.{beginning}
 use Rattle.core_model.specs.Asking.{asks_for_memory}
-use Rattle.std.proofs.Common.{◌≡◌, ◌∙◌, ℕ, ◌+◌, ◌<◌, ◌++◌, Bool, List, length, length-append, nat_lt, true, refl, Some, arith}
+use Rattle.std.proofs.Common.{◌≡◌, ◌∙◌, ℕ, ◌+◌, ◌<◌, ◌++◌, List, length, length-append, nat_lt, true, refl, Some, arith}
 use Rattle.aql_packet.specs.declared.packet.Packet.TheVariants as packet
 use Rattle.access_core.proofs.Terms.{Call, History, IsInPlace, KernelDispatch, ObjectRight, Opening, Owed, Packet, PacketId, Place, QueueId, RunNext, Take, agent_writes, arguments_of}
 use Rattle.access_core.proofs.Terms.{Outcome, decoded, enters, function_of, function_writes, held_by_arguments, held_by_needs, owner, result_writes, rights_at_launch}

@@ -1,5 +1,5 @@
 -- There are places for the argument blocks of all packets that can be in flight, whatever is entered.
-use Rattle.std.proofs.Common.{◌≡◌, ℕ, ◌+◌, ◌-◌, ◌*◌, ◌<◌, ◌≤◌, List, [], ◌∷◌, ◌++◌, length, map, refl, sym, ap, arith, Option, Some, None, length-append, not}
+use Rattle.std.proofs.Common.{◌≡◌, ℕ, ◌+◌, ◌-◌, ◌*◌, ◌<◌, ◌≤◌, List, [], ◌∷◌, ◌++◌, length, refl, ap, arith, Option, Some, None, length-append, not}
 use Rattle.access_core.proofs.Terms.{ArgumentBlock, HasBlockPlaces, Inside, IsCached, MOST_IN_FLIGHT, Packet, PacketId, Place, Queue, QueueId, Roomy, as_launched, flight, free_of}
 use Rattle.access_core.proofs.Terms.{free_places, freed_by, is_place_of, length-map, name_of, packet_of, places_of, start_of, with_advance, with_leaving, with_progress}
 use Rattle.access_core.proofs.Terms.{with_queue, without_one}

@@ -17,6 +17,7 @@ pub mod StopLemmas
 pub mod Rooms
 pub mod AskingLemmas
 pub mod WorkLemmas
+pub mod NamedOnce
 pub mod WorkReadLemmas
 pub mod RunLemmas
 pub mod KernelLemmas

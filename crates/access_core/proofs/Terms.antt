@@ -62,7 +62,7 @@ pub use Rattle.core_model.specs.declared.entry.Entry.{Entry}
 pub use Rattle.core_model.specs.declared.event.Event.{Event}
 pub use Rattle.core_model.specs.declared.event.Event.TheVariants.{Open, Take, Call}
 pub use Rattle.core_model.specs.declared.call.Call.TheVariants.{ChangeSignal, Finish, Grant, HostWrite, Poll, Revoke, RunNext, Stop}
-pub use Rattle.core_model.specs.declared.event.Request.{Request}
+pub use Rattle.core_model.specs.declared.event.CoreRequest.{CoreRequest}
 pub use Rattle.core_model.specs.declared.flight.InFlight.{InFlight}
 pub use Rattle.core_model.specs.declared.flight.Progress.{Progress}
 pub use Rattle.core_model.specs.declared.flight.TheConstants.{LAUNCH_PROGRESS}

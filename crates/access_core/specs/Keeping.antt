@@ -8,8 +8,8 @@ use Rattle.core_model.specs.Queues.{openings}
 use Rattle.core_model.specs.declared.refusal.Refusal.{Refusal}
 use Rattle.core_model.specs.declared.event.Event.{Event}
 use Rattle.core_model.specs.declared.event.Event.TheVariants.{Open}
-use Rattle.core_model.specs.declared.event.Request.{Request}
-use Rattle.core_model.specs.declared.event.Request.TheVariants as request
+use Rattle.core_model.specs.declared.event.CoreRequest.{CoreRequest}
+use Rattle.core_model.specs.declared.event.CoreRequest.TheVariants as request
 use Rattle.access_core.specs.Cores.{Core, TablePlaces}
 
 -- A queue was opened where so many were open: its list of errors has a place for each of its packets that can be in flight, the table of
@@ -40,7 +40,7 @@ KeepsPlaces event old new = may_lack_memory event (due old.history event) ≡ fa
 
 -- an opening keeps the places so; every other request leaves all of them, even where it may want memory: a launch, which gets memory for
 -- what its packet holds, finds a place for that in the table
-abbrev pub ServedInPlace : Request → Core → Core → Type 0
+abbrev pub ServedInPlace : CoreRequest → Core → Core → Type 0
 ServedInPlace (request.Open client agent size) old new = KeepsPlaces (Open client agent size) old new
 ServedInPlace (request.Take queue packet bytes) old new = new.places ≡ old.places
 ServedInPlace (request.Call asked) old new = new.places ≡ old.places

@@ -2,7 +2,7 @@
 
 ghost use Rattle.std.specs.Prelude.{Some, ◌≡◌, ◌<◌, ◌≤◌, ◌++◌, ◌∷◌, [], OnErr, OnOk, filter, find, length, max, not};
 ghost use Rattle.std.specs.Option.{option_copied};
-ghost use Rattle.access_core.specs.inner.ArgumentBlocks.{is_block, rights_for};
+ghost use Rattle.access_core.specs.inner.ArgumentBlocks.{AreNamedOnce, IsIndexOf, is_block, rights_for};
 ghost use Rattle.access_core.specs.Cores.{places_of};
 
 use aql_packet::{ClientId, PacketId, QueueId};
@@ -31,6 +31,8 @@ pub struct ArgumentBlock {
 #[derive(Drop)]
 pub struct ArgumentBlocks {
     blocks: Vec<ArgumentBlock>,
+    /// Lists of rights of packets that left flight, for the memory behind them.
+    spare: Vec<Sequence<(Object, Rights)>>,
 }
 
 impl Model for ArgumentBlocks {
@@ -63,6 +65,7 @@ impl ArgumentBlocks {
     {
         ArgumentBlocks {
             blocks: Vec::new(alloc),
+            spare: Vec::new(alloc),
         }
     }
 
@@ -96,8 +99,21 @@ impl ArgumentBlocks {
         ensures exact { OnOk result (places_of self.new ≡ max (places_of self.old) places) }
         ensures err { OnErr result (self.new ≡ self.old) }
     {
+        self.spare
+            .reserve_exact(places.saturating_sub(self.spare.len()))?;
         self.blocks
             .reserve_exact(places.saturating_sub(self.blocks.len()))
+    }
+
+    /// An empty list for the rights of a packet: with the memory of one that left flight, if there is any.
+    pub fn empty_list(&mut self, alloc: Global) -> Sequence<(Object, Rights)>
+        ensures empty { result ≡ [] }
+        ensures same { self.new ≡ self.old }
+    {
+        match self.spare.pop() {
+            Some(list) => emptied(list),
+            None => Sequence::new(alloc),
+        }
     }
 
     /// Puts the block of a packet that is launched behind the others, in room that was got before.
@@ -109,12 +125,52 @@ impl ArgumentBlocks {
         self.blocks.push_reserved(block);
     }
 
-    /// Drops the block of a packet that leaves flight. It takes no memory.
+    /// Drops the block of a packet that leaves flight, and keeps the memory of its rights. It takes no memory.
     pub fn release(&mut self, queue: QueueId, packet: PacketId)
+        requires { AreNamedOnce self.old.items }
         ensures rest { self.new.items ≡ filter (λ block. not (is_block queue packet block)) self.old.items }
         ensures places { places_of self.new ≡ places_of self.old }
     {
-        self.blocks
-            .retain(|block| !(block.queue == queue && block.packet == packet));
+        if let Some(index) = index_of(self.blocks.as_slice(), queue, packet) {
+            let block = self.blocks.remove(index);
+            self.keep(block.rights);
+        }
     }
+
+    // Keeps the memory of a list, where there is a place for it.
+    fn keep(&mut self, list: Sequence<(Object, Rights)>)
+        ensures { self.new ≡ self.old }
+    {
+        if self.spare.len() < self.spare.capacity() {
+            self.spare.push_reserved(list);
+        }
+    }
+}
+
+// A list without its items, in the same memory.
+fn emptied(list: Sequence<(Object, Rights)>) -> Sequence<(Object, Rights)>
+    ensures { result ≡ [] }
+{
+    let mut items = list.into_vec();
+    items.clear();
+    Sequence::from_vec(items)
+}
+
+// Whether a block is that of a packet.
+fn is_block(block: &ArgumentBlock, queue: QueueId, packet: PacketId) -> bool
+    ensures { result ≡ is_block queue packet block.now }
+{
+    block.queue.0 == queue.0 && block.packet.0 == packet.0
+}
+
+// The index of the first block that is a packet's.
+fn index_of(blocks: &[ArgumentBlock], queue: QueueId, packet: PacketId) -> Option<usize>
+    ensures { IsIndexOf (is_block queue packet) blocks.now result }
+{
+    for (index, block) in blocks.iter().enumerate() {
+        if is_block(block, queue, packet) {
+            return Some(index);
+        }
+    }
+    None
 }

@@ -18,6 +18,6 @@ pub struct Queue {
     pub stopped: bool,
     /// Its errors, in order, with room for one of each packet in flight.
     pub errors: Reserved<QueueError>,
-    /// Its packets in flight, in eight places.
+    /// Its packets in flight, at most eight.
     pub places: Places,
 }

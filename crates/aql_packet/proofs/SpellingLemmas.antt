@@ -107,11 +107,11 @@ barrier_same one two type packet a b x y =
     let to_64 : take 64 one ≡ take 64 two = next one two 56 8 a b (omega arith) to_56 (x.completion_signal ∙ sym y.completion_signal) in
     whole one two a b to_64
 
-pub one_spelling : (one two : List ℕ) (packet : Packet) → PacketOf one packet → PacketOf two packet → one ≡ two
-one_spelling one two (Kernel packet) a b = kernel_same one two packet a.are_bytes b.are_bytes a.layout b.layout
-one_spelling one two (Agent packet) a b = agent_same one two packet a.are_bytes b.are_bytes a.layout b.layout
-one_spelling one two (BarrierAnd packet) a b = barrier_same one two 3 packet a.are_bytes b.are_bytes a.layout b.layout
-one_spelling one two (BarrierOr packet) a b = barrier_same one two 5 packet a.are_bytes b.are_bytes a.layout b.layout
+pub law_one_spelling : (one two : List ℕ) (packet : Packet) → PacketOf one packet → PacketOf two packet → one ≡ two
+law_one_spelling one two (Kernel packet) a b = kernel_same one two packet a.are_bytes b.are_bytes a.layout b.layout
+law_one_spelling one two (Agent packet) a b = agent_same one two packet a.are_bytes b.are_bytes a.layout b.layout
+law_one_spelling one two (BarrierAnd packet) a b = barrier_same one two 3 packet a.are_bytes b.are_bytes a.layout b.layout
+law_one_spelling one two (BarrierOr packet) a b = barrier_same one two 5 packet a.are_bytes b.are_bytes a.layout b.layout
 
 -- What is laid out is decoded.
 pub laid_is_decoded : (bytes : List ℕ) (packet : Packet) → PacketOf bytes packet → decoded bytes ≡ Some packet

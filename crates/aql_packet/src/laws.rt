@@ -14,14 +14,14 @@ ghost use Rattle.std.specs.Prelude.{List, Some, ℕ, ◌==◌, ◌≡◌};
 use crate::packet::Packet;
 
 /// Bytes that lay out the same packet are the same: a packet has one spelling.
-pub fn one_spelling()
+pub fn law_one_spelling()
     ensures { (one two : List ℕ) (packet : Packet)
         → PacketOf one packet → PacketOf two packet → one ≡ two }
 {}
 
 /// The reading of bytes as a function is the layout: it finds a packet exactly where they lay it
 /// out.
-pub fn reading_is_layout()
+pub fn law_reading_is_layout()
     ensures laid { (bytes : List ℕ) (packet : Packet)
         → PacketOf bytes packet → decoded bytes ≡ Some packet }
     ensures read { (bytes : List ℕ) (packet : Packet)
@@ -29,7 +29,7 @@ pub fn reading_is_layout()
 {}
 
 /// The type and the barrier bit of a packet are those of its first word, its first eight bytes.
-pub fn header_in_first_word()
+pub fn law_header_in_first_word()
     ensures kind { (bytes : List ℕ) → Are64Bytes bytes
         → bits (number_at bytes 0 8) 7 0 ≡ packet_type bytes }
     ensures barrier { (bytes : List ℕ) → Are64Bytes bytes
@@ -37,13 +37,13 @@ pub fn header_in_first_word()
 {}
 
 /// A packet's words and its bytes tell each other.
-pub fn words_and_bytes_are_inverse()
+pub fn law_words_and_bytes_are_inverse()
     ensures words { (words : List ℕ) → AreEightWords words → words_of (bytes_of words) ≡ words }
     ensures bytes { (bytes : List ℕ) → Are64Bytes bytes → bytes_of (words_of bytes) ≡ bytes }
 {}
 
 /// The code's numbers of regions and of rings are those of the rules.
-pub fn numbers_are_those_of_the_rules()
+pub fn law_numbers_are_those_of_the_rules()
     ensures span { REGION_SPAN ≡ region_span }
     ensures regions { MOST_REGIONS ≡ most_regions }
     ensures region_bytes { MOST_REGION_BYTES ≡ most_region_bytes }

@@ -17,8 +17,8 @@ pub use ids::{
     Address, AgentHandle, ClientId, KernelObject, PacketId, QueueId, RegionHandle, SignalHandle,
 };
 pub use laws::{
-    header_in_first_word, numbers_are_those_of_the_rules, one_spelling, reading_is_layout,
-    words_and_bytes_are_inverse,
+    law_header_in_first_word, law_numbers_are_those_of_the_rules, law_one_spelling,
+    law_reading_is_layout, law_words_and_bytes_are_inverse,
 };
 pub use memory::{MOST_REGION_BYTES, MOST_REGIONS, REGION_SPAN};
 pub use packet::{

@@ -178,7 +178,7 @@ fn command<'a>(alloc: Global) -> Result<Command<'a>, AllocError> {
 
 // What a command line asks for.
 #[derive(Clone, Copy)]
-struct Request {
+struct Measurement {
     // How many packets each producer sends, where the ring is measured.
     ring: Option<u64>,
     // The same where lanes are.
@@ -195,7 +195,7 @@ struct Request {
 // Measures what is asked for.
 fn measure<R: Print + Eprint + Clock + AllocGlobal + Threads + Wait + Sync>(
     rt: &R,
-    request: Request,
+    request: Measurement,
 ) -> Result<(), Fault> {
     if let Some(packets) = request.ring {
         measure_ring(rt, packets, request.runs)?;
@@ -235,7 +235,7 @@ fn refused(rt: &HostRuntime, error: &Error) -> u8 {
 
 // What a command line asks for; or else the exit status, after what it is refused for, or its help, is
 // told.
-fn understand(rt: &HostRuntime, words: &[String]) -> Result<Request, u8> {
+fn understand(rt: &HostRuntime, words: &[String]) -> Result<Measurement, u8> {
     match matched(rt.alloc(), words) {
         Ok(matches) => requested(&matches).ok_or(NOT_UNDERSTOOD),
         Err(error) => Err(refused(rt, &error)),
@@ -243,11 +243,11 @@ fn understand(rt: &HostRuntime, words: &[String]) -> Result<Request, u8> {
 }
 
 // What the words of a command line ask for.
-fn requested(matches: &ArgMatches<'_>) -> Option<Request> {
+fn requested(matches: &ArgMatches<'_>) -> Option<Measurement> {
     let (name, asked) = matches.subcommand()?;
     let packets = asked.get_one("PACKETS");
     let all = name == "all";
-    Some(Request {
+    Some(Measurement {
         ring: packets.filter(|_| all || name == "ring"),
         lanes: packets.filter(|_| all || name == "lanes"),
         script: packets.filter(|_| all || name == "script"),
@@ -269,7 +269,7 @@ fn words(rt: &HostRuntime) -> io::Result<Vec<String>> {
 }
 
 // What the program's command line asks for, or else the exit status.
-fn asked(rt: &HostRuntime) -> Result<Request, u8> {
+fn asked(rt: &HostRuntime) -> Result<Measurement, u8> {
     match words(rt) {
         Ok(words) => understand(rt, words.as_slice()),
         Err(_) => Err(failed(rt, Fault::OutOfMemory)),

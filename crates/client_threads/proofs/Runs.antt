@@ -15,7 +15,7 @@ use Rattle.core_model.specs.declared.entry.Entry.{Entry}
 use Rattle.core_model.proofs.Holding.{owner-more}
 use Rattle.core_model.proofs.States.{begin-opening, join-end, join-legal, legal-whole, state-now, whole-legal}
 use Rattle.access_core.specs.Cores.{Core}
-use Rattle.client_threads.specs.Sections.{AllFollow, Follows, IsFirst, IsReached, gone, last_of, whole}
+use Rattle.client_threads.specs.Sections.{AllFollow, Follows, IsFirst, gone, last_of, whole}
 use Rattle.client_threads.proofs.Sections.{none_out, number_same, same_number}
 
 -- ---- what stays

@@ -1,8 +1,8 @@
 -- What a lane served, once its ring is settled.
 use Rattle.std.proofs.Common.{◌≡◌, ℕ, suc, zero, ◌<◌, true, false, List, [], ◌∷◌, length, map, get_or, refl, ap, ◌∙◌, sym, arith}
 use Rattle.std.specs.Prelude.{Some, slice_index, slice_index_or}
-use Rattle.ring_core.specs.declared.part.Part.{Part}
-use Rattle.ring_core.specs.declared.part.Part.TheVariants.{Producer, Processor}
+use Rattle.ring_core.specs.declared.part.SeatPart.{SeatPart}
+use Rattle.ring_core.specs.declared.part.SeatPart.TheVariants.{Producer, Processor}
 use Rattle.ring_core.specs.declared.part.ProcessorPart.{ProcessorPart}
 use Rattle.ring_core.specs.Parts.{nobody}
 use Rattle.ring_core.specs.Machine.{machine_of}
@@ -15,7 +15,7 @@ use Rattle.client_threads.specs.Lanes.{LaneSeen, IsLane, words_served}
 use Rattle.client_threads.specs.Settling.{AreServed}
 use Rattle.client_threads.proofs.KeptLanes.{map_length}
 
-its_part : (parts : List Part) (p : ProcessorPart) → get_or parts 0 nobody ≡ Processor p → processor_of parts ≡ p
+its_part : (parts : List SeatPart) (p : ProcessorPart) → get_or parts 0 nobody ≡ Processor p → processor_of parts ≡ p
 its_part [] p e = absurd cc
 its_part (Producer q ∷ ps) p e = absurd cc
 its_part (Processor q ∷ ps) p e = cc

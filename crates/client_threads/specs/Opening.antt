@@ -1,5 +1,5 @@
 -- What opening a broker and its queues makes (own).
-use Rattle.std.specs.Prelude.{◌≡◌, ℕ, ◌+◌, List, [], ◌∷◌, ◌++◌, length, map, None, Result, if◌then◌else◌}
+use Rattle.std.specs.Prelude.{◌≡◌, ℕ, ◌+◌, List, [], ◌∷◌, ◌++◌, length, map, Some, None, Result, if◌then◌else◌, ⊤}
 use Rattle.atomic_table.specs.Seated.{TableId}
 use Rattle.aql_packet.specs.declared.ids.ClientId.{ClientId}
 use Rattle.aql_packet.specs.declared.ids.AgentHandle.{AgentHandle}
@@ -9,7 +9,8 @@ use Rattle.policy.specs.Results.{map_ok}
 use Rattle.core_model.specs.declared.event.Event.{Event}
 use Rattle.core_model.specs.declared.event.Event.TheVariants.{Open}
 use Rattle.core_model.specs.History.{History, beginning}
-use Rattle.core_model.specs.Queues.{openings}
+use Rattle.core_model.specs.Queues.{openings, owner}
+use Rattle.core_model.specs.declared.origin.Opening.{Opening}
 use Rattle.access_core.specs.Cores.{Core}
 use Rattle.access_core.specs.Opening.{Opens}
 use Rattle.access_core.specs.declared.access.OpenFault.{OpenFault}
@@ -42,6 +43,15 @@ opening_event client agent size producers = Open client agent (judged_size size 
 -- the number of the queue that is opened next
 abbrev pub next_queue : History → ℕ
 next_queue history = length (openings (beginning history) history.entries) + 1
+
+-- a core opened the queue with this number
+abbrev pub HasOpened : Core → ℕ → Type 0
+HasOpened core queue = (opening : Opening) × (owner (beginning core.history) core.history.entries (record { 0 = queue }) ≡ Some opening)
+
+-- each of these rings is of a queue that this core opened
+abbrev pub AreOpened : Core → List QueueRing → Type 0
+AreOpened core [] = ⊤
+AreOpened core (r ∷ rs) = HasOpened core r.queue × AreOpened core rs
 
 abbrev pub as_end : QueueId → ProducerSeen → ClientEnd
 as_end queue pass = record { queue = queue; pass = pass }

@@ -76,13 +76,6 @@ Stand [] ys = ⊤
 Stand (x ∷ xs) [] = ⊥
 Stand (x ∷ xs) (y ∷ ys) = ((x ≡ y) × Stand xs ys) ⊎ Stand (x ∷ xs) ys
 
--- a core was reached from the one that was opened, section by section
-pub record IsReached (opened core : Core) : Type 0 where
-  pub left : List Core
-  pub first : IsFirst opened
-  pub all : AllFollow opened left
-  pub last : last_of opened left ≡ core
-
 -- what lies under the lock: the core, and the states in which it was left
 pub record HeldSeen : Type 0 where
   pub core : Core

@@ -23,7 +23,7 @@ use Rattle.client_threads.specs.declared.settling.Settlement.{Settlement}
 use Rattle.client_threads.specs.declared.settling.Settlement.TheVariants as settlement
 use Rattle.client_threads.specs.Lanes.{LaneSeen}
 use Rattle.client_threads.specs.Rings.{QueueRing}
-use Rattle.client_threads.specs.Sections.{AllFollow, IsFirst, IsReached, Stand, last_of, whole}
+use Rattle.client_threads.specs.Sections.{AllFollow, IsFirst, Stand, last_of, whole}
 use Rattle.client_threads.specs.Takes.{AllAgree, IsLeastMismatch, lane_at, takes}
 
 -- the pass of an end of a queue
@@ -112,12 +112,12 @@ pub record IsEnd (opened : Core) (seen : List Core) (lanes : List LaneSeen) (cor
   pub begins : IsPrefix seen left
   pub shown : All (IsShown opened left) lanes
 
--- why a broker isn't settled, in this order: a pass is missing; all are there, and the parts don't lead to the audit of its core, which was
--- reached from the one that was opened; they do, and memory was wanted and not to be had (own)
-abbrev pub IsUnsettledFor : Core → List QueueRing → List Part → List ClientEnd → List LaneSeen → SettleAllFault → Type 0
-IsUnsettledFor opened rings parts ends lanes fault.MissingPass = has_all_passes rings ends lanes ≡ false
-IsUnsettledFor opened rings parts ends lanes fault.NotNext =
+-- why a broker isn't settled, in this order: a pass is missing; all are there, and the parts don't lead to the audit of the core with which
+-- the broker ended; they do, and memory was wanted and not to be had (own)
+abbrev pub IsUnsettledFor : Core → List Core → List QueueRing → List Part → List ClientEnd → List LaneSeen → SettleAllFault → Type 0
+IsUnsettledFor opened seen rings parts ends lanes fault.MissingPass = has_all_passes rings ends lanes ≡ false
+IsUnsettledFor opened seen rings parts ends lanes fault.NotNext =
     (has_all_passes rings ends lanes ≡ true)
-    × ((core : Core) × IsReached opened core × IsLegal (beginning core.history) core.history.entries × (LeadTo parts core.history.origin → ⊥))
-IsUnsettledFor opened rings parts ends lanes fault.OutOfMemory =
-    (has_all_passes rings ends lanes ≡ true) × ((core : Core) × IsReached opened core × IsLedTo parts core)
+    × ((core : Core) × IsEnd opened seen lanes core × IsLegal (beginning core.history) core.history.entries × (LeadTo parts core.history.origin → ⊥))
+IsUnsettledFor opened seen rings parts ends lanes fault.OutOfMemory =
+    (has_all_passes rings ends lanes ≡ true) × ((core : Core) × IsEnd opened seen lanes core × IsLedTo parts core)

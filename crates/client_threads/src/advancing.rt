@@ -8,7 +8,9 @@ ghost use Rattle.client_threads.specs.Advancing.{AdvancesTo, IsLastCall, has_bar
 
 use crate::lane::Lane;
 use access_core::AccessCore;
-use aql_packet::{Packet, PacketId, QueueId, decode, header_in_first_word, header_of, words_of};
+use aql_packet::{
+    Packet, PacketId, QueueId, decode, header_of, law_header_in_first_word, words_of,
+};
 use core_model::{Outcome, Polled, Refusal, Served, Worked};
 use queue_error::QueueError;
 use std::alloc::Global;
@@ -60,7 +62,7 @@ fn is_barrier(served: &[Served], id: PacketId) -> bool
 fn type_of(bytes: &[u8; 64]) -> u8
     ensures { result ≡ packet_type bytes.now }
 {
-    header_in_first_word();
+    law_header_in_first_word();
     header_of(words_of(bytes)[0]).kind
 }
 

@@ -123,6 +123,34 @@ impl Model for Front {
     ghost invariant = { λ k. k.seat.me ≡ (front_view k.seat.me.0.left, []) };
 }
 
+/// A front that threads may share: nothing of it is reached through a `&`.
+#[derive(Drop)]
+pub struct SharedFront {
+    pub(crate) front: Front,
+}
+
+impl Model for SharedFront {
+    ghost use base.Fml.{ftrue};
+    ghost use Rattle.client_threads.specs.Boards.{PassSeen};
+
+    ghost Value = { PassSeen };
+
+    ghost view = { λ s. s.front };
+
+    ghost also_owns = { λ _. ftrue };
+}
+
+impl SharedFront {
+    // A front, to be shared.
+    pub(crate) fn of(front: Front) -> SharedFront
+        ensures { result ≡ front }
+    {
+        SharedFront { front }
+    }
+}
+
+unsafe impl Sync for SharedFront {}
+
 impl Board {
     /// A board on which nothing is written, with the pass that writes on it.
     pub fn new(alloc: Global) -> Result<(Board, Keeper), AllocError>

@@ -1,17 +1,17 @@
 //! The broker: one core under its lock, and a ring with its doorbell for each queue.
 
-ghost use Rattle.std.specs.Prelude.{◌≡◌, []};
-ghost use Rattle.std.specs.Option.{option_copied};
+ghost use Rattle.std.specs.Prelude.{◌≡◌, [], Some, map};
+ghost use Rattle.std.specs.Option.{IfSome, option_copied};
 ghost use Rattle.std.specs.List.{find};
 ghost use Rattle.std.specs.Fn.{FnOnceReturnsAtMut};
 ghost use Rattle.atomic_table.specs.Seated.{TableId};
 ghost use Rattle.client_threads.specs.Boards.{Compared};
-ghost use Rattle.client_threads.specs.Desks.{is_desk_of};
+ghost use Rattle.client_threads.specs.Desks.{is_desk_of, seen};
 ghost use Rattle.client_threads.specs.Opening.{OpensBroker};
-ghost use Rattle.client_threads.specs.Rings.{IsOf, IsRingOf, ring_of};
+ghost use Rattle.client_threads.specs.Rings.{AreApart, IsOf, IsRingOf, ring_of};
 ghost use Rattle.client_threads.specs.Sections.{Continues, IsSection};
 
-use crate::board::{Board, Front, Keeper};
+use crate::board::{Board, Front, Keeper, SharedFront};
 use crate::room::{Held, Room};
 use access_core::{AccessCore, Kernel, OpenFault};
 use aql_packet::QueueId;
@@ -39,6 +39,8 @@ pub struct Broker<B: Room> {
     pub(crate) held: Mutex<Held<B>>,
     pub(crate) board: Board,
     pub(crate) desks: Vec<Desk>,
+    // It has seen each opening of a queue that has a ring.
+    pub(crate) openings: SharedFront,
 }
 
 impl<B: Room> Model for Broker<B> {
@@ -48,10 +50,12 @@ impl<B: Room> Model for Broker<B> {
     ghost Value = { List QueueRing };
 
     ghost use Rattle.client_threads.specs.Desks.{seen};
+    ghost use Rattle.client_threads.specs.Opening.{AreOpened};
+    ghost use Rattle.client_threads.specs.Sections.{last_of};
 
     ghost view = { λ b. map seen b.desks.items };
 
-    ghost invariant = { λ b. AreApart (map seen b.desks.items) × (b.board ≡ B.board) };
+    ghost invariant = { λ b. AreApart (map seen b.desks.items) × (b.board ≡ B.board) × (b.openings.board ≡ B.board) × AreOpened (last_of B.opened b.openings.left) (map seen b.desks.items) };
 }
 
 /// A broker that has no name yet, and no ring. A contract sees its board and its core.
@@ -109,6 +113,7 @@ impl UnnamedBroker {
             alloc,
         } = self;
         let front = board.front(&mut keeper);
+        let openings = SharedFront::of(board.front(&mut keeper));
         let held = Held {
             core,
             keeper,
@@ -118,16 +123,35 @@ impl UnnamedBroker {
             held: Mutex::new(held),
             board,
             desks: Vec::new(alloc),
+            openings,
         };
         (broker, front)
     }
 }
 
-// What there is of a queue.
-pub(crate) fn find_desk(desks: &[Desk], queue: QueueId) -> Option<&Desk>
+// What stands at a queue's number, the first at 1, if it is of the queue.
+#[tactic(auto, using(crate::proofs::RingOfDesks::found_at))]
+fn desk_at(desks: &[Desk], queue: QueueId) -> Option<&Desk>
+    requires apart { AreApart (map seen desks.now) }
+    ensures { IfSome result (λ desk. find (is_desk_of queue.0) desks.now ≡ Some desk.now) }
+{
+    let desk = desks.get((queue.0 as usize).checked_sub(1)?)?;
+    if desk.queue.0 == queue.0 {
+        Some(desk)
+    } else {
+        None
+    }
+}
+
+// What there is of a queue. Where each queue has a ring, it stands at the queue's number.
+fn find_desk(desks: &[Desk], queue: QueueId) -> Option<&Desk>
+    requires apart { AreApart (map seen desks.now) }
     ensures { option_copied result ≡ find (is_desk_of queue.0) desks.now }
 {
-    desks.iter().find(|desk| desk.queue.0 == queue.0)
+    match desk_at(desks, queue) {
+        Some(desk) => Some(desk),
+        None => desks.iter().find(|desk| desk.queue.0 == queue.0),
+    }
 }
 
 impl<B: Room> Broker<B> {
@@ -146,6 +170,18 @@ impl<B: Room> Broker<B> {
     pub fn doorbell(&self, queue: QueueId) -> Option<&Doorbell> {
         let desk = find_desk(self.desks.as_slice(), queue)?;
         Some(&desk.doorbell)
+    }
+
+    // What there is of a queue that has a ring.
+    #[tactic(auto, using(crate::proofs::RingOfDesks::ring_of_desks))]
+    pub(crate) fn desk_of(&self, queue: QueueId) -> &Desk
+        requires { (table : TableId) × IsOf self.now queue.0 table }
+        ensures { IsRingOf self.now queue.0 (seen result.now).ring }
+    {
+        match find_desk(self.desks.as_slice(), queue) {
+            Some(desk) => desk,
+            None => unreachable!(),
+        }
     }
 
     // The ring of a queue that has one.

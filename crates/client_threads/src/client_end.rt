@@ -12,7 +12,7 @@ ghost use Rattle.client_threads.specs.Running.{IsEndOf};
 use crate::broker::Broker;
 use crate::room::Room;
 use aql_packet::QueueId;
-use ring::{ProducerPass, Publication, Spent, Ticket};
+use ring::{ProducerPass, Publication, Ring, Spent, Ticket};
 
 /// A client's end of a queue: the pass of one of its producers to the broker's ring for it. Its calls take
 /// no memory and never wait, whoever holds the core's lock.
@@ -63,18 +63,12 @@ impl ClientEnd {
         ensures others { (id : ℕ) → id ≢ ticket.id.0 → IsOpen id self.old.pass → IsOpen id self.new.pass }
         ensures end { IsEndOf broker.now self.new }
     {
-        let ring = broker.ring_of(self.queue);
+        let desk = broker.desk_of(self.queue);
+        let ring: &Ring = &desk.ring;
         let told = self.pass.publish(ring, ticket, bytes);
         if let Publication::Published(id) = &told {
-            ring_doorbell(broker, self.queue, id.0);
+            desk.doorbell.ring(id.0);
         }
         told
-    }
-}
-
-// Rings the doorbell of a queue, if the broker has one.
-fn ring_doorbell<B: Room>(broker: &Broker<B>, queue: QueueId, id: u64) {
-    if let Some(doorbell) = broker.doorbell(queue) {
-        doorbell.ring(id);
     }
 }

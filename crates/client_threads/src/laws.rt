@@ -18,7 +18,7 @@ ghost use Rattle.client_threads.specs.Lanes.{LaneSeen};
 ghost use Rattle.client_threads.specs.Sections.{AllFollow, IsFirst, last_of, whole};
 
 /// What is of a broker stays so when a queue is opened, and the queue's ends and its lane are of it.
-pub fn opened_queues_belong()
+pub fn law_opened_queues_belong()
     ensures kept { (old new : List QueueRing) (size producers : ℕ) (front : PassSeen) (queue : QueueId) (ends : List ClientEnd) (lane : LaneSeen) →
         IsOpened old size producers front queue ends lane new → (q : ℕ) (table : TableId) → IsOf old q table → IsOf new q table }
     ensures ends { (old new : List QueueRing) (size producers : ℕ) (front : PassSeen) (queue : QueueId) (ends : List ClientEnd) (lane : LaneSeen) →
@@ -28,14 +28,14 @@ pub fn opened_queues_belong()
 {}
 
 /// Of two sections whose fronts compare, both are one, or one stands wholly before the other.
-pub fn sections_stand_in_order()
+pub fn law_sections_stand_in_order()
     ensures { (one two : List Core) (left other : Core) → Compared (one ++ left ∷ []) (two ++ other ∷ []) →
         (one ++ left ∷ [] ≡ two ++ other ∷ []) ⊎ (IsPrefix (one ++ left ∷ []) two ⊎ IsPrefix (two ++ other ∷ []) one) }
 {}
 
 /// All sections since the opening, with what they handed out, are one whole legal history: that of the policy and of the
 /// kernels with which the core was opened.
-pub fn runs_are_whole_histories()
+pub fn law_runs_are_whole_histories()
     ensures whole { (opened : Core) (left : List Core) → IsFirst opened → AllFollow opened left → IsWhole (beginning opened.history) (whole [] opened left) }
     ensures kernels { (opened : Core) (left : List Core) → AllFollow opened left → (last_of opened left).history.kernels ≡ opened.history.kernels }
     ensures declared { (opened : Core) (left : List Core) → AllFollow opened left → (last_of opened left).history.origin.policy ≡ opened.history.origin.policy }
@@ -43,7 +43,7 @@ pub fn runs_are_whole_histories()
 {}
 
 /// The client and the agent of a queue are those of its opening, whatever sections come then.
-pub fn queues_keep_their_openings()
+pub fn law_queues_keep_their_openings()
     ensures { (old : Core) (left : List Core) (queue : QueueId) (opening : Opening) → AllFollow old left →
         owner (beginning old.history) old.history.entries queue ≡ Some opening →
         owner (beginning (last_of old left).history) (last_of old left).history.entries queue ≡ Some opening }

@@ -26,8 +26,8 @@ pub use core_model::Served;
 pub use lane::Lane;
 pub use lanes::{Gate, LaneAnswer, run_lanes};
 pub use laws::{
-    opened_queues_belong, queues_keep_their_openings, runs_are_whole_histories,
-    sections_stand_in_order,
+    law_opened_queues_belong, law_queues_keep_their_openings, law_runs_are_whole_histories,
+    law_sections_stand_in_order,
 };
 pub use opening::Opened;
 pub use room::Room;

@@ -1,20 +1,20 @@
 //! Queues are opened, each with its ring and its doorbell.
 
-ghost use Rattle.std.specs.Prelude.{◌≡◌, ℕ, List, ◌<◌, ◌≤◌, IfOk, IfErr, OnOk, Err, [], false, is_some, map, vec_capacity, vec_len};
+ghost use Rattle.std.specs.Prelude.{◌≡◌, ℕ, List, ◌<◌, ◌≤◌, IfOk, IfErr, OnOk, Err, None, [], false, map, vec_capacity, vec_len};
 ghost use Rattle.policy.specs.Results.{map_ok};
 ghost use Rattle.core_model.specs.declared.event.Event.{Event};
 ghost use Rattle.core_model.specs.declared.limits.TheConstants.{QUEUES};
 ghost use Rattle.core_model.specs.declared.outcome.Outcome.{Outcome};
 ghost use Rattle.core_model.specs.Legal.{MeetsOrLacks};
 ghost use Rattle.client_threads.specs.Desks.{seen};
-ghost use Rattle.client_threads.specs.Opening.{IsOpened, as_end, judged_size, opening_event};
+ghost use Rattle.client_threads.specs.Opening.{AreOpened, IsOpened, as_end, judged_size, next_queue, opening_event};
 ghost use Rattle.client_threads.specs.Boards.{PassSeen};
 ghost use Rattle.client_threads.specs.Rings.{AreApart, QueueRing, ring_of};
-ghost use Rattle.client_threads.specs.Sections.{IsSection};
+ghost use Rattle.client_threads.specs.Sections.{IsSection, last_of};
 ghost use Rattle.client_threads.specs.inner.Openings.{HasEntered, IsBeside, IsOpenable};
 
 use crate::board::{Board, Front};
-use crate::broker::{Broker, Desk, find_desk};
+use crate::broker::{Broker, Desk};
 use crate::client_end::ClientEnd;
 use crate::lane::Lane;
 use crate::room::{Held, Room, leave};
@@ -65,38 +65,49 @@ impl<B: Room> Broker<B> {
             size,
             producers,
         };
-        let Broker { held, board, desks } = self;
+        let Broker {
+            held,
+            board,
+            desks,
+            openings,
+        } = self;
         let held = held.get_mut();
-        held.open_queue(alloc, board, desks, front, asked)
+        held.open_queue(alloc, board, desks, &mut openings.front, front, asked)
     }
 }
 
 impl<B: Room> Held<B> {
-    // Opens a queue in a section of its own.
+    // Opens a queue in a section of its own, which the front of all openings has seen then.
     fn open_queue(
         &mut self,
         alloc: Global,
         board: &Board,
         desks: &mut Vec<Desk>,
+        openings: &mut Front,
         front: &mut Front,
         asked: Asked,
     ) -> Result<Opened, Refusal>
         requires board { (board.now ≡ B.board) × (front.old.board ≡ B.board) }
         requires apart { AreApart (map seen desks.old.items) }
+        requires openings { (openings.old.board ≡ B.board) × AreOpened (last_of B.opened openings.old.left) (map seen desks.old.items) }
         ensures board { front.new.board ≡ B.board }
         ensures section { IsSection B.opened front.old.left front.new.left (λ before after.
             MeetsOrLacks (opening_event asked.client asked.agent asked.size asked.producers) before.history after.history (map_ok (λ o. Outcome.Opened o.0) result)) }
         ensures opened { IfOk result (λ o. IsOpened (map seen desks.old.items) asked.size asked.producers front.new o.0 o.1.items o.2 (map seen desks.new.items)) }
         ensures refused { IfErr result (λ _. map seen desks.new.items ≡ map seen desks.old.items) }
         ensures apart { AreApart (map seen desks.new.items) }
+        ensures openings { (openings.new.board ≡ B.board) × AreOpened (last_of B.opened openings.new.left) (map seen desks.new.items) }
     {
         let begun = board.copy(front);
         board.check(&mut self.keeper, begun);
+        let before = board.copy(openings);
+        board.check(&mut self.keeper, before);
         self.core.audit();
         let lent = board.copy(front);
         let opened = open_beside(alloc, &mut self.core, desks, lent, asked);
         self.core.audit();
         *front = leave(board, &mut self.keeper, &self.core);
+        *openings = board.copy(front);
         let last = board.copy(front);
         with_front(opened, last)
     }
@@ -129,37 +140,18 @@ fn judged_size(size: u64, producers: u64) -> u64
     }
 }
 
-// Whether a queue has a ring.
-#[tactic(auto, using(crate::proofs::RingOfDesks::has_ring))]
-fn has_ring(desks: &[Desk], queue: QueueId) -> bool
-    ensures { result ≡ is_some (ring_of queue.0 (map seen desks.now)) }
-{
-    find_desk(desks, queue).is_some()
-}
-
-// The number that a queue will have that is opened next, or why it isn't. A ring of that number, which no queue can have
-// that isn't opened, is told as want of memory.
-#[tactic(auto, using(crate::proofs::Opened::openable, crate::proofs::Opened::refused_meets, crate::proofs::Opened::due_lacks))]
+// The number that a queue will have that is opened next, or why it isn't.
+#[tactic(auto, using(crate::proofs::Opened::openable, crate::proofs::Opened::refused_meets))]
 fn may_open(
     core: &AccessCore,
-    desks: &[Desk],
     client: ClientId,
     agent: AgentHandle,
     size: u64,
 ) -> Result<QueueId, Refusal>
-    ensures may { IfOk result (IsOpenable (map seen desks.now) core.now.history (Event.Open client agent size)) }
+    ensures may { IfOk result (IsOpenable core.now.history (Event.Open client agent size)) }
     ensures why { IfErr result (λ why. MeetsOrLacks (Event.Open client agent size) core.now.history core.now.history (Err why)) }
 {
-    match core.may_open(client, agent, size) {
-        Err(why) => Err(why),
-        Ok(queue) => {
-            if has_ring(desks, queue) {
-                Err(Refusal::OutOfMemory)
-            } else {
-                Ok(queue)
-            }
-        }
-    }
+    core.may_open(client, agent, size)
 }
 
 // The ends of a queue, from the passes to its ring.
@@ -255,7 +247,8 @@ fn enter_queue(
     size: u64,
     made: Beside,
 ) -> Result<Opened, Refusal>
-    requires openable { IsOpenable (map seen desks.old.items) core.old.history (Event.Open client agent size) made.desk.queue }
+    requires openable { IsOpenable core.old.history (Event.Open client agent size) made.desk.queue }
+    requires fresh { ring_of (next_queue core.old.history) (map seen desks.old.items) ≡ None }
     requires room { vec_len desks.old < vec_capacity desks.old }
     requires apart { AreApart (map seen desks.old.items) }
     ensures due { MeetsOrLacks (Event.Open client agent size) core.old.history core.new.history (map_ok (λ o. Outcome.Opened o.0) result) }
@@ -284,6 +277,7 @@ fn open_beside(
     asked: Asked,
 ) -> Result<Opened, Refusal>
     requires apart { AreApart (map seen desks.old.items) }
+    requires fresh { ring_of (next_queue core.old.history) (map seen desks.old.items) ≡ None }
     ensures due { MeetsOrLacks (opening_event asked.client asked.agent asked.size asked.producers) core.old.history core.new.history (map_ok (λ o. Outcome.Opened o.0) result) }
     ensures opened { IfOk result (λ o. IsOpened (map seen desks.old.items) asked.size asked.producers front o.0 o.1.items o.2 (map seen desks.new.items)) }
     ensures refused { IfErr result (λ _. map seen desks.new.items ≡ map seen desks.old.items) }
@@ -296,7 +290,7 @@ fn open_beside(
         producers,
     } = asked;
     let judged = judged_size(size, producers);
-    match may_open(core, desks.as_slice(), client, agent, judged) {
+    match may_open(core, client, agent, judged) {
         Err(why) => Err(why),
         Ok(next) => match make_room(alloc, desks, next, judged, producers, front) {
             Err(_) => Err(Refusal::OutOfMemory),

@@ -8,7 +8,8 @@ ghost use Rattle.client_threads.specs.Rings.{AreApart};
 ghost use Rattle.client_threads.specs.Running.{IsEndOf, IsLaneOf};
 ghost use Rattle.client_threads.specs.Lanes.{LaneSeen};
 ghost use Rattle.client_threads.specs.Takes.{lane_at};
-ghost use Rattle.client_threads.specs.Sections.{IsReached};
+ghost use Rattle.client_threads.specs.Opening.{AreOpened};
+ghost use Rattle.client_threads.specs.Sections.{last_of};
 ghost use Rattle.client_threads.specs.Settling.{AreSettled, IsEnd, IsLedTo, IsQueueSettled, IsRingSettled, IsSettlement, IsShown, IsUnsettledFor, core_of, has_all_passes, has_its_passes, passes_of};
 ghost use Rattle.client_threads.specs.inner.Turns.{HasSeen};
 ghost use Rattle.client_threads.specs.inner.Rooms.{AreReady, AreRoomy, IsRoomFor, IsSomeOf};
@@ -16,7 +17,7 @@ ghost use Rattle.core_model.specs.History.{beginning};
 ghost use Rattle.core_model.specs.Legal.{IsLegal};
 ghost use Rattle.core_model.specs.Rotation.{LeadTo};
 
-use crate::board::{Board, Front};
+use crate::board::{Board, Front, SharedFront};
 use crate::broker::{Broker, Desk};
 use crate::client_end::ClientEnd;
 use crate::lane::Lane;
@@ -336,11 +337,13 @@ fn unsettled<B: Room>(
     held: Held<B>,
     board: Board,
     desks: Vec<Desk>,
+    openings: SharedFront,
     ends: Vec<ClientEnd>,
     lanes: Vec<Lane>,
 ) -> UnsettledBroker<B>
     requires apart { AreApart (map seen desks.items) }
     requires board { board ≡ B.board }
+    requires openings { (openings.board ≡ B.board) × AreOpened (last_of B.opened openings.left) (map seen desks.items) }
     ensures fault { result.fault ≡ fault }
     ensures back { (result.broker ≡ map seen desks.items) × (result.ends.items ≡ ends.items) × (result.lanes.items ≡ lanes.items) }
 {
@@ -348,6 +351,7 @@ fn unsettled<B: Room>(
         held: Mutex::new(held),
         board,
         desks,
+        openings,
     };
     UnsettledBroker {
         fault,
@@ -358,10 +362,9 @@ fn unsettled<B: Room>(
 }
 
 impl<B: Room> Held<B> {
-    // The core, which was reached from the one that was opened.
+    // The core.
     fn core(&self) -> &AccessCore
-        ensures core { result.now ≡ self.now.core }
-        ensures reached { IsReached B.opened self.now.core }
+        ensures { result.now ≡ self.now.core }
     {
         &self.core
     }
@@ -438,34 +441,6 @@ fn settle_in_rooms(
     Settlement::Settled { core, rings }
 }
 
-// Settles a broker just so, whose lanes are shown to have seen its core.
-fn settle_shown<B: Room>(
-    held: Held<B>,
-    board: &Board,
-    front: &mut Front,
-    parts: &[Part],
-    desks: Vec<Desk>,
-    rooms: (Vec<QueueRoom>, Vec<SettledQueue>),
-    ends: Vec<ClientEnd>,
-    lanes: Vec<Lane>,
-) -> Settlement
-    requires led { IsLedTo parts.now held.core }
-    requires board { (board.now ≡ B.board) × (front.old.board ≡ B.board) }
-    requires seen { All (HasSeen B.board) lanes.items }
-    requires apart { AreApart (map seen desks.items) }
-    requires ready { AreReady ends.items lanes.items (map seen desks.items) rooms.0.items ends.items lanes.items }
-    requires none { rooms.1.items ≡ [] }
-    requires room { length desks.items ≤ vec_capacity rooms.1 }
-    ensures front { front.new ≡ front.old }
-    ensures end { IsEnd B.opened front.old.left lanes.items (core_of result) }
-    ensures settled { IsSettlement (map seen desks.items) parts.now ends.items lanes.items result }
-{
-    let mut held = held;
-    let mut lanes = lanes;
-    held.end(board, front, &mut lanes);
-    settle_in_rooms(held.into_core(), parts, desks, rooms, ends, lanes)
-}
-
 /// Settles a broker once its threads have ended, all its ends and lanes have come back, and with all parts that
 /// were handed out of its core, in order. The core is the one that the broker was opened with, as the last section
 /// left it: what the front has seen stands before, and what each lane served stands, in order, among all that it took. Where these parts and the audit have
@@ -491,24 +466,34 @@ pub fn settle_all<B: Room>(
     ensures end { IfOk result (λ settlement. IsEnd B.opened front.old.left lanes.items (core_of settlement)) }
     ensures settled { IfOk result (IsSettlement broker parts.now ends.items lanes.items) }
     ensures all { IfOk result (λ _. has_all_passes broker ends.items lanes.items ≡ true) }
-    ensures fault { IfErr result (λ u. IsUnsettledFor B.opened broker parts.now ends.items lanes.items u.fault) }
+    ensures fault { IfErr result (λ u. IsUnsettledFor B.opened front.old.left broker parts.now ends.items lanes.items u.fault) }
     ensures back { IfErr result (λ u. (u.broker ≡ broker) × (u.ends.items ≡ ends.items) × (u.lanes.items ≡ lanes.items)) }
 {
-    let Broker { held, board, desks } = broker;
-    let held = held.into_inner();
+    let Broker {
+        held,
+        board,
+        desks,
+        openings,
+    } = broker;
+    let mut held = held.into_inner();
+    let mut lanes = lanes;
+    held.end(&board, front, &mut lanes);
     if !has_all_passes(desks.as_slice(), ends.as_slice(), lanes.as_slice()) {
         let why = SettleAllFault::MissingPass;
-        return Err(unsettled(why, held, board, desks, ends, lanes));
+        return Err(unsettled(why, held, board, desks, openings, ends, lanes));
     }
     if !leads(parts, held.core()) {
         let why = SettleAllFault::NotNext;
-        return Err(unsettled(why, held, board, desks, ends, lanes));
+        return Err(unsettled(why, held, board, desks, openings, ends, lanes));
     }
     match get_rooms(alloc, desks.as_slice(), ends.as_slice()) {
         Err(_) => {
             let why = SettleAllFault::OutOfMemory;
-            Err(unsettled(why, held, board, desks, ends, lanes))
+            Err(unsettled(why, held, board, desks, openings, ends, lanes))
         }
-        Ok(rooms) => Ok(settle_shown(held, &board, front, parts, desks, rooms, ends, lanes)),
+        Ok(rooms) => {
+            let core = held.into_core();
+            Ok(settle_in_rooms(core, parts, desks, rooms, ends, lanes))
+        }
     }
 }

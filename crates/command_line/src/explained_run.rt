@@ -4,16 +4,13 @@ use crate::author::told;
 use crate::explaining::{PolicyFile, policy_told, tell};
 use crate::further::Manner;
 use crate::line_reader::LineReader;
-use crate::request::Reads;
 use crate::session::help_told;
 use assemble::{Book, BookError};
 use commands::{Failure, PolicyText, Status, check_kernels, name_failure, tell_end};
 use explain::{Asked, asked_by, bad_line, policy_fault, retold};
 use policy::{Policy, ReadPolicyError, read_policy};
 use readable::{Style, run_by_line};
-use script::{
-    Command, Flow, IoLog, LineAnswer, LineReply, ScriptFault, Watch, run_watched, strictly,
-};
+use script::{Command, Flow, IoLog, LineReply, ScriptFault, Watch, run_watched, strictly};
 use std::alloc::{AllocError, Global};
 use std::io;
 use std::io::Write;
@@ -38,10 +35,13 @@ enum Cause {
     NotDone,
 }
 
-/// A watcher that ends a run where something is to be told of a reply, and keeps what.
+/// A watcher that ends a run where something is to be told of a reply, and keeps what; and what its run goes by.
 #[derive(Drop)]
-struct Explainer {
+struct Explainer<'a, 'b> {
     alloc: Global,
+    // How the lines are read and replied to, and the further policies that they may name.
+    style: Style<'a>,
+    later: &'b [Policy],
     is_strict: bool,
     // Whether it is told why.
     tells: bool,
@@ -54,8 +54,6 @@ struct Explainer {
     wanted: String,
     // How many lines came before those of this run.
     before: u64,
-    // How many further policies there are.
-    later: usize,
     // What the line asked that was asked last.
     asked: Asked,
     // What is to be told, and why the run ended.
@@ -63,10 +61,17 @@ struct Explainer {
     cause: Cause,
 }
 
-impl Explainer {
-    fn new(alloc: Global, manner: Manner, later: usize) -> Explainer {
+impl<'a, 'b> Explainer<'a, 'b> {
+    fn new(
+        alloc: Global,
+        manner: Manner,
+        style: Style<'a>,
+        later: &'b [Policy],
+    ) -> Explainer<'a, 'b> {
         Explainer {
             alloc,
+            style,
+            later,
             is_strict: manner.is_strict,
             tells: manner.is_explaining,
             goes_on: manner.is_session && !manner.is_strict,
@@ -74,10 +79,25 @@ impl Explainer {
             is_by_line: manner.reads.is_readable || manner.reads.is_json,
             wanted: String::new(alloc),
             before: 0,
-            later,
             asked: Asked::Nothing,
             told: String::new(alloc),
             cause: Cause::Telling,
+        }
+    }
+
+    // A reader of a script's lines: behind a run that isn't by line it goes back to the line at which that ended.
+    fn reader_of<'c, R: io::Read>(&self, script: &'c mut R) -> LineReader<'c, R> {
+        if self.is_by_line {
+            LineReader::new(script)
+        } else {
+            LineReader::looking_ahead(script)
+        }
+    }
+
+    // Ends a run at its line of a number.
+    fn end_run<R: io::Read>(&self, number: u64, lines: &mut LineReader<'_, R>) {
+        if !self.is_by_line {
+            lines.end_run(number);
         }
     }
 
@@ -121,7 +141,7 @@ impl Explainer {
     }
 }
 
-impl Watch for Explainer {
+impl Watch for Explainer<'_, '_> {
     ghost use Rattle.std.specs.Prelude.{⊤};
 
     ghost says = { λ told flow. ⊤ };
@@ -157,7 +177,7 @@ fn name_and_tell<E: io::Write>(
 }
 
 // Writes what is to be told behind a line, and says how the command ends, if it does.
-fn tell_of_line<E: io::Write>(explainer: &Explainer, err: &mut E) -> Option<Status> {
+fn tell_of_line<E: io::Write>(explainer: &Explainer<'_, '_>, err: &mut E) -> Option<Status> {
     let told = explainer.told.as_bytes();
     if !told.is_empty() && (err.write_all(told).is_err() || err.flush().is_err()) {
         return Some(Status::Failed);
@@ -171,16 +191,17 @@ fn tell_of_line<E: io::Write>(explainer: &Explainer, err: &mut E) -> Option<Stat
 // Runs what is left of a script up to the next explanation.
 fn run_on<R: io::Read, O: io::Write>(
     world: &mut World,
-    later: &[Policy],
-    explainer: &mut Explainer,
-    style: Style<'_>,
+    explainer: &mut Explainer<'_, '_>,
     lines: &mut LineReader<'_, R>,
     out: &mut O,
 ) -> Result<(), ScriptFault> {
+    let alloc = explainer.alloc;
+    let style = explainer.style;
+    let later = explainer.later;
     if explainer.is_by_line {
-        let mut wanted = String::new(explainer.alloc);
+        let mut wanted = String::new(alloc);
         let ended = run_by_line(
-            explainer.alloc,
+            alloc,
             world,
             later,
             explainer,
@@ -193,24 +214,20 @@ fn run_on<R: io::Read, O: io::Write>(
         return ended;
     }
     let mut answers = IoLog::none();
-    run_watched(
-        explainer.alloc,
-        lines,
-        out,
-        world,
-        later,
-        explainer,
-        &mut answers,
-    )
+    run_watched(alloc, lines, out, world, later, explainer, &mut answers)
 }
 
 // What is told of a line of no form.
-fn bad_line_told(explainer: &Explainer, line: &[u8], number: u64) -> Result<String, AllocError> {
+fn bad_line_told(
+    explainer: &Explainer<'_, '_>,
+    line: &[u8],
+    number: u64,
+) -> Result<String, AllocError> {
     let wanted = explainer.wanted.as_str();
     if !wanted.is_empty() {
         format!(in explainer.alloc; "{wanted}\n")
     } else if explainer.tells {
-        bad_line(explainer.alloc, line, number, explainer.later)
+        bad_line(explainer.alloc, line, number, explainer.later.len())
     } else {
         Ok(String::new(explainer.alloc))
     }
@@ -218,7 +235,7 @@ fn bad_line_told(explainer: &Explainer, line: &[u8], number: u64) -> Result<Stri
 
 // Names a line of no form, and tells why.
 fn name_bad_line<E: io::Write>(
-    explainer: &Explainer,
+    explainer: &Explainer<'_, '_>,
     line: &[u8],
     number: u64,
     err: &mut E,
@@ -244,7 +261,7 @@ fn write_help<E: io::Write>(
 
 // Tells of a line of no form behind which the run goes on, and says how the command ends, if it does.
 fn tell_and_go_on<E: io::Write>(
-    explainer: &mut Explainer,
+    explainer: &mut Explainer<'_, '_>,
     line: &[u8],
     number: u64,
     err: &mut E,
@@ -262,10 +279,11 @@ fn tell_and_go_on<E: io::Write>(
 // Tells of a line of no form, and says how the command ends, if it does.
 fn tell_of_bad_line<R: io::Read, E: io::Write>(
     number: u64,
-    explainer: &mut Explainer,
+    explainer: &mut Explainer<'_, '_>,
     lines: &mut LineReader<'_, R>,
     err: &mut E,
 ) -> Option<Status> {
+    explainer.end_run(number, lines);
     let whole = explainer.number_of(number);
     if !explainer.goes_on {
         return Some(name_bad_line(explainer, lines.line(), whole, err));
@@ -278,7 +296,7 @@ fn tell_of_bad_line<R: io::Read, E: io::Write>(
 }
 
 // How the command ends behind the last line.
-fn ended_with(status: Status, explainer: &Explainer) -> Status {
+fn ended_with(status: Status, explainer: &Explainer<'_, '_>) -> Status {
     if status == Status::Done && explainer.has_gone_on {
         Status::Refused
     } else {
@@ -289,12 +307,13 @@ fn ended_with(status: Status, explainer: &Explainer) -> Status {
 // Tells how a run ended, and says how the command ends, if it does.
 fn tell_of_run<R: io::Read, E: io::Write>(
     ended: Result<(), ScriptFault>,
-    explainer: &mut Explainer,
+    explainer: &mut Explainer<'_, '_>,
     lines: &mut LineReader<'_, R>,
     err: &mut E,
 ) -> Option<Status> {
     match ended {
         Err(ScriptFault::Stopped(number)) => {
+            explainer.end_run(number, lines);
             let status = tell_of_line(explainer, err);
             explainer.go_on(number);
             status
@@ -309,17 +328,15 @@ fn tell_of_run<R: io::Read, E: io::Write>(
 
 // Runs a script over a world, and tells how that ended.
 fn run_in<R: io::Read, O: io::Write, E: io::Write>(
-    explainer: &mut Explainer,
-    style: Style<'_>,
+    explainer: &mut Explainer<'_, '_>,
     world: &mut World,
-    later: &[Policy],
     script: &mut R,
     out: &mut O,
     err: &mut E,
 ) -> Status {
-    let mut lines = LineReader::new(script);
+    let mut lines = explainer.reader_of(script);
     for _ in 0..MOST_RUNS {
-        let ended = run_on(world, later, explainer, style, &mut lines, out);
+        let ended = run_on(world, explainer, &mut lines, out);
         if let Some(status) = tell_of_run(ended, explainer, &mut lines, err) {
             return status;
         }
@@ -327,10 +344,25 @@ fn run_in<R: io::Read, O: io::Write, E: io::Write>(
     name(explainer.alloc, err, Failure::Read)
 }
 
-// Runs a script over a world in the style that is asked, with the policy that its readable lines go by.
+// Runs a script over a world in a style, with further policies.
 fn run_in_style<R: io::Read, O: io::Write, E: io::Write>(
-    explainer: &mut Explainer,
-    reads: Reads,
+    alloc: Global,
+    manner: Manner,
+    style: Style<'_>,
+    world: &mut World,
+    later: &[Policy],
+    script: &mut R,
+    out: &mut O,
+    err: &mut E,
+) -> Status {
+    let mut explainer = Explainer::new(alloc, manner, style, later);
+    run_in(&mut explainer, world, script, out, err)
+}
+
+// Runs a script over a world in the style that is asked, with the policy that its readable lines go by.
+fn run_as_asked<R: io::Read, O: io::Write, E: io::Write>(
+    alloc: Global,
+    manner: Manner,
     text: &[u8],
     world: &mut World,
     later: &[Policy],
@@ -338,22 +370,23 @@ fn run_in_style<R: io::Read, O: io::Write, E: io::Write>(
     out: &mut O,
     err: &mut E,
 ) -> Status {
-    let style = Style {
-        book: None,
-        is_json: reads.is_json,
-    };
-    if !reads.is_readable {
-        return run_in(explainer, style, world, later, script, out, err);
+    let is_json = manner.reads.is_json;
+    if !manner.reads.is_readable {
+        let style = Style {
+            book: None,
+            is_json,
+        };
+        return run_in_style(alloc, manner, style, world, later, script, out, err);
     }
-    match Book::read(explainer.alloc, text) {
+    match Book::read(alloc, text) {
         Ok(book) => {
             let style = Style {
                 book: Some(&book),
-                ..style
+                is_json,
             };
-            run_in(explainer, style, world, later, script, out, err)
+            run_in_style(alloc, manner, style, world, later, script, out, err)
         }
-        Err(BookError::OutOfMemory) => name(explainer.alloc, err, Failure::OutOfMemory),
+        Err(BookError::OutOfMemory) => name(alloc, err, Failure::OutOfMemory),
         Err(BookError::Refused) => Status::Refused,
     }
 }
@@ -461,10 +494,9 @@ pub fn run_explaining<R: io::Read, O: io::Write, E: io::Write>(
         let told = told_if(alloc, manner, further_told(alloc, further, place, why));
         return name_and_tell(alloc, err, Failure::of_reading(why), told);
     }
-    let mut explainer = Explainer::new(alloc, manner, later.len());
-    run_in_style(
-        &mut explainer,
-        manner.reads,
+    run_as_asked(
+        alloc,
+        manner,
         file.text,
         &mut world,
         later.as_slice(),

@@ -1,6 +1,7 @@
 //! What the help and the version say beside the commands.
 
-use script::line_forms;
+use crate::meanings::causes;
+use script::{Occasion, RuleRow, line_forms, refusal_rows, rule_rows};
 use std::alloc::{AllocError, Global};
 
 /// The program's version, and the kit that it is proved with.
@@ -12,7 +13,7 @@ const FORMS_TITLE: &str = "Lines of a script (docs/scripts.md):\n";
 // Where the second of two forms on a line begins, behind the indent.
 const COLUMN: usize = 40;
 
-// What stands below the forms of lines.
+// What stands below the forms of lines, up to the names.
 const BELOW_FORMS: &str = "\
 Q is the number of a queue, T a ticket; KIND is agent, region, signal or kernel; RIGHT is USE, READ, WRITE, WAIT, CHANGE
 or LAUNCH, and - for none; OP is store, add, subtract, and, or, xor or exchange; CONDITION is EQ, NE, LT or GTE.
@@ -30,19 +31,116 @@ A file that is called - is standard input. On a terminal faults are explained un
 goes on after a line of no form, and knows help and help WORD.
 
 Names that explain tells:
-  rules      L1 to L10, A1 to A7, B1
-  refusals   0 OutOfMemory 1 UnknownClient 2 UnknownQueue 3 Denied 4 Busy 5 NotAllowed 6 OutOfStep 7 QueueDown
-             8 NotInFlight 9 NotFinished 10 AuditFull 11 BadSize 12 TooMany 13 UnknownObject 14 NotAStep 15 Spent
-             16 OtherObjects
-  policy     1 NotToml 2 MissingKey 3 BadValue 4 UnknownName 5 DoubleName 6 TooMany
-  read       1 Lexeme 2 Syntax 3 NotInProfile 4 TooLong
-  check      1 UnknownLabel 2 DoubleName 3 WrongRegister 4 WrongType 5 UnknownArgument 6 TooLarge 7 BadAddress
-  rights     USE READ WRITE WAIT CHANGE LAUNCH
+";
+
+// What stands below the names of rules, refusals and causes.
+const BELOW_NAMES: &str = "  rights     USE READ WRITE WAIT CHANGE LAUNCH
   waiting    Barrier Active Slots, or waiting for all
   lines      the first word of a line, or lines for all
 
 Exit status: 0 all went well; 1 the policy, a kernel or a line is refused; 2 the command line isn't understood;
 3 reading, writing or memory failed.";
+
+// How many bytes a line of names has at the most.
+const WIDTH: usize = 120;
+
+// What stands before a further line of names: as much as before the first.
+const INDENT: &str = "             ";
+
+// Puts a number and a name behind those before it, of which so many bytes stand in the line.
+fn put_name(
+    alloc: Global,
+    out: &mut String,
+    before: usize,
+    number: u8,
+    name: &str,
+) -> Result<usize, AllocError> {
+    let text = format!(in alloc; "{number} {name}")?;
+    let length = before.saturating_add(1).saturating_add(text.len());
+    if before == 0 || length > WIDTH {
+        out.push_str(if before == 0 { "" } else { "\n" })?;
+        out.push_str(if before == 0 { "" } else { INDENT })?;
+        out.push_str(text.as_str())?;
+        return Ok(INDENT.len().saturating_add(text.len()));
+    }
+    out.push_str(" ")?;
+    out.push_str(text.as_str())?;
+    Ok(length)
+}
+
+// Puts the refusals in the order of their numbers.
+fn put_refusals(alloc: Global, out: &mut String) -> Result<(), AllocError> {
+    out.push_str("  refusals   ")?;
+    let mut before = 0;
+    for row in refusal_rows() {
+        before = put_name(alloc, out, before, row.number, row.name)?;
+    }
+    out.push_str("\n")
+}
+
+// Puts the causes of faults of a kind in the order of their numbers, behind this title.
+fn put_causes(alloc: Global, out: &mut String, title: &str, kind: &str) -> Result<(), AllocError> {
+    out.push_str(title)?;
+    let mut before = 0;
+    for row in causes() {
+        if row.kind == kind {
+            before = put_name(alloc, out, before, row.number, row.name)?;
+        }
+    }
+    out.push_str("\n")
+}
+
+// The name of the first of some rules that is asked on an occasion.
+fn first_of(rows: &[RuleRow], occasion: Occasion) -> &'static str {
+    for row in rows {
+        if row.occasion == occasion {
+            return row.name;
+        }
+    }
+    ""
+}
+
+// The name of the last of some rules that is asked on an occasion.
+fn last_of(rows: &[RuleRow], occasion: Occasion) -> &'static str {
+    for row in rows.iter().rev() {
+        if row.occasion == occasion {
+            return row.name;
+        }
+    }
+    ""
+}
+
+// Puts the names of the rules that are asked on an occasion: the first and the last.
+fn put_rules_of(out: &mut String, occasion: Occasion) -> Result<(), AllocError> {
+    let first = first_of(rule_rows(), occasion);
+    let last = last_of(rule_rows(), occasion);
+    out.push_str(first)?;
+    if first != last {
+        out.push_str(" to ")?;
+        out.push_str(last)?;
+    }
+    Ok(())
+}
+
+// Puts the names of the rules.
+fn put_rules(out: &mut String) -> Result<(), AllocError> {
+    out.push_str("  rules      ")?;
+    put_rules_of(out, Occasion::Launch)?;
+    out.push_str(", ")?;
+    put_rules_of(out, Occasion::Work)?;
+    out.push_str(", ")?;
+    put_rules_of(out, Occasion::Poll)?;
+    out.push_str("\n")
+}
+
+// Puts the names that `explain` tells and that stand in tables.
+fn put_names(alloc: Global, out: &mut String) -> Result<(), AllocError> {
+    put_rules(out)?;
+    put_refusals(alloc, out)?;
+    put_causes(alloc, out, "  policy     ", "policy")?;
+    put_causes(alloc, out, "  read       ", "read")?;
+    put_causes(alloc, out, "  check      ", "check")
+}
 
 // Puts a form behind those before it, where the line has one of that width already, or none.
 fn put_form(out: &mut String, form: &str, before: usize) -> Result<usize, AllocError> {
@@ -79,5 +177,7 @@ pub fn further_help(alloc: Global) -> Result<String, AllocError> {
     out.push_str(FORMS_TITLE)?;
     put_forms(alloc, &mut out)?;
     out.push_str(BELOW_FORMS)?;
+    put_names(alloc, &mut out)?;
+    out.push_str(BELOW_NAMES)?;
     Ok(out)
 }

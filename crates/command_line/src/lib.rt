@@ -36,5 +36,5 @@ pub use explaining::{PolicyFile, check_explaining};
 pub use listing::{ListForm, list_policy};
 pub use meanings::explained;
 pub use perform::{obey, out_of_memory};
-pub use request::{Asked, Reads, Request, Unread, read_words};
+pub use request::{Asked, Invocation, Reads, Unread, read_words};
 pub use threads::{AskedLoad, run_threads};

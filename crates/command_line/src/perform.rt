@@ -7,7 +7,7 @@ use crate::further::{Manner, run};
 use crate::listing::{ListForm, list_policy};
 use crate::recording::Recorded;
 use crate::replayed::{Shown, run_with_journal, show_journal};
-use crate::request::{Asked, Request, Unread, read_words};
+use crate::request::{Asked, Invocation, Unread, read_words};
 use crate::retelling::replay_telling;
 use crate::syntax::MOST_NEXT;
 use crate::threads::{AskedLoad, run_threads};
@@ -261,14 +261,14 @@ fn print_line(rt: &HostRuntime, verb: &str) -> Status {
 // Runs a script as is asked, or draws its run.
 fn perform_run(rt: &HostRuntime, asked: &Asked<'_>) -> Option<Status> {
     let (policy, manner) = match asked.request {
-        Request::Run { policy, places } => (policy, Manner::plain(places)),
-        Request::RunStrictly { policy, places } => (policy, Manner::strict(places)),
-        Request::RunExplaining {
+        Invocation::Run { policy, places } => (policy, Manner::plain(places)),
+        Invocation::RunStrictly { policy, places } => (policy, Manner::strict(places)),
+        Invocation::RunExplaining {
             policy,
             places,
             is_strict,
         } => (policy, Manner::explaining(places, is_strict)),
-        Request::RunByLine {
+        Invocation::RunByLine {
             policy,
             places,
             is_strict,
@@ -283,7 +283,7 @@ fn perform_run(rt: &HostRuntime, asked: &Asked<'_>) -> Option<Status> {
                 ..Manner::plain(places)
             },
         ),
-        Request::Picture {
+        Invocation::Picture {
             policy,
             places,
             span,
@@ -297,13 +297,13 @@ fn perform_run(rt: &HostRuntime, asked: &Asked<'_>) -> Option<Status> {
 // Draws a journal, or tells it.
 fn perform_shown(rt: &HostRuntime, asked: &Asked<'_>) -> Option<Status> {
     let (policy, shown, explains, journal) = match asked.request {
-        Request::PictureOfJournal {
+        Invocation::PictureOfJournal {
             policy,
             span,
             explains,
             journal,
         } => (policy, Shown::Drawn { span }, explains, journal),
-        Request::ExplainJournal {
+        Invocation::ExplainJournal {
             policy,
             explains,
             journal,
@@ -318,7 +318,7 @@ fn perform_shown(rt: &HostRuntime, asked: &Asked<'_>) -> Option<Status> {
 fn perform_journal(rt: &HostRuntime, asked: &Asked<'_>) -> Option<Status> {
     let further = asked.further.as_slice();
     match asked.request {
-        Request::RunRecording {
+        Invocation::RunRecording {
             policy,
             places,
             is_strict,
@@ -332,7 +332,7 @@ fn perform_journal(rt: &HostRuntime, asked: &Asked<'_>) -> Option<Status> {
             };
             Some(run_with_journal(rt, policy, further, manner, journal))
         }
-        Request::Replay {
+        Invocation::Replay {
             policy,
             tells_state,
             explains,
@@ -344,28 +344,28 @@ fn perform_journal(rt: &HostRuntime, asked: &Asked<'_>) -> Option<Status> {
 // Does what is asked of a file that isn't run, of a word or of digits, and tells the exit status.
 fn perform_alone(rt: &HostRuntime, asked: &Asked<'_>) -> u8 {
     match asked.request {
-        Request::Check { policy } => check(rt, policy).number(),
-        Request::CheckExplaining { policy } => check_and_explain(rt, policy).number(),
-        Request::List {
+        Invocation::Check { policy } => check(rt, policy).number(),
+        Invocation::CheckExplaining { policy } => check_and_explain(rt, policy).number(),
+        Invocation::List {
             policy,
             form,
             explains,
         } => list(rt, policy, form, explains).number(),
-        Request::Kernel { file, explains } => kernel(rt, file, explains).number(),
-        Request::Assemble { policy, explains } => assemble_by(rt, policy, explains).number(),
-        Request::Explain { word } => number_of(explain(rt, word)),
-        Request::Decode { slots, explains } => {
+        Invocation::Kernel { file, explains } => kernel(rt, file, explains).number(),
+        Invocation::Assemble { policy, explains } => assemble_by(rt, policy, explains).number(),
+        Invocation::Explain { word } => number_of(explain(rt, word)),
+        Invocation::Decode { slots, explains } => {
             decode(rt, slots, asked.further.as_slice(), explains)
         }
-        Request::Page { page } => print_text(rt, page.text()).number(),
-        Request::Line { verb } => print_line(rt, verb).number(),
+        Invocation::Page { page } => print_text(rt, page.text()).number(),
+        Invocation::Line { verb } => print_line(rt, verb).number(),
         _ => NOT_UNDERSTOOD,
     }
 }
 
 // Does what is asked, and tells the exit status.
 fn perform<R: Threads + Wait + Sync>(rt: &HostRuntime, threads: &R, asked: &Asked<'_>) -> u8 {
-    if let Request::Threads {
+    if let Invocation::Threads {
         policy,
         producers,
         packets,

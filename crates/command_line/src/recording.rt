@@ -40,20 +40,20 @@ enum Cause {
 
 /// A watcher that writes what happened into a journal, and keeps what is to be told of a reply.
 #[derive(Drop)]
-struct Recorder<'a, J> {
+struct Recorder<'a, 'b, J> {
     alloc: Global,
     journal: JournalWriter<'a, J>,
     manner: Recorded,
-    // How many lines came before those of this run, and how many further policies there are.
+    // The further policies that lines may name, and how many lines came before those of this run.
+    later: &'b [Policy],
     before: u64,
-    later: usize,
     // What the line asked that was asked last, what is to be told, and why the run ended.
     asked: Asked,
     told: String,
     cause: Cause,
 }
 
-impl<'a, J: io::Write> Recorder<'a, J> {
+impl<'a, 'b, J: io::Write> Recorder<'a, 'b, J> {
     // Whether the run ends here, and why.
     fn end_behind(&self, world: &World, is_done: bool) -> Option<Cause> {
         if !is_done {
@@ -95,7 +95,7 @@ impl<'a, J: io::Write> Recorder<'a, J> {
     }
 }
 
-impl<'a, J: io::Write> Watch for Recorder<'a, J> {
+impl<'a, 'b, J: io::Write> Watch for Recorder<'a, 'b, J> {
     ghost use Rattle.std.specs.Prelude.{⊤};
 
     ghost says = { λ told flow. ⊤ };
@@ -135,7 +135,7 @@ fn name<E: io::Write>(alloc: Global, err: &mut E, failure: Failure) -> Status {
 // Writes the last line of the journal, and says how the command ends. Where it has failed already, that is told, and no more.
 fn end_journal<J: io::Write, E: io::Write>(
     alloc: Global,
-    recorder: &mut Recorder<'_, J>,
+    recorder: &mut Recorder<'_, '_, J>,
     err: &mut E,
     status: Status,
 ) -> Status {
@@ -155,7 +155,7 @@ fn rotate(alloc: Global, world: &mut World) -> Option<Failure> {
 
 // Writes what is to be told behind a line; it fails where that can't be written.
 fn tell_of_line<J: io::Write, E: io::Write>(
-    recorder: &mut Recorder<'_, J>,
+    recorder: &mut Recorder<'_, '_, J>,
     err: &mut E,
 ) -> Option<Status> {
     let told = recorder.told.as_bytes();
@@ -170,7 +170,7 @@ fn tell_of_line<J: io::Write, E: io::Write>(
 fn go_on<J: io::Write, E: io::Write>(
     alloc: Global,
     world: &mut World,
-    recorder: &mut Recorder<'_, J>,
+    recorder: &mut Recorder<'_, '_, J>,
     err: &mut E,
 ) -> Option<Status> {
     if let Some(status) = tell_of_line(recorder, err) {
@@ -190,14 +190,14 @@ fn go_on<J: io::Write, E: io::Write>(
 // Names a line of no form, tells why, and says how the command ends.
 fn name_bad_line<J: io::Write, E: io::Write>(
     alloc: Global,
-    recorder: &Recorder<'_, J>,
+    recorder: &Recorder<'_, '_, J>,
     line: &[u8],
     number: u64,
     err: &mut E,
 ) -> Status {
     match name(alloc, err, Failure::Line(number)) {
         Status::Refused if recorder.manner.explains => {
-            let told = bad_line(alloc, line, number, recorder.later);
+            let told = bad_line(alloc, line, number, recorder.later.len());
             tell(err, told, Status::Refused)
         }
         status => status,
@@ -208,17 +208,19 @@ fn name_bad_line<J: io::Write, E: io::Write>(
 fn tell_of_run<R: io::Read, J: io::Write, E: io::Write>(
     alloc: Global,
     world: &mut World,
-    recorder: &mut Recorder<'_, J>,
-    lines: &LineReader<'_, R>,
+    recorder: &mut Recorder<'_, '_, J>,
+    lines: &mut LineReader<'_, R>,
     ended: Result<(), ScriptFault>,
     err: &mut E,
 ) -> Option<Status> {
     match ended {
         Err(ScriptFault::Stopped(number)) => {
+            lines.end_run(number);
             recorder.before = recorder.number_of(number);
             go_on(alloc, world, recorder, err)
         }
         Err(ScriptFault::BadLine(number)) => {
+            lines.end_run(number);
             let whole = recorder.number_of(number);
             let status = name_bad_line(alloc, recorder, lines.line(), whole, err);
             Some(end_journal(alloc, recorder, err, status))
@@ -234,14 +236,14 @@ fn tell_of_run<R: io::Read, J: io::Write, E: io::Write>(
 fn run_in<R: io::Read, O: io::Write, E: io::Write, J: io::Write>(
     alloc: Global,
     world: World,
-    later: &[Policy],
-    recorder: &mut Recorder<'_, J>,
+    recorder: &mut Recorder<'_, '_, J>,
     script: &mut R,
     out: &mut O,
     err: &mut E,
 ) -> Status {
     let mut world = world;
-    let mut lines = LineReader::new(script);
+    let later = recorder.later;
+    let mut lines = LineReader::looking_ahead(script);
     for _ in 0..MOST_RUNS {
         let mut answers = IoLog::none();
         let ended = run_watched(
@@ -253,7 +255,7 @@ fn run_in<R: io::Read, O: io::Write, E: io::Write, J: io::Write>(
             recorder,
             &mut answers,
         );
-        if let Some(status) = tell_of_run(alloc, &mut world, recorder, &lines, ended, err) {
+        if let Some(status) = tell_of_run(alloc, &mut world, recorder, &mut lines, ended, err) {
             return status;
         }
     }
@@ -279,13 +281,13 @@ fn run_world<R: io::Read, O: io::Write, E: io::Write, J: io::Write>(
                 alloc,
                 journal,
                 manner,
+                later,
                 before: 0,
-                later: later.len(),
                 asked: Asked::Nothing,
                 told: String::new(alloc),
                 cause: Cause::Full,
             };
-            run_in(alloc, world, later, &mut recorder, script, out, err)
+            run_in(alloc, world, &mut recorder, script, out, err)
         }
         Err(fault) => name(alloc, err, failure_of(fault)),
     }

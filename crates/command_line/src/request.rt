@@ -27,7 +27,7 @@ pub struct Reads {
 
 /// What a command line asks for (own).
 #[derive(Clone, Copy, Debug, PartialEq, Eq)]
-pub enum Request<'a> {
+pub enum Invocation<'a> {
     /// `check POLICY`: to check the policy in this file.
     Check {
         policy: &'a str,
@@ -150,7 +150,7 @@ pub enum Request<'a> {
 /// picture, at most 16, or the digits of a packet (own).
 #[derive(Debug, Drop)]
 pub struct Asked<'a> {
-    pub request: Request<'a>,
+    pub request: Invocation<'a>,
     pub further: Vec<&'a str>,
 }
 
@@ -211,11 +211,11 @@ fn explains_in(asked: &ArgMatches<'_>, unasked: bool) -> bool {
 }
 
 // The request of `run` with its arguments.
-fn run_request<'a>(policy: &'a str, asked: &ArgMatches<'a>, explains: bool) -> Request<'a> {
+fn run_request<'a>(policy: &'a str, asked: &ArgMatches<'a>, explains: bool) -> Invocation<'a> {
     let places = places_in(asked);
     let is_strict = asked.get_flag(STRICT);
     if let Some(journal) = asked.get_str(JOURNAL) {
-        return Request::RunRecording {
+        return Invocation::RunRecording {
             policy,
             places,
             is_strict,
@@ -228,7 +228,7 @@ fn run_request<'a>(policy: &'a str, asked: &ArgMatches<'a>, explains: bool) -> R
         is_json: asked.get_flag(JSON),
     };
     if reads.is_readable || reads.is_json {
-        Request::RunByLine {
+        Invocation::RunByLine {
             policy,
             places,
             is_strict,
@@ -236,29 +236,29 @@ fn run_request<'a>(policy: &'a str, asked: &ArgMatches<'a>, explains: bool) -> R
             reads,
         }
     } else if explains {
-        Request::RunExplaining {
+        Invocation::RunExplaining {
             policy,
             places,
             is_strict,
         }
     } else if is_strict {
-        Request::RunStrictly { policy, places }
+        Invocation::RunStrictly { policy, places }
     } else {
-        Request::Run { policy, places }
+        Invocation::Run { policy, places }
     }
 }
 
 // The request of `picture` with its arguments.
-fn picture_request<'a>(policy: &'a str, asked: &ArgMatches<'a>, explains: bool) -> Request<'a> {
+fn picture_request<'a>(policy: &'a str, asked: &ArgMatches<'a>, explains: bool) -> Invocation<'a> {
     let span = span_in(asked);
     match asked.get_str(JOURNAL) {
-        Some(journal) => Request::PictureOfJournal {
+        Some(journal) => Invocation::PictureOfJournal {
             policy,
             span,
             explains,
             journal,
         },
-        None => Request::Picture {
+        None => Invocation::Picture {
             policy,
             places: places_in(asked),
             span,
@@ -268,14 +268,14 @@ fn picture_request<'a>(policy: &'a str, asked: &ArgMatches<'a>, explains: bool) 
 }
 
 // The request of `explain` with its arguments: with a journal, its word is a policy's file.
-fn explain_request<'a>(word: &'a str, asked: &ArgMatches<'a>, explains: bool) -> Request<'a> {
+fn explain_request<'a>(word: &'a str, asked: &ArgMatches<'a>, explains: bool) -> Invocation<'a> {
     match asked.get_str(JOURNAL) {
-        Some(journal) => Request::ExplainJournal {
+        Some(journal) => Invocation::ExplainJournal {
             policy: word,
             explains,
             journal,
         },
-        None => Request::Explain { word },
+        None => Invocation::Explain { word },
     }
 }
 
@@ -291,18 +291,18 @@ fn list_form_in(asked: &ArgMatches<'_>) -> Option<ListForm> {
 }
 
 // The request of `check` with its arguments.
-fn check_request<'a>(policy: &'a str, asked: &ArgMatches<'a>, explains: bool) -> Request<'a> {
+fn check_request<'a>(policy: &'a str, asked: &ArgMatches<'a>, explains: bool) -> Invocation<'a> {
     if let Some(form) = list_form_in(asked) {
-        return Request::List {
+        return Invocation::List {
             policy,
             form,
             explains,
         };
     }
     if explains {
-        Request::CheckExplaining { policy }
+        Invocation::CheckExplaining { policy }
     } else {
-        Request::Check { policy }
+        Invocation::Check { policy }
     }
 }
 
@@ -311,19 +311,19 @@ fn policy_request<'a>(
     command: &str,
     asked: &ArgMatches<'a>,
     explains: bool,
-) -> Option<Request<'a>> {
+) -> Option<Invocation<'a>> {
     let policy = asked.get_str(POLICY)?;
     match command {
         CHECK => Some(check_request(policy, asked, explains)),
         RUN => Some(run_request(policy, asked, explains)),
         PICTURE => Some(picture_request(policy, asked, explains)),
-        ASSEMBLE => Some(Request::Assemble { policy, explains }),
-        REPLAY => Some(Request::Replay {
+        ASSEMBLE => Some(Invocation::Assemble { policy, explains }),
+        REPLAY => Some(Invocation::Replay {
             policy,
             tells_state: asked.get_flag(STATE),
             explains,
         }),
-        THREADS => Some(Request::Threads {
+        THREADS => Some(Invocation::Threads {
             policy,
             producers: asked.get_one(PRODUCERS)?,
             packets: asked.get_one(PACKETS),
@@ -335,14 +335,14 @@ fn policy_request<'a>(
 }
 
 // The request of a command with its arguments.
-fn request_of<'a>(command: &str, asked: &ArgMatches<'a>, unasked: bool) -> Option<Request<'a>> {
+fn request_of<'a>(command: &str, asked: &ArgMatches<'a>, unasked: bool) -> Option<Invocation<'a>> {
     match command {
         EXPLAIN => Some(explain_request(asked.get_str(WORD)?, asked, unasked)),
-        DECODE => Some(Request::Decode {
+        DECODE => Some(Invocation::Decode {
             slots: asked.get_str(SLOTS),
             explains: explains_in(asked, unasked),
         }),
-        KERNEL => Some(Request::Kernel {
+        KERNEL => Some(Invocation::Kernel {
             file: asked.get_str(FILE)?,
             explains: explains_in(asked, unasked),
         }),
@@ -375,8 +375,8 @@ fn asks_for_room_of_journal(asked: &ArgMatches<'_>) -> bool {
 }
 
 // Whether a word is explained alone, and further words stand behind it.
-fn has_words_behind(request: &Request<'_>, further: &[&str]) -> bool {
-    matches!(request, Request::Explain { .. }) && !further.is_empty()
+fn has_words_behind(request: &Invocation<'_>, further: &[&str]) -> bool {
+    matches!(request, Invocation::Explain { .. }) && !further.is_empty()
 }
 
 // What a command with its arguments asks for.
@@ -482,13 +482,13 @@ pub fn read_words<'a>(
 ) -> Result<Asked<'a>, Unread> {
     if let Some(page) = page_asked(words) {
         return Ok(Asked {
-            request: Request::Page { page },
+            request: Invocation::Page { page },
             further: Vec::new(alloc),
         });
     }
     if let Some(verb) = line_asked(alloc, words)? {
         return Ok(Asked {
-            request: Request::Line { verb },
+            request: Invocation::Line { verb },
             further: Vec::new(alloc),
         });
     }

@@ -19,7 +19,7 @@ pub use draw::{draw_policies, draw_policies_noting};
 pub use failure::{Failure, name_failure, tell_end};
 pub use further::PolicyText;
 pub use kernel_judging::{KernelCause, KernelError, KernelFault, check_kernels};
-pub use laws::missing_entries_are_told;
+pub use laws::law_missing_entries_are_told;
 pub use picture::Span;
 pub use run::{run_policies, run_policies_watched, run_policy, run_strictly};
 pub use status::Status;

@@ -16,8 +16,8 @@ use Rattle.queue_error.specs.declared.error.QueueError.{QueueError}
 use Rattle.core_model.specs.declared.event.Event.{Event}
 use Rattle.core_model.specs.declared.event.Event.TheVariants.{Open, Take, Reload, Call}
 use Rattle.core_model.specs.declared.call.Call.TheVariants.{Grant, Revoke, Stop, RunNext, Poll, Finish, HostWrite, ChangeSignal}
-use Rattle.core_model.specs.declared.event.Request.{Request}
-use Rattle.core_model.specs.declared.event.Request.TheVariants as request
+use Rattle.core_model.specs.declared.event.CoreRequest.{CoreRequest}
+use Rattle.core_model.specs.declared.event.CoreRequest.TheVariants as request
 use Rattle.core_model.specs.declared.outcome.Outcome.{Outcome}
 use Rattle.core_model.specs.declared.outcome.Outcome.TheVariants as outcome
 use Rattle.core_model.specs.declared.outcome.Worked.TheVariants as worked
@@ -317,7 +317,7 @@ module _ (old : History) (room : HasRoom old) (event : Event) where
   event-roomy new reply (inl meets) = subst HasRoom (sym meets.history_is) (roomy-after (owed (beginning old) old.entries event))
   event-roomy new reply (inr lacks) = subst HasRoom (sym lacks.history_is) room
 
-request-roomy : (old new : History) (asked : Request) (reply : AnswerOrRefusal) → HasRoom old → IsServed old asked reply new → HasRoom new
+request-roomy : (old new : History) (asked : CoreRequest) (reply : AnswerOrRefusal) → HasRoom old → IsServed old asked reply new → HasRoom new
 request-roomy old new (request.Open client agent size) reply room served = event-roomy old room (Open client agent size) new served.0 served.2
 request-roomy old new (request.Take queue packet bytes) reply room served = event-roomy old room (Take queue packet bytes) new served.0 served.2
 request-roomy old new (request.Call asked) reply room served = event-roomy old room (Call asked) new served.0 served.2
@@ -328,7 +328,7 @@ request-roomy old new (request.Reload policy) reply room served = by_reload serv
     by_reload (inl other) = subst HasRoom (sym other.history_is) room
     by_reload (inr same) = event-roomy old room (Reload policy.rows) new served.0 same.1
 
-pub list-roomy : (old new : History) (requests : List Request) (replies : List AnswerOrRefusal) → HasRoom old → AreReplies old requests replies new → HasRoom new
+pub list-roomy : (old new : History) (requests : List CoreRequest) (replies : List AnswerOrRefusal) → HasRoom old → AreReplies old requests replies new → HasRoom new
 list-roomy old new [] [] room is = subst HasRoom (sym is) room
 list-roomy old new (asked ∷ requests) (reply ∷ replies) room are = list-roomy are.0 new requests replies (request-roomy old are.0 asked reply room are.1) are.2
 list-roomy old new [] (reply ∷ replies) room are = absurd are

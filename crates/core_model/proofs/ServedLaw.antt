@@ -4,8 +4,8 @@ use Rattle.std.specs.Prelude.{if◌then◌else◌}
 use Rattle.std.proofs.lemmas.List.{append-nil}
 use Rattle.core_model.specs.declared.event.Event.{Event}
 use Rattle.core_model.specs.declared.event.Event.TheVariants.{Call, Open, Reload, Take}
-use Rattle.core_model.specs.declared.event.Request.{Request}
-use Rattle.core_model.specs.declared.event.Request.TheVariants as request
+use Rattle.core_model.specs.declared.event.CoreRequest.{CoreRequest}
+use Rattle.core_model.specs.declared.event.CoreRequest.TheVariants as request
 use Rattle.core_model.specs.declared.outcome.Outcome.{Outcome}
 use Rattle.core_model.specs.declared.refusal.Refusal.{Refusal}
 use Rattle.core_model.specs.declared.refusal.Refusal.TheVariants as refusal
@@ -54,7 +54,7 @@ module _ (old : History) (legal : Legal old) (event : Event) where
   event-goes_on new reply (inl meets) = after-due new meets.history_is
   event-goes_on new reply (inr lacks) = stays old new legal lacks.history_is
 
-request-goes_on : (old new : History) (asked : Request) (reply : AnswerOrRefusal) → Legal old → IsServed old asked reply new → GoesOn old new
+request-goes_on : (old new : History) (asked : CoreRequest) (reply : AnswerOrRefusal) → Legal old → IsServed old asked reply new → GoesOn old new
 request-goes_on old new (request.Open client agent size) reply legal served = event-goes_on old legal (Open client agent size) new served.0 served.2
 request-goes_on old new (request.Take queue packet bytes) reply legal served = event-goes_on old legal (Take queue packet bytes) new served.0 served.2
 request-goes_on old new (request.Call asked) reply legal served = event-goes_on old legal (Call asked) new served.0 served.2
@@ -75,7 +75,7 @@ through old mid new one two = record {
   legal = two.legal;
 }
 
-pub list-goes_on : (old new : History) (requests : List Request) (replies : List AnswerOrRefusal) → IsLegal (beginning old) old.entries → AreReplies old requests replies new → GoesOn old new
+pub list-goes_on : (old new : History) (requests : List CoreRequest) (replies : List AnswerOrRefusal) → IsLegal (beginning old) old.entries → AreReplies old requests replies new → GoesOn old new
 list-goes_on old new [] [] legal is = stays old new legal is
 list-goes_on old new (asked ∷ requests) (reply ∷ replies) legal are =
     let one = request-goes_on old are.0 asked reply legal are.1 in
@@ -94,7 +94,7 @@ refused-made : (old new : History) (event : Event) (why : Refusal) → IsMade ev
 refused-made old new event why (made, told, inl meets) = refused-event old new event why (due old event) (told ∙ ap as_reply meets.reply_is) meets.history_is
 refused-made old new event why (made, told, inr lacks) = lacks.history_is
 
-pub refused-stays : (old new : History) (asked : Request) (why : Refusal) → IsServed old asked (Err why) new → new ≡ old
+pub refused-stays : (old new : History) (asked : CoreRequest) (why : Refusal) → IsServed old asked (Err why) new → new ≡ old
 refused-stays old new (request.Open client agent size) why served = refused-made old new (Open client agent size) why served
 refused-stays old new (request.Take queue packet bytes) why served = refused-made old new (Take queue packet bytes) why served
 refused-stays old new (request.Call asked) why served = refused-made old new (Call asked) why served

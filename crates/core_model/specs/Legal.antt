@@ -4,8 +4,8 @@ use Rattle.core_model.specs.declared.event.Event.{Event}
 use Rattle.core_model.specs.declared.event.Event.TheVariants.{Open, Take, Reload, Call}
 use Rattle.core_model.specs.declared.call.Call.TheVariants.{RunNext, HostWrite}
 use Rattle.core_model.specs.declared.event.Query.{Query}
-use Rattle.core_model.specs.declared.event.Request.{Request}
-use Rattle.core_model.specs.declared.event.Request.TheVariants as request
+use Rattle.core_model.specs.declared.event.CoreRequest.{CoreRequest}
+use Rattle.core_model.specs.declared.event.CoreRequest.TheVariants as request
 use Rattle.core_model.specs.declared.entry.Entry.{Entry}
 use Rattle.core_model.specs.declared.entry.Effect.{Effect}
 use Rattle.core_model.specs.declared.outcome.Outcome.{Outcome}
@@ -181,7 +181,7 @@ IsMade event old reply new = (made : Result Outcome Refusal) × (reply ≡ as_re
 
 -- a request was served: its event got and left what was due, so did the reload of a policy that declares as before, and a query, which
 -- changes nothing, got its reply; or it was told that memory was wanted, and then it counts as not made (own)
-abbrev pub IsServed : History → Request → AnswerOrRefusal → History → Type 0
+abbrev pub IsServed : History → CoreRequest → AnswerOrRefusal → History → Type 0
 IsServed old (request.Open client agent size) reply new = IsMade (Open client agent size) old reply new
 IsServed old (request.Take queue packet bytes) reply new = IsMade (Take queue packet bytes) old reply new
 IsServed old (request.Call asked) reply new = IsMade (Call asked) old reply new
@@ -189,7 +189,7 @@ IsServed old (request.Query asked) reply new = RepliesOrLacks asked old reply ×
 IsServed old (request.Reload policy) reply new = (made : Result Outcome Refusal) × (reply ≡ as_reply made) × ReloadMeetsOrLacks policy old new made
 
 -- these replies answer these requests in turn, and lead from one history to the other (own)
-abbrev pub AreReplies : History → List Request → List AnswerOrRefusal → History → Type 0
+abbrev pub AreReplies : History → List CoreRequest → List AnswerOrRefusal → History → Type 0
 AreReplies old [] [] new = new ≡ old
 AreReplies old (asked ∷ requests) (reply ∷ replies) new = (mid : History) × IsServed old asked reply mid × AreReplies mid requests replies new
 AreReplies old [] (reply ∷ replies) new = ⊥

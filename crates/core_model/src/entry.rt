@@ -2,11 +2,11 @@
 
 ghost use Rattle.std.specs.Prelude.{◌≡◌, IfOk};
 
+use crate::bytes::Bytes;
 use crate::effects::Effects;
 use crate::event::Event;
 use crate::outcome::Outcome;
 use aql_packet::{Address, PacketId, QueueId, SignalHandle};
-use sequences::Sequence;
 use std::alloc::{AllocError, Global};
 use std::mem::size_of;
 
@@ -16,7 +16,7 @@ pub enum Effect {
     /// These bytes, at least one, were written from this address on.
     Write {
         address: Address,
-        bytes: Sequence<u8>,
+        bytes: Bytes,
     },
     /// A signal went from one value to another, which may be the same.
     Signal {

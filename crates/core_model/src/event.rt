@@ -100,7 +100,7 @@ pub enum Query {
 
 /// A call of the core: one for each event but a reload, which is asked for by its policy.
 #[derive(Drop)]
-pub enum Request {
+pub enum CoreRequest {
     /// A client opens a queue of `size` slots on an agent.
     Open {
         client: ClientId,
@@ -124,4 +124,4 @@ pub enum Request {
 // Values that are passed on with each call are small, since each hand moves the whole value.
 const _: () = prove!(size_of::<Event>() <= 128);
 
-const _: () = prove!(size_of::<Request>() <= 128);
+const _: () = prove!(size_of::<CoreRequest>() <= 128);

@@ -32,7 +32,7 @@ ghost use Rattle.core_model.specs.declared.event.Event.TheVariants.{Open, Take, 
 ghost use Rattle.core_model.specs.declared.call.Call.TheVariants.{ChangeSignal, Finish, Grant, HostWrite, Poll, RunNext, Stop};
 ghost use Rattle.core_model.specs.declared.event.Query.{Query};
 ghost use Rattle.core_model.specs.declared.event.Query.TheVariants as query;
-ghost use Rattle.core_model.specs.declared.event.Request.{Request};
+ghost use Rattle.core_model.specs.declared.event.CoreRequest.{CoreRequest};
 ghost use Rattle.core_model.specs.declared.flight.InFlight.{InFlight};
 ghost use Rattle.core_model.specs.declared.flight.Progress.{Progress};
 ghost use Rattle.core_model.specs.declared.outcome.Outcome.{Outcome};
@@ -72,7 +72,7 @@ ghost use Rattle.core_model.specs.Headline.{AllInForce, ChangeIsGranted, GoesOn,
 
 /// A launched packet is the next of a queue that is open and need not wait, is laid out by its bytes, and
 /// meets every launch rule by the grants in force just before; its launch has no effect.
-pub fn each_launch_was_granted()
+pub fn law_each_launch_was_granted()
     ensures { (start : Start) (entries before : List Entry) (queue : QueueId) (id : PacketId) (bytes : List ℕ) (effects : List Effect) →
         IsWhole start entries → IsEntryBehind entries before (entry_of (Take queue id bytes) (outcome.Taken taken.Launched) effects) →
         (opening : Opening) × (packet : Packet) × MayBeLaunched start before queue id bytes opening packet × (effects ≡ []) }
@@ -80,7 +80,7 @@ pub fn each_launch_was_granted()
 
 /// A packet that is taken is launched or denied, under the id that is its queue's next, and so launched
 /// once at most.
-pub fn each_packet_is_taken_in_turn()
+pub fn law_each_packet_is_taken_in_turn()
     ensures turn { (start : Start) (entries before : List Entry) (queue : QueueId) (id : PacketId) (bytes : List ℕ) (told : Outcome) (effects : List Effect) →
         IsWhole start entries → IsEntryBehind entries before (entry_of (Take queue id bytes) told effects) → id.0 ≡ next_id start before queue }
     ensures decided { (start : Start) (entries before : List Entry) (queue : QueueId) (id : PacketId) (bytes : List ℕ) (told : Outcome) (effects : List Effect) →
@@ -92,7 +92,7 @@ pub fn each_packet_is_taken_in_turn()
 
 /// What a legal history takes of a queue has the ids from its start's next one on, each once, in order; the next
 /// id is the first that was not taken.
-pub fn taken_ids_go_on_from_the_start()
+pub fn law_taken_ids_go_on_from_the_start()
     ensures ids { (start : Start) (entries : List Entry) (queue : QueueId) (place : ℕ) (served : Served) →
         IsLegal start entries → slice_get (takes entries queue) place ≡ Some served → served.id.0 ≡ next_id start [] queue + place }
     ensures count { (start : Start) (entries : List Entry) (queue : QueueId) → next_id start entries queue ≡ next_id start [] queue + length (takes entries queue) }
@@ -100,7 +100,7 @@ pub fn taken_ids_go_on_from_the_start()
 
 /// A denied packet's error names the packet and the first launch rule that fails by the grants in force
 /// just before; a denial has no effect.
-pub fn denials_name_the_first_rule()
+pub fn law_denials_name_the_first_rule()
     ensures { (start : Start) (entries before : List Entry) (queue : QueueId) (id : PacketId) (bytes : List ℕ) (error : QueueError) (effects : List Effect) →
         IsWhole start entries → IsEntryBehind entries before (entry_of (Take queue id bytes) (outcome.Taken (taken.Denied error)) effects) →
         IsDenied start before queue id bytes error × (effects ≡ []) }
@@ -109,28 +109,28 @@ pub fn denials_name_the_first_rule()
 /// Each write has bytes, and is a client's own, with WRITE in force on the region in which it lies
 /// whole; or a group's, of a packet in flight that was launched with WRITE in force there for the
 /// owner of its queue. The regions are as many and as long as there may be.
-pub fn each_write_was_granted()
+pub fn law_each_write_was_granted()
     ensures { (start : Start) (entries before : List Entry) (entry : Entry) → are_region_lengths (region_lengths start.policy) ≡ true →
         IsWhole start entries → IsEntryBehind entries before entry → All (WriteIsGranted start before entry.event) entry.effects }
 {}
 
 /// Each change of a signal is a client's own, with CHANGE in force; or the decrement of the completion
 /// signal of a packet in flight that was launched with CHANGE in force for the owner of its queue.
-pub fn each_signal_change_was_granted()
+pub fn law_each_signal_change_was_granted()
     ensures { (start : Start) (entries before : List Entry) (entry : Entry) →
         IsWhole start entries → IsEntryBehind entries before entry → All (ChangeIsGranted start before entry.event) entry.effects }
 {}
 
 /// Each packet that is released is in flight, and is the one that completes, or faults, or is the
 /// barrier packet of a queue that is stopped.
-pub fn each_release_is_due()
+pub fn law_each_release_is_due()
     ensures { (start : Start) (entries before : List Entry) (entry : Entry) →
         IsWhole start entries → IsEntryBehind entries before entry → All (ReleaseIsDue start before entry.event entry.outcome) entry.effects }
 {}
 
 /// A packet that completes is in flight and has its work done; its completion signal, unless it is null,
 /// is decremented once, and it is released.
-pub fn each_completion_comes_after_the_work()
+pub fn law_each_completion_comes_after_the_work()
     ensures { (start : Start) (entries before : List Entry) (queue : QueueId) (id : PacketId) (told : Outcome) (effects : List Effect) →
         IsWhole start entries → IsEntryBehind entries before (entry_of (Call (Finish queue id)) told effects) →
         (told ≡ outcome.Accepted) × IsCompleted start before queue id effects }
@@ -139,7 +139,7 @@ pub fn each_completion_comes_after_the_work()
 /// A poll that leaves an entry is of a packet in flight, and tells what the signals were just before: a
 /// dependency that is negative fails it, and it is ready just where what was seen as 0 since its launch
 /// suffices.
-pub fn each_poll_is_by_the_signals()
+pub fn law_each_poll_is_by_the_signals()
     ensures { (start : Start) (entries before : List Entry) (queue : QueueId) (id : PacketId) (told : Outcome) (effects : List Effect) →
         IsWhole start entries → IsEntryBehind entries before (entry_of (Call (Poll queue id)) told effects) →
         (s : InFlightSince start before queue id) × (found : Polled) × (told ≡ outcome.Polled found)
@@ -149,7 +149,7 @@ pub fn each_poll_is_by_the_signals()
 /// A packet whose group runs is in flight, and was launched with READ in force, for the owner of its
 /// queue, on all that its work reads; a group of an agent dispatch changes just its function's target and
 /// its result's 8 bytes, as the function says, and what comes of a kernel's group is its meaning.
-pub fn each_read_of_a_group_was_granted()
+pub fn law_each_read_of_a_group_was_granted()
     ensures reads { (start : Start) (entries before : List Entry) (queue : QueueId) (id : PacketId) (told : Outcome) (effects : List Effect) →
         IsWhole start entries → IsEntryBehind entries before (entry_of (Call (RunNext queue id)) told effects) →
         (s : InFlightSince start before queue id) × All (MayReachRange start s.launch.before s.launch.opening.client right.Read) (ranges_seen start (own_rights start before queue id) s.flying.packet) }
@@ -163,7 +163,7 @@ pub fn each_read_of_a_group_was_granted()
 
 /// What a group is owed depends, beside what its packet was given at its launch, on memory alone, by the
 /// ranges that its packet's work reads.
-pub fn groups_depend_on_what_they_read()
+pub fn law_groups_depend_on_what_they_read()
     ensures { (start : Start) (one other : List Entry) (queue : QueueId) (id : PacketId) (own : GivenAtLaunch) (p : Packet) (so_far : Progress) →
         All (λ range. memory_from start one range.address.0 range.size ≡ memory_from start other range.address.0 range.size) (ranges_seen start own.rights p) →
         owed_group start one queue id own p so_far ≡ owed_group start other queue id own p so_far }
@@ -171,7 +171,7 @@ pub fn groups_depend_on_what_they_read()
 
 /// An error names the packet that its event concerns; a packet that faults is released, and its fault
 /// has no other effect.
-pub fn faults_release_alone()
+pub fn law_faults_release_alone()
     ensures names { (start : Start) (entries before : List Entry) (entry : Entry) (error : QueueError) →
         IsWhole start entries → IsEntryBehind entries before entry → error_of entry.outcome ≡ Some error →
         packet_named entry.event ≡ Some (error.queue, error.packet) }
@@ -183,7 +183,7 @@ pub fn faults_release_alone()
 
 /// A packet in flight was launched, and its rights, with all that it holds, are in force for the
 /// owner of its queue; what it holds, wherever its history begins.
-pub fn held_rights_are_in_force()
+pub fn law_held_rights_are_in_force()
     ensures whole { (start : Start) (entries : List Entry) → IsWhole start entries → All (HoldsInForce start entries) (flight start entries) }
     ensures anywhere { (start : Start) (entries : List Entry) (queue : QueueId) (id : PacketId) (flying : InFlight) →
         IsLegal start entries → in_flight start entries queue id ≡ Some flying →
@@ -191,7 +191,7 @@ pub fn held_rights_are_in_force()
 {}
 
 /// A grant gives what the policy in force allows the client, and has no effect.
-pub fn each_grant_is_allowed()
+pub fn law_each_grant_is_allowed()
     ensures { (start : Start) (entries before : List Entry) (client : ClientId) (on : Object) (rights : Rights) (told : Outcome) (effects : List Effect) →
         IsWhole start entries → IsEntryBehind entries before (entry_of (Call (Grant client on rights)) told effects) →
         (are_allowed (rules_of (policy_at start before)) client on rights ≡ true) × (effects ≡ []) }
@@ -199,7 +199,7 @@ pub fn each_grant_is_allowed()
 
 /// A queue is opened for a client that may use the agent, and is a new one, which is the client's from
 /// then on.
-pub fn each_queue_is_its_openers()
+pub fn law_each_queue_is_its_openers()
     ensures { (start : Start) (entries before : List Entry) (client : ClientId) (agent : AgentHandle) (size : ℕ) (told : Outcome) (effects : List Effect) →
         IsWhole start entries → IsEntryBehind entries before (entry_of (Open client agent size) told effects) →
         IsOpened start before (entry_of (Open client agent size) told effects) client agent }
@@ -207,7 +207,7 @@ pub fn each_queue_is_its_openers()
 
 /// A client's write is made only with WRITE in force, and then whole; its change of a signal only with
 /// CHANGE in force, and then as the operation says, and it is told the old value only where it asked.
-pub fn each_host_call_was_granted()
+pub fn law_each_host_call_was_granted()
     ensures write { (start : Start) (entries before : List Entry) (client : ClientId) (address : Address) (bytes : List ℕ) (told : Outcome) (effects : List Effect) →
         IsWhole start entries → IsEntryBehind entries before (entry_of (Call (HostWrite client address bytes)) told effects) →
         MayReach start before client right.Write address.0 (length bytes) × (effects ≡ effect.Write address bytes ∷ []) × (told ≡ outcome.Accepted) }
@@ -219,14 +219,14 @@ pub fn each_host_call_was_granted()
 
 /// A client that is told bytes of memory is told those of the range, which lies whole in a region on
 /// which READ is in force for it.
-pub fn each_read_of_a_client_is_granted()
+pub fn law_each_read_of_a_client_is_granted()
     ensures { (start : Start) (entries : List Entry) (client : ClientId) (address : Address) (size : ℕ) (told : Answer) →
         query_answer start entries (query.HostRead client address size) ≡ Ok told →
         MayReach start entries client right.Read address.0 size × (told ≡ answer.Bytes (memory_from start entries address.0 size)) }
 {}
 
 /// A client that is told a signal's value, or how it compares, has WAIT in force on it.
-pub fn each_look_at_a_signal_is_granted()
+pub fn law_each_look_at_a_signal_is_granted()
     ensures load { (start : Start) (entries : List Entry) (client : ClientId) (signal : SignalHandle) (told : Answer) →
         query_answer start entries (query.LoadSignal client signal) ≡ Ok told →
         (in_force start entries client (object.Signal signal) right.Wait ≡ true) × (v : ℤ) × (value_of (signals start entries) signal.0 ≡ Some v) × (told ≡ answer.Value v) }
@@ -238,21 +238,21 @@ pub fn each_look_at_a_signal_is_granted()
 
 /// Each object that a client is listed is one on which it has a right in force, and it is told just
 /// those.
-pub fn each_listed_right_is_in_force()
+pub fn law_each_listed_right_is_in_force()
     ensures { (start : Start) (entries : List Entry) (client : ClientId) (told : Answer) →
         query_answer start entries (query.List client) ≡ Ok told →
         (rows : List (Object × Rights)) × (told ≡ answer.Listing rows) × All (IsListed start entries client) rows }
 {}
 
 /// Each right in force is one that the policy in force allows the client.
-pub fn each_right_in_force_is_allowed()
+pub fn law_each_right_in_force_is_allowed()
     ensures { (start : Start) (entries : List Entry) (client : ClientId) (on : Object) (right : Right) →
         IsWhole start entries → in_force start entries client on right ≡ true → is_allowed (rules_of (policy_at start entries)) client on right ≡ true }
 {}
 
 /// A known client's own call is denied where the right that it needs is not in force: a write or a read of
 /// a good size, a change of a signal or a look at it, and the opening of a queue.
-pub fn calls_without_their_right_are_denied()
+pub fn law_calls_without_their_right_are_denied()
     ensures write { (start : Start) (entries : List Entry) (client : ClientId) (address : Address) (bytes : List ℕ) →
         knows_client (rules_of start.policy) client ≡ true → is_host_size (length bytes) ≡ true → (MayReach start entries client right.Write address.0 (length bytes) → ⊥) →
         owed start entries (Call (HostWrite client address bytes)) ≡ refuses (refusal.Denied right.Write) }
@@ -274,16 +274,16 @@ pub fn calls_without_their_right_are_denied()
 {}
 
 /// What is refused, an event or a query, for whatever cause, leaves the history as it was.
-pub fn refusals_change_nothing()
-    ensures { (old new : History) (asked : Request) (why : Refusal) → IsServed old asked (Err why) new → new ≡ old }
+pub fn law_refusals_change_nothing()
+    ensures { (old new : History) (asked : CoreRequest) (why : Refusal) → IsServed old asked (Err why) new → new ≡ old }
 {}
 
 /// What is served, a call or any list of requests in turn, leaves a legal history legal, with its
 /// entries so far as they were; and each beginning of a legal history is legal.
-pub fn serving_keeps_a_history_legal()
+pub fn law_serving_keeps_a_history_legal()
     ensures call { (old new : History) (event : Event) (reply : Result Outcome Refusal) →
         IsLegal (beginning old) old.entries → MeetsOrLacks event old new reply → GoesOn old new }
-    ensures list { (old new : History) (requests : List Request) (replies : List AnswerOrRefusal) →
+    ensures list { (old new : History) (requests : List CoreRequest) (replies : List AnswerOrRefusal) →
         IsLegal (beginning old) old.entries → AreReplies old requests replies new → GoesOn old new }
     ensures beginnings { (start : Start) (before more : List Entry) → IsLegal start (before ++ more) → IsLegal start before }
 {}
@@ -296,20 +296,20 @@ pub fn law_of_flight()
 
 /// What a rotation of a legal history hands out is a part that is legal for its kernels, and what is left goes
 /// on legally.
-pub fn rotations_hand_out_legal_parts()
+pub fn law_rotations_hand_out_legal_parts()
     ensures part { (old new : History) (part : Part) → IsLegal (beginning old) old.entries → IsRotated old part new → IsLegalPart old.kernels part }
     ensures rest { (old new : History) (part : Part) → IsLegal (beginning old) old.entries → IsRotated old part new → IsLegal (beginning new) new.entries }
 {}
 
 /// Two parts of a history of which the second begins where the first ends, both legal for the same
 /// kernels, are joined to one part that is legal for them.
-pub fn joined_parts_are_legal()
+pub fn law_joined_parts_are_legal()
     ensures { (kernels : List Program) (first second : Part) → IsLegalPart kernels first → IsLegalPart kernels second → IsFollowedBy first second → IsLegalPart kernels (joined first second) }
 {}
 
 /// Parts that are legal for some kernels, and lead to where a history begins that is legal for them, are with
 /// that history one whole legal history: no entry came before.
-pub fn parts_lead_to_whole_histories()
+pub fn law_parts_lead_to_whole_histories()
     ensures { (kernels : List Program) (parts : List Part) (origin : Origin) (entries : List Entry) →
         All (IsLegalPart kernels) parts → LeadTo parts origin → IsLegal (begin kernels origin) entries →
         IsWhole (begin kernels (first_start parts origin)) (entries_in parts ++ entries) }
@@ -320,7 +320,7 @@ pub fn parts_lead_to_whole_histories()
 /// the whole one does that led to it, so that each law of whole histories speaks of it too. What an event
 /// is owed from there, and what a query is answered, is what it was owed behind those entries. The audit
 /// alone answers the entries since its start.
-pub fn histories_go_on_from_their_states()
+pub fn law_histories_go_on_from_their_states()
     ensures rotated { (start : Start) (entries : List Entry) → IsLegal start entries → IsLegal (state_after start entries) [] }
     ensures state { (start : Start) (before more : List Entry) → state_after start (before ++ more) ≡ state_after (state_after start before) more }
     ensures behind { (start : Start) (entries : List Entry) (legal : IsLegal start entries) → state_after (opening_state legal.first start.kernels) (legal.prior ++ entries) ≡ state_after start entries }
@@ -333,7 +333,7 @@ pub fn histories_go_on_from_their_states()
 
 /// What an opened core begins from is the opening state; a history that begins there is legal just where
 /// it is whole: no entry came before.
-pub fn whole_histories_begin_at_an_opening()
+pub fn law_whole_histories_begin_at_an_opening()
     ensures opened { (policy : Declared) (kernels : List Program) (origin : Origin) → IsOpeningOrigin policy origin → begin kernels origin ≡ opening_state policy kernels }
     ensures legal { (start : Start) (entries : List Entry) → IsWhole start entries → IsLegal start entries }
     ensures whole { (start : Start) (entries : List Entry) → start.before ≡ 0 → IsLegal start entries → IsWhole start entries }
@@ -342,7 +342,7 @@ pub fn whole_histories_begin_at_an_opening()
 /// Of what isn't there a legal history tells nothing: memory outside the regions stays 0; a packet that
 /// isn't in flight holds no right, has no arguments, and its progress is that of a launch; and no two
 /// packets in flight have one name, so that each is found by its queue and id.
-pub fn nothing_is_told_of_what_is_not_there()
+pub fn law_nothing_is_told_of_what_is_not_there()
     ensures memory { (start : Start) (entries : List Entry) (address : ℕ) → are_region_lengths (region_lengths start.policy) ≡ true →
         IsLegal start entries → lies_in_region (region_lengths start.policy) address ≡ false → memory_at start entries address ≡ 0 }
     ensures rights { (start : Start) (entries : List Entry) (queue : QueueId) (id : PacketId) (client : ClientId) (on : Object) (right : Right) →
@@ -358,16 +358,16 @@ pub fn nothing_is_told_of_what_is_not_there()
 
 /// An audit keeps a place for each packet in flight: one that was just opened does, and whatever is
 /// served, an event or any list of requests, leaves it so.
-pub fn audits_keep_room_for_packets_in_flight()
+pub fn law_audits_keep_room_for_packets_in_flight()
     ensures opened { (history : History) (policy : Declared) (kernels : List Program) (capacity : ℕ) → IsOpening history policy kernels capacity → HasRoom history }
     ensures event { (old new : History) (event : Event) (reply : Result Outcome Refusal) → HasRoom old → MeetsOrLacks event old new reply → HasRoom new }
-    ensures list { (old new : History) (requests : List Request) (replies : List AnswerOrRefusal) → HasRoom old → AreReplies old requests replies new → HasRoom new }
+    ensures list { (old new : History) (requests : List CoreRequest) (replies : List AnswerOrRefusal) → HasRoom old → AreReplies old requests replies new → HasRoom new }
 {}
 
 /// Where an audit keeps them, what takes a packet out of flight is never refused for want of room: a
 /// completion, a group that is owed a fault, a poll that is owed a failure, and the stop of a queue that has
 /// a barrier packet in flight are due what they are owed, and nothing is owed that refusal.
-pub fn what_leaves_flight_finds_room()
+pub fn law_what_leaves_flight_finds_room()
     ensures completion { (history : History) (queue : QueueId) (id : PacketId) → HasRoom history → FindsRoom history (Call (Finish queue id)) }
     ensures fault { (history : History) (queue : QueueId) (id : PacketId) (error : QueueError) (effects : List Effect) → HasRoom history →
         owed (beginning history) history.entries (Call (RunNext queue id)) ≡ enters (outcome.Worked (worked.Faulted error)) effects → FindsRoom history (Call (RunNext queue id)) }
@@ -380,7 +380,7 @@ pub fn what_leaves_flight_finds_room()
 
 /// The code's limits and functions' numbers are those of the rules. A launch begins with no group run and no
 /// dependency seen as 0.
-pub fn numbers_are_those_of_the_rules()
+pub fn law_numbers_are_those_of_the_rules()
     ensures in_flight { MOST_IN_FLIGHT ≡ most_in_flight }
     ensures queues { QUEUES ≡ most_queues }
     ensures host_bytes { MOST_HOST_BYTES ≡ most_host_bytes }

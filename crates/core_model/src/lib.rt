@@ -3,6 +3,7 @@
 #![tactic(auto)]
 
 mod answer;
+mod bytes;
 mod call;
 mod effects;
 mod entry;
@@ -19,25 +20,29 @@ mod refusal;
 mod served;
 
 pub use answer::{Answer, Reply};
+pub use bytes::Bytes;
 pub use call::Call;
 pub use effects::Effects;
 pub use entry::{Effect, Entry};
-pub use event::{Event, Query, Request};
+pub use event::{CoreRequest, Event, Query};
 pub use flight::{InFlight, LAUNCH_PROGRESS, Progress};
 pub use kernel::KernelSegments;
 pub use laws::{
-    audits_keep_room_for_packets_in_flight, calls_without_their_right_are_denied,
-    denials_name_the_first_rule, each_completion_comes_after_the_work, each_grant_is_allowed,
-    each_host_call_was_granted, each_launch_was_granted, each_listed_right_is_in_force,
-    each_look_at_a_signal_is_granted, each_packet_is_taken_in_turn, each_poll_is_by_the_signals,
-    each_queue_is_its_openers, each_read_of_a_client_is_granted, each_read_of_a_group_was_granted,
-    each_release_is_due, each_right_in_force_is_allowed, each_signal_change_was_granted,
-    each_write_was_granted, faults_release_alone, groups_depend_on_what_they_read,
-    held_rights_are_in_force, histories_go_on_from_their_states, joined_parts_are_legal,
-    law_of_flight, nothing_is_told_of_what_is_not_there, numbers_are_those_of_the_rules,
-    parts_lead_to_whole_histories, refusals_change_nothing, rotations_hand_out_legal_parts,
-    serving_keeps_a_history_legal, taken_ids_go_on_from_the_start, what_leaves_flight_finds_room,
-    whole_histories_begin_at_an_opening,
+    law_audits_keep_room_for_packets_in_flight, law_calls_without_their_right_are_denied,
+    law_denials_name_the_first_rule, law_each_completion_comes_after_the_work,
+    law_each_grant_is_allowed, law_each_host_call_was_granted, law_each_launch_was_granted,
+    law_each_listed_right_is_in_force, law_each_look_at_a_signal_is_granted,
+    law_each_packet_is_taken_in_turn, law_each_poll_is_by_the_signals,
+    law_each_queue_is_its_openers, law_each_read_of_a_client_is_granted,
+    law_each_read_of_a_group_was_granted, law_each_release_is_due,
+    law_each_right_in_force_is_allowed, law_each_signal_change_was_granted,
+    law_each_write_was_granted, law_faults_release_alone, law_groups_depend_on_what_they_read,
+    law_held_rights_are_in_force, law_histories_go_on_from_their_states,
+    law_joined_parts_are_legal, law_nothing_is_told_of_what_is_not_there,
+    law_numbers_are_those_of_the_rules, law_of_flight, law_parts_lead_to_whole_histories,
+    law_refusals_change_nothing, law_rotations_hand_out_legal_parts,
+    law_serving_keeps_a_history_legal, law_taken_ids_go_on_from_the_start,
+    law_what_leaves_flight_finds_room, law_whole_histories_begin_at_an_opening,
 };
 pub use limits::{MOST_BEFORE, MOST_ENTRIES, MOST_HOST_BYTES, MOST_IN_FLIGHT, QUEUES};
 pub use need::{ADD64, AgentFunction, COPY, FILL, Need, Range, Subject};

@@ -133,7 +133,7 @@ fn go_on(end: &Origin, parts: &[Part], start: &Origin) -> bool
 /// Joins two parts to one: the first's start, the entries of both, and the second's end. Refused in this order:
 /// the second doesn't begin from what the first ends in; memory for the entries isn't to be had. Both parts then
 /// come back. Two that are legal for the same kernels are joined to one that is legal for them
-/// (`joined_parts_are_legal`).
+/// (`law_joined_parts_are_legal`).
 pub fn join(alloc: Global, first: Part, second: Part) -> Result<Part, NotJoined>
     ensures { Joins first second result }
 {

@@ -1,15 +1,17 @@
 //! Why a call was refused.
 
 use crate::asked::{Asked, Verb};
+use crate::keys::rights_of;
 use crate::lacks::lacked;
 use crate::rings::{tell_dependencies, tell_holder};
-use crate::scene::{Scene, begin, put_why_not, rights_of, say, tell_lack};
+use crate::scene::{Scene, begin, put_why_not, say, tell_lack};
 use crate::texts::{lies_whole, put_clients, put_object, put_objects, put_range};
 use aql_packet::{ClientId, PacketId, QueueId};
 use core_model::{MOST_HOST_BYTES, Range, Refusal};
 use packet_processor::{Place, is_barrier};
 use policy::{Kind, Object, Right, Rights};
 use queue_error::{QueueError, Rule};
+use script::{Occasion, rule_rows};
 use std::alloc::AllocError;
 use world::World;
 
@@ -192,19 +194,9 @@ fn is_handed_over(scene: &Scene<'_>, world: &World, queue: QueueId, packet: Pack
 
 // Whether a rule is one by which a packet isn't launched.
 fn is_of_launches(rule: Rule) -> bool {
-    matches!(
-        rule,
-        Rule::L1
-            | Rule::L2
-            | Rule::L3
-            | Rule::L4
-            | Rule::L5
-            | Rule::L6
-            | Rule::L7
-            | Rule::L8
-            | Rule::L9
-            | Rule::L10
-    )
+    rule_rows()
+        .iter()
+        .any(|row| row.rule == rule && row.occasion == Occasion::Launch)
 }
 
 // The error by which a packet was denied, if it was.

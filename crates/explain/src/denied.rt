@@ -12,32 +12,8 @@ use kernel_check::Program;
 use packet_processor::{PacketNeeds, function_of};
 use policy::{Object, Right};
 use queue_error::{QueueError, Rule};
+use script::{Occasion, rule_rows};
 use std::alloc::AllocError;
-
-/// The rules that look at a packet's fields, in the order in which they are tried.
-const RULES: [Rule; 7] = [
-    Rule::L4,
-    Rule::L5,
-    Rule::L6,
-    Rule::L7,
-    Rule::L8,
-    Rule::L9,
-    Rule::L10,
-];
-
-// The place of a rule among those.
-fn place(rule: Rule) -> u8 {
-    match rule {
-        Rule::L4 => 4,
-        Rule::L5 => 5,
-        Rule::L6 => 6,
-        Rule::L7 => 7,
-        Rule::L8 => 8,
-        Rule::L9 => 9,
-        Rule::L10 => 10,
-        _ => 0,
-    }
-}
 
 // For what a rule wants a right.
 fn wanted(rule: Rule) -> &'static str {
@@ -245,9 +221,11 @@ fn tell_rules(
     let Some(opening) = scene.known.opening(error.queue) else {
         return Ok(());
     };
-    for rule in RULES {
-        if place(rule) >= place(error.rule) {
-            tell_rule(out, scene, &opening, rule, packet)?;
+    let mut is_tried = false;
+    for row in rule_rows() {
+        is_tried |= row.rule == error.rule;
+        if is_tried && row.occasion == Occasion::Launch {
+            tell_rule(out, scene, &opening, row.rule, packet)?;
         }
     }
     Ok(())

@@ -2,13 +2,13 @@
 
 use crate::texts::put_word;
 use aql_packet::MOST_REGION_BYTES;
-use policy::{MOST_NAME_BYTES, Right, Section};
+use policy::{Kind, MOST_NAME_BYTES, Right, Section};
 use std::alloc::AllocError;
 use toml::{Table, Value};
 
 /// What stands at a key.
 #[derive(Clone, Copy, Debug, PartialEq, Eq)]
-pub enum Part {
+pub enum KeyPart {
     /// A name of its own.
     Name,
     /// The kinds of dispatch that an agent takes.
@@ -35,114 +35,114 @@ pub enum Part {
 #[derive(Clone, Copy)]
 pub struct Key {
     pub name: &'static str,
-    pub part: Part,
+    pub part: KeyPart,
 }
 
 /// The keys of a whole file.
 pub const PARTS: [Key; 8] = [
     Key {
         name: "version",
-        part: Part::Whole,
+        part: KeyPart::Whole,
     },
     Key {
         name: "client",
-        part: Part::Whole,
+        part: KeyPart::Whole,
     },
     Key {
         name: "agent",
-        part: Part::Whole,
+        part: KeyPart::Whole,
     },
     Key {
         name: "region",
-        part: Part::Whole,
+        part: KeyPart::Whole,
     },
     Key {
         name: "signal",
-        part: Part::Whole,
+        part: KeyPart::Whole,
     },
     Key {
         name: "kernel",
-        part: Part::Whole,
+        part: KeyPart::Whole,
     },
     Key {
         name: "allow",
-        part: Part::Whole,
+        part: KeyPart::Whole,
     },
     Key {
         name: "deny",
-        part: Part::Whole,
+        part: KeyPart::Whole,
     },
 ];
 
 const CLIENT: [Key; 1] = [Key {
     name: "name",
-    part: Part::Name,
+    part: KeyPart::Name,
 }];
 
 const AGENT: [Key; 2] = [
     Key {
         name: "name",
-        part: Part::Name,
+        part: KeyPart::Name,
     },
     Key {
         name: "takes",
-        part: Part::Dispatches,
+        part: KeyPart::Dispatches,
     },
 ];
 
 const REGION: [Key; 2] = [
     Key {
         name: "name",
-        part: Part::Name,
+        part: KeyPart::Name,
     },
     Key {
         name: "length",
-        part: Part::Length,
+        part: KeyPart::Length,
     },
 ];
 
 const SIGNAL: [Key; 2] = [
     Key {
         name: "name",
-        part: Part::Name,
+        part: KeyPart::Name,
     },
     Key {
         name: "initial",
-        part: Part::Number,
+        part: KeyPart::Number,
     },
 ];
 
 const KERNEL: [Key; 3] = [
     Key {
         name: "name",
-        part: Part::Name,
+        part: KeyPart::Name,
     },
     Key {
         name: "entry",
-        part: Part::Entry,
+        part: KeyPart::Entry,
     },
     Key {
         name: "text",
-        part: Part::Text,
+        part: KeyPart::Text,
     },
 ];
 
 const RIGHTS: [Key; 4] = [
     Key {
         name: "client",
-        part: Part::Choice,
+        part: KeyPart::Choice,
     },
     Key {
         name: "kind",
-        part: Part::Kind,
+        part: KeyPart::Kind,
     },
     Key {
         name: "object",
-        part: Part::Choice,
+        part: KeyPart::Choice,
     },
     Key {
         name: "rights",
-        part: Part::Rights,
+        part: KeyPart::Rights,
     },
 ];
 
@@ -159,20 +159,20 @@ pub fn keys_of(section: Section) -> &'static [Key] {
 }
 
 /// What may stand at a key.
-pub fn wanted(part: Part) -> &'static str {
+pub fn wanted(part: KeyPart) -> &'static str {
     match part {
-        Part::Name => "a name: 1 to 64 letters, digits, _ or -",
-        Part::Dispatches => "an array of \"kernel\" and \"agent\", or an empty one",
-        Part::Length => "a number of bytes, 1 to 16777216",
-        Part::Number => "a number of 64 bits",
-        Part::Entry => "a text that begins with &, the name of a kernel of the text",
-        Part::Text => "the text of a module",
-        Part::Choice => "a name that the policy declares, or \"*\" for all",
-        Part::Kind => "\"agent\", \"region\", \"signal\" or \"kernel\"",
-        Part::Rights => {
+        KeyPart::Name => "a name: 1 to 64 letters, digits, _ or -",
+        KeyPart::Dispatches => "an array of \"kernel\" and \"agent\", or an empty one",
+        KeyPart::Length => "a number of bytes, 1 to 16777216",
+        KeyPart::Number => "a number of 64 bits",
+        KeyPart::Entry => "a text that begins with &, the name of a kernel of the text",
+        KeyPart::Text => "the text of a module",
+        KeyPart::Choice => "a name that the policy declares, or \"*\" for all",
+        KeyPart::Kind => "\"agent\", \"region\", \"signal\" or \"kernel\"",
+        KeyPart::Rights => {
             "an array of rights on the row's kind: USE on agents, READ and WRITE on regions, WAIT and CHANGE on signals, LAUNCH on kernels"
         }
-        Part::Whole => "rows",
+        KeyPart::Whole => "rows",
     }
 }
 
@@ -188,30 +188,54 @@ fn is_name(text: &str) -> bool {
         && text.as_bytes().iter().all(|byte| is_name_byte(*byte))
 }
 
-// Whether each of some values is one of some texts.
-fn are_of(value: &Value, texts: &[&str]) -> bool {
-    let Some(items) = value.as_array() else {
-        return false;
-    };
-    for item in items.as_slice() {
-        let Some(text) = item.as_str() else {
-            return false;
-        };
-        if !texts.iter().any(|known| *known == text) {
-            return false;
-        }
+// Whether a value is the name of a kind of dispatch.
+fn is_dispatch(value: &Value) -> bool {
+    matches!(value.as_str().unwrap_or(""), "kernel" | "agent")
+}
+
+// Whether a value is an array of the names of kinds of dispatch.
+fn are_dispatches(value: &Value) -> bool {
+    match value.as_array() {
+        Some(items) => items.as_slice().iter().all(|item| is_dispatch(item)),
+        None => false,
     }
-    true
+}
+
+// Whether a value is the name of one of some rights.
+fn is_right_of(value: &Value, rights: &[Right]) -> bool {
+    let name = value.as_str().unwrap_or("");
+    rights.iter().any(|right| right.name() == name)
 }
 
 // Whether a value is an array of rights on a kind.
-fn are_rights(value: &Value, kind: &str) -> bool {
+fn are_rights(value: &Value, kind: Kind) -> bool {
+    let rights = rights_of(kind);
+    match value.as_array() {
+        Some(items) => items
+            .as_slice()
+            .iter()
+            .all(|item| is_right_of(item, rights)),
+        None => false,
+    }
+}
+
+/// The kind of a name.
+pub fn kind_named(name: &str) -> Option<Kind> {
+    for kind in [Kind::Agent, Kind::Region, Kind::Signal, Kind::Kernel] {
+        if kind.name() == name {
+            return Some(kind);
+        }
+    }
+    None
+}
+
+/// The rights that there are on objects of a kind.
+pub fn rights_of(kind: Kind) -> &'static [Right] {
     match kind {
-        "agent" => are_of(value, &[Right::Use.name()]),
-        "region" => are_of(value, &[Right::Read.name(), Right::Write.name()]),
-        "signal" => are_of(value, &[Right::Wait.name(), Right::Change.name()]),
-        "kernel" => are_of(value, &[Right::Launch.name()]),
-        _ => false,
+        Kind::Agent => &[Right::Use],
+        Kind::Region => &[Right::Read, Right::Write],
+        Kind::Signal => &[Right::Wait, Right::Change],
+        Kind::Kernel => &[Right::Launch],
     }
 }
 
@@ -224,24 +248,24 @@ fn text_at<'a>(row: &'a Table, name: &str) -> &'a str {
 }
 
 /// Whether a value may stand at a key of a row.
-pub fn is_right_value(part: Part, value: &Value, row: &Table) -> bool {
+pub fn is_right_value(part: KeyPart, value: &Value, row: &Table) -> bool {
     match part {
-        Part::Name => is_name(value.as_str().unwrap_or("")),
-        Part::Dispatches => are_of(value, &["kernel", "agent"]),
-        Part::Length => match value.as_integer() {
+        KeyPart::Name => is_name(value.as_str().unwrap_or("")),
+        KeyPart::Dispatches => are_dispatches(value),
+        KeyPart::Length => match value.as_integer() {
             Some(length) => 1 <= length && length <= MOST_REGION_BYTES as i64,
             None => false,
         },
-        Part::Number => value.is_integer(),
-        Part::Entry => value.as_str().unwrap_or("").starts_with('&'),
-        Part::Text => value.is_str(),
-        Part::Choice => value.as_str() == Some("*") || is_name(value.as_str().unwrap_or("")),
-        Part::Kind => matches!(
-            value.as_str().unwrap_or(""),
-            "agent" | "region" | "signal" | "kernel"
-        ),
-        Part::Rights => are_rights(value, text_at(row, "kind")),
-        Part::Whole => true,
+        KeyPart::Number => value.is_integer(),
+        KeyPart::Entry => value.as_str().unwrap_or("").starts_with('&'),
+        KeyPart::Text => value.is_str(),
+        KeyPart::Choice => value.as_str() == Some("*") || is_name(value.as_str().unwrap_or("")),
+        KeyPart::Kind => kind_named(value.as_str().unwrap_or("")).is_some(),
+        KeyPart::Rights => match kind_named(text_at(row, "kind")) {
+            Some(kind) => are_rights(value, kind),
+            None => false,
+        },
+        KeyPart::Whole => true,
     }
 }
 

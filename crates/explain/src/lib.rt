@@ -32,7 +32,9 @@ pub use asked::{Asked, asked_by};
 pub use entries::failure_told;
 pub use kernel_faults::{kernel_fault, no_entry, text_help};
 pub use lacks::{Lack, lack_of, was_in_force};
-pub use laws::{told_lacks_are_lacks, told_lacks_keep_from_a_launch, told_rights_are_in_force};
+pub use laws::{
+    law_told_lacks_are_lacks, law_told_lacks_keep_from_a_launch, law_told_rights_are_in_force,
+};
 pub use lines::{bad_line, bad_line_among};
 pub use owners::owner;
 pub use policies::policy_fault;

@@ -1,12 +1,12 @@
 //! What is wrong with a policy's file.
 
 use crate::kernel_texts::line_of;
-use crate::keys::{Key, PARTS, is_right_value, keys_of, put_value, wanted};
+use crate::keys::{Key, PARTS, is_right_value, keys_of, kind_named, put_value, wanted};
 use crate::positions::{File, Place, Position, begin, position_at, small};
 use crate::texts::put_word;
 use policy::{
-    MOST_AGENTS, MOST_ALLOW_ROWS, MOST_CLIENTS, MOST_DENY_ROWS, MOST_KERNELS, MOST_MEMORY_BYTES,
-    MOST_POLICY_BYTES, MOST_SIGNALS, PolicyCause, PolicyFault, Section,
+    Kind, MOST_AGENTS, MOST_ALLOW_ROWS, MOST_CLIENTS, MOST_DENY_ROWS, MOST_KERNELS,
+    MOST_MEMORY_BYTES, MOST_POLICY_BYTES, MOST_SIGNALS, PolicyCause, PolicyFault, Section,
 };
 use std::alloc::{AllocError, Global};
 use toml::{Table, Value};
@@ -199,13 +199,12 @@ fn tell_double(
 }
 
 // The array of a kind of objects.
-fn array_of(kind: &str) -> Option<Section> {
+fn array_of(kind: Kind) -> Section {
     match kind {
-        "agent" => Some(Section::Agent),
-        "region" => Some(Section::Region),
-        "signal" => Some(Section::Signal),
-        "kernel" => Some(Section::Kernel),
-        _ => None,
+        Kind::Agent => Section::Agent,
+        Kind::Region => Section::Region,
+        Kind::Signal => Section::Signal,
+        Kind::Kernel => Section::Kernel,
     }
 }
 
@@ -278,8 +277,8 @@ fn tell_unknown(
     let Some(kind) = kind.as_str() else {
         return Ok(());
     };
-    if let Some(of) = array_of(kind) {
-        tell_unknown_at(out, file, fault, table, row, "object", of)?;
+    if let Some(kind) = kind_named(kind) {
+        tell_unknown_at(out, file, fault, table, row, "object", array_of(kind))?;
     }
     Ok(())
 }

@@ -212,7 +212,7 @@ pub struct Found<'a> {
 
 /// In which part of a file what stands next lies.
 #[derive(Clone, Copy, PartialEq, Eq)]
-enum Part {
+enum FilePart {
     /// Before all tables.
     Head,
     /// In the row that is looked for.
@@ -226,7 +226,7 @@ enum Part {
 struct Looked<'a> {
     found: Found<'a>,
     rest: &'a str,
-    part: Part,
+    part: FilePart,
     // How many rows of the array have begun.
     rows: u32,
 }
@@ -246,10 +246,10 @@ fn with_header<'a>(
         looked.rows
     };
     let mut found = looked.found;
-    let mut part = Part::Other;
+    let mut part = FilePart::Other;
     if is_row && rows == wanted.row {
         found.row = Some(looked.rest);
-        part = Part::Row;
+        part = FilePart::Row;
     }
     Ok(Some(Looked {
         found,
@@ -286,7 +286,7 @@ fn found_at<'a>(
     wanted: &Wanted<'_>,
     value: &'a str,
 ) -> Result<Found<'a>, AllocError> {
-    if looked.part == Part::Head && wanted.row > 0 {
+    if looked.part == FilePart::Head && wanted.row > 0 {
         return in_brackets(alloc, looked.found.text, value, wanted);
     }
     let mut found = looked.found;
@@ -300,7 +300,7 @@ fn with_pair<'a>(
     looked: Looked<'a>,
     wanted: &Wanted<'_>,
 ) -> Result<Option<Looked<'a>>, AllocError> {
-    let name = if looked.part == Part::Head && wanted.row > 0 {
+    let name = if looked.part == FilePart::Head && wanted.row > 0 {
         wanted.array
     } else {
         wanted.key
@@ -308,7 +308,7 @@ fn with_pair<'a>(
     let Some((is_named, value)) = pair_next(alloc, looked.rest, name)? else {
         return Ok(None);
     };
-    if is_named && looked.part != Part::Other {
+    if is_named && looked.part != FilePart::Other {
         let found = found_at(alloc, looked, wanted, value)?;
         return Ok(Some(Looked {
             found,
@@ -361,7 +361,7 @@ fn find<'a>(
             value: None,
         },
         rest: text,
-        part: Part::Head,
+        part: FilePart::Head,
         rows: 0,
     };
     for _ in 0..text.len() {

@@ -3,7 +3,7 @@
 use crate::asked::{Asked, Verb};
 use crate::scene::{Scene, begin, say};
 use aql_packet::{PacketId, QueueId};
-use ring_core::{Part, RingState};
+use ring_core::{RingState, SeatPart};
 use std::alloc::AllocError;
 use world::World;
 
@@ -15,7 +15,7 @@ fn producers(ring: &RingState) -> usize {
 // The producer with an open ticket of an id, if there is one.
 fn holder(ring: &RingState, ticket: PacketId) -> Option<usize> {
     for (seat, part) in ring.parts().iter().enumerate() {
-        if let Part::Producer(part) = part {
+        if let SeatPart::Producer(part) = part {
             if part.tickets.get_open(ticket).is_some() {
                 return Some(seat);
             }

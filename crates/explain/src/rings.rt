@@ -6,7 +6,7 @@ use aql_packet::{Packet, PacketId, QueueId, SignalHandle};
 use core_model::{Satisfied, WaitCause};
 use packet_processor::{Place, is_barrier};
 use policy::Object;
-use ring_core::{Part, RingState};
+use ring_core::{RingState, SeatPart};
 use std::alloc::AllocError;
 
 /// How a ring's ids stand that aren't retired.
@@ -28,7 +28,7 @@ pub fn standing_of(ring: &RingState) -> Standing {
     let mut unpublished = 0u64;
     let mut holder = None;
     for (seat, part) in ring.parts().iter().enumerate() {
-        if let Part::Producer(part) = part {
+        if let SeatPart::Producer(part) = part {
             for reserved in part.tickets.open_tickets() {
                 unpublished = unpublished.saturating_add(1);
                 if reserved.id.0 == head {

@@ -4,7 +4,7 @@ use crate::known::Known;
 use crate::lacks::Lack;
 use crate::texts::{put_client, put_grant, put_object};
 use access_core::AccessCore;
-use policy::{Kind, Object, Policy, PolicyRows, Right};
+use policy::{Object, Policy, PolicyRows};
 use std::alloc::AllocError;
 
 /// What is known, the core that knows it, its policy, the rows on rights that are in force, and the number of the line that
@@ -102,14 +102,4 @@ pub fn tell_lack(
     out.push_str(wanted)?;
     out.push_str("\n")?;
     tell_remedy(out, scene, lack)
-}
-
-/// The rights that there are on objects of a kind.
-pub fn rights_of(kind: Kind) -> &'static [Right] {
-    match kind {
-        Kind::Agent => &[Right::Use],
-        Kind::Region => &[Right::Read, Right::Write],
-        Kind::Signal => &[Right::Wait, Right::Change],
-        Kind::Kernel => &[Right::Launch],
-    }
 }

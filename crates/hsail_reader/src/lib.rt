@@ -27,7 +27,7 @@ pub use module::{
     Operand, Operands, Operation, Profile, Relative, Rounding, SegmentPlace, Target, TypedSource,
     operations_are_of_rows,
 };
-pub use reading::{numbers_are_those_of_the_rules, read_module};
+pub use reading::{law_numbers_are_those_of_the_rules, read_module};
 pub use rows::Form;
 pub use types::{
     Alignment, AtomicOperation, BinaryOperation, Comparison, Constant, DataType, MemoryOrder,

@@ -23,7 +23,7 @@ use std::alloc::Global;
 const MAX_TEXT: usize = 65_536;
 
 /// The code's limit of a text is that of the rules. It does nothing.
-pub fn numbers_are_those_of_the_rules()
+pub fn law_numbers_are_those_of_the_rules()
     ensures { MAX_TEXT ≡ most_text_bytes }
 {}
 

@@ -21,7 +21,7 @@ const POLICY: &str = r#"
 version = 2
 client = [{ name = "joan" }, { name = "olaf" }]
 agent = [{ name = "lathe", takes = ["kernel"] }]
-region = [{ name = "oak", length = 16 }]
+region = [{ name = "oak", length = 32 }]
 allow = [
     { client = "joan", kind = "agent", object = "lathe", rights = ["USE"] },
     { client = "*", kind = "region", object = "oak", rights = ["READ", "WRITE"] },
@@ -56,8 +56,8 @@ const TURN: KernelObject = KernelObject(1);
 /// Where the kernel's argument lies in the region.
 const ARGUMENT: Address = Address(0x1_0000_0008);
 
-/// The argument: the region's first address.
-const START: [u8; 8] = [0, 0, 0, 0, 1, 0, 0, 0];
+/// The argument: the region's first address. Behind it stand twelve more bytes, so that what is written takes memory.
+const START: [u8; 20] = [0, 0, 0, 0, 1, 0, 0, 0, 7, 7, 7, 7, 7, 7, 7, 7, 7, 7, 7, 7];
 
 const QUEUE: QueueId = QueueId(1);
 

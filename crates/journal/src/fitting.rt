@@ -371,7 +371,7 @@ fn effects_fit(effects: &[Effect])
 }
 
 /// What is told of an entry fits, whatever entry it is: what was written of it is read as that entry
-/// (`written_entries_are_read`). It does nothing.
+/// (`law_written_entries_are_read`). It does nothing.
 pub fn entry_fits(entry: &Entry)
     ensures { fit (words_of_entry entry.now) ≡ true }
 {

@@ -19,8 +19,8 @@ pub use faults::{HeadFault, LineCause, LineFault};
 pub use fitting::{entries_fit, entry_fits, histories_are_told_apart, line_is_read_back};
 pub use heads::{chain_behind, is_end, read_head, write_end, write_head};
 pub use laws::{
-    journals_are_told_apart, unread_lines_have_a_fault, written_entries_are_read,
-    written_heads_and_ends_are_read, written_lines_are_read,
+    law_journals_are_told_apart, law_unread_lines_have_a_fault, law_written_entries_are_read,
+    law_written_heads_and_ends_are_read, law_written_lines_are_read,
 };
 pub use outcomes::read_entry;
 pub use writing::{write_entry, write_outcome, write_result};

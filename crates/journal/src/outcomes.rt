@@ -9,7 +9,9 @@ use crate::events::event_at;
 use crate::reading::{error_at, packet_named_at};
 use crate::splitting::{Rest, is_word, next_word, split_word};
 use aql_packet::{Address, QueueId, SignalHandle};
-use core_model::{Effect, Effects, Entry, Outcome, Polled, Satisfied, Taken, WaitCause, Worked};
+use core_model::{
+    Bytes, Effect, Effects, Entry, Outcome, Polled, Satisfied, Taken, WaitCause, Worked,
+};
 use std::alloc::{AllocError, Global};
 
 // A queue was opened.
@@ -180,7 +182,7 @@ fn written_at(alloc: Global, rest: Rest) -> Result<Option<(Effect, Rest)>, Alloc
     };
     let effect = Effect::Write {
         address: Address(address),
-        bytes,
+        bytes: Bytes::of(bytes),
     };
     Ok(Some((effect, rest)))
 }

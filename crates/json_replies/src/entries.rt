@@ -8,6 +8,7 @@ use crate::outcomes::{outcome_name, put_outcome};
 use aql_packet::{ClientId, PacketId, QueueId, SignalHandle};
 use core_model::{Call, Effect, Entry, Event, Outcome, Part};
 use policy::{Object, Policy, Rights};
+use script::operation_name;
 use signals::SignalOp;
 use std::alloc::AllocError;
 
@@ -65,19 +66,24 @@ fn put_rights_on(
     put_rights(out, rights)
 }
 
+// The value of an operation on a signal; of `cas` the new one.
+fn value_of(operation: &SignalOp) -> i64 {
+    match operation {
+        SignalOp::Store(value)
+        | SignalOp::Add(value)
+        | SignalOp::Subtract(value)
+        | SignalOp::And(value)
+        | SignalOp::Or(value)
+        | SignalOp::Xor(value)
+        | SignalOp::Exchange(value)
+        | SignalOp::Cas { value, .. } => *value,
+    }
+}
+
 // The operation on a signal.
 fn put_operation(out: &mut String, operation: &SignalOp) -> Result<(), AllocError> {
-    let (name, value) = match operation {
-        SignalOp::Store(value) => ("store", *value),
-        SignalOp::Add(value) => ("add", *value),
-        SignalOp::Subtract(value) => ("subtract", *value),
-        SignalOp::And(value) => ("and", *value),
-        SignalOp::Or(value) => ("or", *value),
-        SignalOp::Xor(value) => ("xor", *value),
-        SignalOp::Exchange(value) => ("exchange", *value),
-        SignalOp::Cas { value, .. } => ("cas", *value),
-    };
-    put_text(out, "operation", name)?;
+    let value = value_of(operation);
+    put_text(out, "operation", operation_name(operation))?;
     if let SignalOp::Cas { expected, .. } = operation {
         put_signed(out, "expected", *expected)?;
     }

@@ -2,8 +2,9 @@
 
 use crate::members::{put_address, put_comma, put_name, put_number, put_signed, put_text};
 use aql_packet::Address;
-use core_model::{Outcome, Polled, Satisfied, Taken, WaitCause, Worked};
+use core_model::{Outcome, Polled, Satisfied, Taken, Worked};
 use queue_error::{FaultPlace, QueueError, SegmentAddress};
+use script::{cause_name, refusal_name, refusal_number};
 use std::alloc::AllocError;
 use world::Refusal;
 
@@ -39,15 +40,6 @@ pub fn put_error(out: &mut String, error: &QueueError) -> Result<(), AllocError>
     }
 }
 
-// Why a packet waits, as a word.
-fn cause_name(cause: WaitCause) -> &'static str {
-    match cause {
-        WaitCause::Barrier => "Barrier",
-        WaitCause::Active => "Active",
-        WaitCause::Slots => "Slots",
-    }
-}
-
 /// What became of a packet that was handed over, in a word.
 pub fn taken_name(taken: Taken) -> &'static str {
     match taken {
@@ -64,7 +56,7 @@ pub fn put_taken(out: &mut String, packet: u64, taken: Taken) -> Result<(), Allo
         Taken::Denied(error) => put_error(out, &error),
         Taken::Waiting(cause) => {
             put_number(out, "packet", packet)?;
-            put_text(out, "cause", cause_name(cause))
+            put_text(out, "cause", cause_name(&cause))
         }
     }
 }
@@ -149,27 +141,6 @@ pub fn put_old(out: &mut String, value: i64) -> Result<(), AllocError> {
     put_signed(out, "value", value)
 }
 
-// A refusal's number and name.
-fn refusal_name(refusal: &core_model::Refusal) -> &'static str {
-    match refusal {
-        core_model::Refusal::OutOfMemory => "OutOfMemory",
-        core_model::Refusal::UnknownClient => "UnknownClient",
-        core_model::Refusal::UnknownQueue => "UnknownQueue",
-        core_model::Refusal::Denied(_) => "Denied",
-        core_model::Refusal::Busy { .. } => "Busy",
-        core_model::Refusal::NotAllowed => "NotAllowed",
-        core_model::Refusal::OutOfStep(_) => "OutOfStep",
-        core_model::Refusal::QueueDown => "QueueDown",
-        core_model::Refusal::NotInFlight => "NotInFlight",
-        core_model::Refusal::NotFinished => "NotFinished",
-        core_model::Refusal::AuditFull => "AuditFull",
-        core_model::Refusal::BadSize => "BadSize",
-        core_model::Refusal::TooMany => "TooMany",
-        core_model::Refusal::UnknownObject => "UnknownObject",
-        core_model::Refusal::OtherObjects => "OtherObjects",
-    }
-}
-
 // What a refusal of the core names beside its name.
 fn put_details(out: &mut String, refusal: &core_model::Refusal) -> Result<(), AllocError> {
     match refusal {
@@ -183,20 +154,12 @@ fn put_details(out: &mut String, refusal: &core_model::Refusal) -> Result<(), Al
     }
 }
 
-// Puts a number and a name.
-fn put_named(out: &mut String, number: u8, name: &str) -> Result<(), AllocError> {
-    put_number(out, "number", u64::from(number))?;
-    put_text(out, "name", name)
-}
-
 /// What is told of a refusal: its number, its name, and what it names.
 pub fn put_refusal(out: &mut String, refusal: &Refusal) -> Result<(), AllocError> {
+    put_number(out, "number", u64::from(refusal_number(refusal)))?;
+    put_text(out, "name", refusal_name(refusal))?;
     match refusal {
-        Refusal::Core(refusal) => {
-            put_named(out, refusal.number(), refusal_name(refusal))?;
-            put_details(out, refusal)
-        }
-        Refusal::NotAStep => put_named(out, 14, "NotAStep"),
-        Refusal::Spent => put_named(out, 15, "Spent"),
+        Refusal::Core(refusal) => put_details(out, refusal),
+        Refusal::NotAStep | Refusal::Spent => Ok(()),
     }
 }

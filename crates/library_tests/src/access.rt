@@ -8,7 +8,7 @@ use aql_packet::{
     PacketId, QueueId, RegionHandle, Scope, SignalHandle, encode,
 };
 use bitflags::Flags;
-use core_model::{Answer, Outcome, Query, Refusal, Reply, Request, Taken, Worked};
+use core_model::{Answer, CoreRequest, Outcome, Query, Refusal, Reply, Taken, Worked};
 use policy::{Object, Policy, Rights};
 use queue_error::{QueueError, Rule};
 use sequences::Sequence;
@@ -246,8 +246,8 @@ fn a_packet_is_handed_over_once(rt: HostRuntime) -> Result<(), Fail> {
     Ok(())
 }
 
-fn hand_over() -> Request {
-    Request::Take {
+fn hand_over() -> CoreRequest {
+    CoreRequest::Take {
         queue: QUEUE,
         packet: PacketId(0),
         bytes: encode(&FILL),
@@ -280,7 +280,7 @@ fn tells_entries(reply: Reply, count: usize) -> bool {
 
 /// Whether a core's audit is told, with so many entries.
 fn tells_audit(alloc: Global, core: &mut AccessCore, count: usize) -> bool {
-    tells_entries(core.serve(alloc, Request::Query(Query::Audit)), count)
+    tells_entries(core.serve(alloc, CoreRequest::Query(Query::Audit)), count)
 }
 
 /// Whether a core hands out its audit.
@@ -318,8 +318,8 @@ fn an_audit_is_told_whatever_it_has(rt: HostRuntime) -> Result<(), Fail> {
 /// Whether the hand-over of a packet and two queries are replied to.
 fn tells_three(alloc: Global, core: &mut AccessCore) -> bool {
     tells_launch(core.serve(alloc, hand_over()))
-        && tells_no_error(core.serve(alloc, Request::Query(Query::Errors { queue: QUEUE })))
-        && tells_entries(core.serve(alloc, Request::Query(Query::Audit)), 7)
+        && tells_no_error(core.serve(alloc, CoreRequest::Query(Query::Errors { queue: QUEUE })))
+        && tells_entries(core.serve(alloc, CoreRequest::Query(Query::Audit)), 7)
 }
 
 /// Whether three requests on a queue of Nora's are replied to.

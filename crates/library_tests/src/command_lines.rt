@@ -1,6 +1,6 @@
 //! What command lines ask for, and their exit statuses.
 
-use command_line::{ListForm, Reads, Request, obey, read_words};
+use command_line::{Invocation, ListForm, Reads, obey, read_words};
 use commands::Span;
 use pages::Page;
 use std::alloc::{AllocError, Global};
@@ -19,7 +19,7 @@ fn words_of(alloc: Global, line: &str) -> Result<Vec<String>, AllocError> {
 }
 
 /// What the words of a line ask for, apart from further policies.
-fn request_of<'a>(alloc: Global, words: &'a [String]) -> Option<Request<'a>> {
+fn request_of<'a>(alloc: Global, words: &'a [String]) -> Option<Invocation<'a>> {
     Some(read_words(alloc, words, false).ok()?.request)
 }
 
@@ -38,7 +38,7 @@ fn further_of(alloc: Global, words: &[String]) -> Result<Option<String>, AllocEr
 fn check_request(
     rt: &(impl Abort + AllocGlobal),
     line: &str,
-    wanted: Option<Request<'_>>,
+    wanted: Option<Invocation<'_>>,
 ) -> Result<(), Fail> {
     let words = words_of(rt.alloc(), line)?;
     assert_eq!(rt; request_of(rt.alloc(), words.as_slice()), wanted, "{line}");
@@ -48,24 +48,28 @@ fn check_request(
 #[test]
 fn a_command_is_asked_for_with_its_arguments(rt: HostRuntime) -> Result<(), Fail> {
     let policy = "a.toml";
-    check_request(&rt, "brokerd check a.toml", Some(Request::Check { policy }))?;
+    check_request(
+        &rt,
+        "brokerd check a.toml",
+        Some(Invocation::Check { policy }),
+    )?;
     let places = 65536;
     check_request(
         &rt,
         "brokerd run a.toml",
-        Some(Request::Run { policy, places }),
+        Some(Invocation::Run { policy, places }),
     )?;
     let places = 1_048_576;
-    let run = Some(Request::Run { policy, places });
+    let run = Some(Invocation::Run { policy, places });
     check_request(&rt, "brokerd run a.toml --audit 1048576", run)?;
     check_request(&rt, "brokerd run --audit=1048576 a.toml", run)?;
     check_request(&rt, "brokerd run a.toml --audit 1048577", None)?;
-    let strict = Some(Request::RunStrictly { policy, places });
+    let strict = Some(Invocation::RunStrictly { policy, places });
     check_request(&rt, "brokerd run a.toml --strict --audit 1048576", strict)?;
-    let told = Some(Request::CheckExplaining { policy });
+    let told = Some(Invocation::CheckExplaining { policy });
     check_request(&rt, "brokerd check a.toml --explain", told)?;
     let is_strict = true;
-    let told = Some(Request::RunExplaining {
+    let told = Some(Invocation::RunExplaining {
         policy,
         places,
         is_strict,
@@ -80,7 +84,7 @@ fn a_command_is_asked_for_with_its_arguments(rt: HostRuntime) -> Result<(), Fail
         last: u64::MAX,
     };
     let explains = false;
-    let picture = Some(Request::Picture {
+    let picture = Some(Invocation::Picture {
         policy,
         places,
         span,
@@ -91,18 +95,18 @@ fn a_command_is_asked_for_with_its_arguments(rt: HostRuntime) -> Result<(), Fail
         "brokerd picture a.toml --from 7 --audit 1048576",
         picture,
     )?;
-    let assemble = Some(Request::Assemble { policy, explains });
+    let assemble = Some(Invocation::Assemble { policy, explains });
     check_request(&rt, "brokerd assemble a.toml", assemble)?;
     let file = "k.hsail";
-    let kernel = Some(Request::Kernel { file, explains });
+    let kernel = Some(Invocation::Kernel { file, explains });
     check_request(&rt, "brokerd kernel k.hsail", kernel)?;
-    let explain = Some(Request::Explain { word: "L8" });
+    let explain = Some(Invocation::Explain { word: "L8" });
     check_request(&rt, "brokerd explain L8", explain)
 }
 
 /// The request of a run that isn't strict and explains nothing, and reads and replies so.
-fn by_line<'a>(is_readable: bool, is_json: bool) -> Option<Request<'a>> {
-    Some(Request::RunByLine {
+fn by_line<'a>(is_readable: bool, is_json: bool) -> Option<Invocation<'a>> {
+    Some(Invocation::RunByLine {
         policy: "a.toml",
         places: 65536,
         is_strict: false,
@@ -131,7 +135,7 @@ fn a_list_a_page_and_digits_are_asked_for(rt: HostRuntime) -> Result<(), Fail> {
     let policy = "a.toml";
     let explains = false;
     let list = |form| {
-        Some(Request::List {
+        Some(Invocation::List {
             policy,
             form,
             explains,
@@ -140,10 +144,10 @@ fn a_list_a_page_and_digits_are_asked_for(rt: HostRuntime) -> Result<(), Fail> {
     check_request(&rt, "brokerd check a.toml --list", list(ListForm::Table))?;
     check_request(&rt, "brokerd check --json a.toml", list(ListForm::Json))?;
     let slots = Some("a.slots");
-    let decode = Some(Request::Decode { slots, explains });
+    let decode = Some(Invocation::Decode { slots, explains });
     check_request(&rt, "brokerd decode --slots a.slots", decode)?;
     check_further(&rt, "brokerd decode 00 01", Some("00 01 "))?;
-    let page = Some(Request::Page { page: Page::Policy });
+    let page = Some(Invocation::Page { page: Page::Policy });
     check_request(&rt, "brokerd help policy", page)?;
     check_request(&rt, "brokerd help policies", None)
 }
@@ -152,7 +156,7 @@ fn a_list_a_page_and_digits_are_asked_for(rt: HostRuntime) -> Result<(), Fail> {
 fn check_unasked(rt: &(impl Abort + AllocGlobal), line: &str, explains: bool) -> Result<(), Fail> {
     let words = words_of(rt.alloc(), line)?;
     let policy = "a.toml";
-    let wanted = Some(Request::Assemble { policy, explains });
+    let wanted = Some(Invocation::Assemble { policy, explains });
     let asked = read_words(rt.alloc(), words.as_slice(), true);
     let request = asked.ok().map(|asked| asked.request);
     assert!(rt; request == wanted, "{line}");
@@ -277,7 +281,7 @@ fn threads_have_one_to_sixteen_producers(rt: HostRuntime) -> Result<(), Fail> {
     let policy = "a.toml";
     let producers = 16;
     let threads = |explains| {
-        Some(Request::Threads {
+        Some(Invocation::Threads {
             policy,
             producers,
             packets: None,

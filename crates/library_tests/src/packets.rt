@@ -2,8 +2,8 @@
 
 use aql_packet::{
     Address, AgentDispatch, Barrier, CodecRule, Header, KernelDispatch, KernelObject, Packet,
-    RawHeader, Scope, SignalHandle, decode, encode, header_in_first_word, header_of, one_spelling,
-    reading_is_layout,
+    RawHeader, Scope, SignalHandle, decode, encode, header_of, law_header_in_first_word,
+    law_one_spelling, law_reading_is_layout,
 };
 use byteorder::{BigEndian, ByteOrder};
 use std::test::*;
@@ -251,7 +251,7 @@ fn a_header_shows_its_type_and_barrier_bit(rt: HostRuntime) {
 
 #[test]
 fn the_laws_are_met(_rt: HostRuntime) {
-    one_spelling();
-    reading_is_layout();
-    header_in_first_word();
+    law_one_spelling();
+    law_reading_is_layout();
+    law_header_in_first_word();
 }

@@ -8,7 +8,7 @@ use byteorder::{ByteOrder, LittleEndian};
 
 /// What a field's number stands for.
 #[derive(Clone, Copy, Debug, PartialEq, Eq)]
-pub enum Form {
+pub enum FieldForm {
     /// A packet's type.
     Type,
     /// A number.
@@ -40,7 +40,7 @@ pub struct Field {
     /// The highest of its bits.
     pub high: u32,
     /// What its number stands for.
-    pub form: Form,
+    pub form: FieldForm,
 }
 
 impl Field {

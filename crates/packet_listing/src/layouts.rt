@@ -1,6 +1,6 @@
 //! The fields of each type of packet, in the order of their places (PSA, Architected Queuing Language).
 
-use crate::field::{Field, Form};
+use crate::field::{Field, FieldForm};
 
 /// The header, which each packet has.
 pub const HEADER: [Field; 5] = [
@@ -10,7 +10,7 @@ pub const HEADER: [Field; 5] = [
         size: 2,
         low: 0,
         high: 7,
-        form: Form::Type,
+        form: FieldForm::Type,
     },
     Field {
         name: "barrier",
@@ -18,7 +18,7 @@ pub const HEADER: [Field; 5] = [
         size: 2,
         low: 8,
         high: 8,
-        form: Form::Number,
+        form: FieldForm::Number,
     },
     Field {
         name: "acquire_fence_scope",
@@ -26,7 +26,7 @@ pub const HEADER: [Field; 5] = [
         size: 2,
         low: 9,
         high: 10,
-        form: Form::Scope,
+        form: FieldForm::Scope,
     },
     Field {
         name: "release_fence_scope",
@@ -34,7 +34,7 @@ pub const HEADER: [Field; 5] = [
         size: 2,
         low: 11,
         high: 12,
-        form: Form::Scope,
+        form: FieldForm::Scope,
     },
     Field {
         name: "reserved",
@@ -42,7 +42,7 @@ pub const HEADER: [Field; 5] = [
         size: 2,
         low: 13,
         high: 15,
-        form: Form::Reserved,
+        form: FieldForm::Reserved,
     },
 ];
 
@@ -54,7 +54,7 @@ const KERNEL: [Field; 15] = [
         size: 2,
         low: 0,
         high: 1,
-        form: Form::Number,
+        form: FieldForm::Number,
     },
     Field {
         name: "reserved",
@@ -62,7 +62,7 @@ const KERNEL: [Field; 15] = [
         size: 2,
         low: 2,
         high: 15,
-        form: Form::Reserved,
+        form: FieldForm::Reserved,
     },
     Field {
         name: "workgroup_size_x",
@@ -70,7 +70,7 @@ const KERNEL: [Field; 15] = [
         size: 2,
         low: 0,
         high: 15,
-        form: Form::Number,
+        form: FieldForm::Number,
     },
     Field {
         name: "workgroup_size_y",
@@ -78,7 +78,7 @@ const KERNEL: [Field; 15] = [
         size: 2,
         low: 0,
         high: 15,
-        form: Form::Number,
+        form: FieldForm::Number,
     },
     Field {
         name: "workgroup_size_z",
@@ -86,7 +86,7 @@ const KERNEL: [Field; 15] = [
         size: 2,
         low: 0,
         high: 15,
-        form: Form::Number,
+        form: FieldForm::Number,
     },
     Field {
         name: "reserved",
@@ -94,7 +94,7 @@ const KERNEL: [Field; 15] = [
         size: 2,
         low: 0,
         high: 15,
-        form: Form::Reserved,
+        form: FieldForm::Reserved,
     },
     Field {
         name: "grid_size_x",
@@ -102,7 +102,7 @@ const KERNEL: [Field; 15] = [
         size: 4,
         low: 0,
         high: 31,
-        form: Form::Number,
+        form: FieldForm::Number,
     },
     Field {
         name: "grid_size_y",
@@ -110,7 +110,7 @@ const KERNEL: [Field; 15] = [
         size: 4,
         low: 0,
         high: 31,
-        form: Form::Number,
+        form: FieldForm::Number,
     },
     Field {
         name: "grid_size_z",
@@ -118,7 +118,7 @@ const KERNEL: [Field; 15] = [
         size: 4,
         low: 0,
         high: 31,
-        form: Form::Number,
+        form: FieldForm::Number,
     },
     Field {
         name: "private_segment_size",
@@ -126,7 +126,7 @@ const KERNEL: [Field; 15] = [
         size: 4,
         low: 0,
         high: 31,
-        form: Form::Number,
+        form: FieldForm::Number,
     },
     Field {
         name: "group_segment_size",
@@ -134,7 +134,7 @@ const KERNEL: [Field; 15] = [
         size: 4,
         low: 0,
         high: 31,
-        form: Form::Number,
+        form: FieldForm::Number,
     },
     Field {
         name: "kernel_object",
@@ -142,7 +142,7 @@ const KERNEL: [Field; 15] = [
         size: 8,
         low: 0,
         high: 63,
-        form: Form::Number,
+        form: FieldForm::Number,
     },
     Field {
         name: "kernarg_address",
@@ -150,7 +150,7 @@ const KERNEL: [Field; 15] = [
         size: 8,
         low: 0,
         high: 63,
-        form: Form::Address,
+        form: FieldForm::Address,
     },
     Field {
         name: "reserved",
@@ -158,7 +158,7 @@ const KERNEL: [Field; 15] = [
         size: 8,
         low: 0,
         high: 63,
-        form: Form::Reserved,
+        form: FieldForm::Reserved,
     },
     Field {
         name: "completion_signal",
@@ -166,7 +166,7 @@ const KERNEL: [Field; 15] = [
         size: 8,
         low: 0,
         high: 63,
-        form: Form::Signal,
+        form: FieldForm::Signal,
     },
 ];
 
@@ -178,7 +178,7 @@ const AGENT: [Field; 9] = [
         size: 2,
         low: 0,
         high: 15,
-        form: Form::Number,
+        form: FieldForm::Number,
     },
     Field {
         name: "reserved",
@@ -186,7 +186,7 @@ const AGENT: [Field; 9] = [
         size: 4,
         low: 0,
         high: 31,
-        form: Form::Reserved,
+        form: FieldForm::Reserved,
     },
     Field {
         name: "return_address",
@@ -194,7 +194,7 @@ const AGENT: [Field; 9] = [
         size: 8,
         low: 0,
         high: 63,
-        form: Form::Address,
+        form: FieldForm::Address,
     },
     Field {
         name: "argument 0",
@@ -202,7 +202,7 @@ const AGENT: [Field; 9] = [
         size: 8,
         low: 0,
         high: 63,
-        form: Form::Word,
+        form: FieldForm::Word,
     },
     Field {
         name: "argument 1",
@@ -210,7 +210,7 @@ const AGENT: [Field; 9] = [
         size: 8,
         low: 0,
         high: 63,
-        form: Form::Word,
+        form: FieldForm::Word,
     },
     Field {
         name: "argument 2",
@@ -218,7 +218,7 @@ const AGENT: [Field; 9] = [
         size: 8,
         low: 0,
         high: 63,
-        form: Form::Word,
+        form: FieldForm::Word,
     },
     Field {
         name: "argument 3",
@@ -226,7 +226,7 @@ const AGENT: [Field; 9] = [
         size: 8,
         low: 0,
         high: 63,
-        form: Form::Word,
+        form: FieldForm::Word,
     },
     Field {
         name: "reserved",
@@ -234,7 +234,7 @@ const AGENT: [Field; 9] = [
         size: 8,
         low: 0,
         high: 63,
-        form: Form::Reserved,
+        form: FieldForm::Reserved,
     },
     Field {
         name: "completion_signal",
@@ -242,7 +242,7 @@ const AGENT: [Field; 9] = [
         size: 8,
         low: 0,
         high: 63,
-        form: Form::Signal,
+        form: FieldForm::Signal,
     },
 ];
 
@@ -254,7 +254,7 @@ const BARRIER: [Field; 8] = [
         size: 6,
         low: 0,
         high: 47,
-        form: Form::Reserved,
+        form: FieldForm::Reserved,
     },
     Field {
         name: "dependency 1",
@@ -262,7 +262,7 @@ const BARRIER: [Field; 8] = [
         size: 8,
         low: 0,
         high: 63,
-        form: Form::Signal,
+        form: FieldForm::Signal,
     },
     Field {
         name: "dependency 2",
@@ -270,7 +270,7 @@ const BARRIER: [Field; 8] = [
         size: 8,
         low: 0,
         high: 63,
-        form: Form::Signal,
+        form: FieldForm::Signal,
     },
     Field {
         name: "dependency 3",
@@ -278,7 +278,7 @@ const BARRIER: [Field; 8] = [
         size: 8,
         low: 0,
         high: 63,
-        form: Form::Signal,
+        form: FieldForm::Signal,
     },
     Field {
         name: "dependency 4",
@@ -286,7 +286,7 @@ const BARRIER: [Field; 8] = [
         size: 8,
         low: 0,
         high: 63,
-        form: Form::Signal,
+        form: FieldForm::Signal,
     },
     Field {
         name: "dependency 5",
@@ -294,7 +294,7 @@ const BARRIER: [Field; 8] = [
         size: 8,
         low: 0,
         high: 63,
-        form: Form::Signal,
+        form: FieldForm::Signal,
     },
     Field {
         name: "reserved",
@@ -302,7 +302,7 @@ const BARRIER: [Field; 8] = [
         size: 8,
         low: 0,
         high: 63,
-        form: Form::Reserved,
+        form: FieldForm::Reserved,
     },
     Field {
         name: "completion_signal",
@@ -310,7 +310,7 @@ const BARRIER: [Field; 8] = [
         size: 8,
         low: 0,
         high: 63,
-        form: Form::Signal,
+        form: FieldForm::Signal,
     },
 ];
 
@@ -322,7 +322,7 @@ const WORDS: [Field; 8] = [
         size: 8,
         low: 0,
         high: 63,
-        form: Form::Word,
+        form: FieldForm::Word,
     },
     Field {
         name: "word 1",
@@ -330,7 +330,7 @@ const WORDS: [Field; 8] = [
         size: 8,
         low: 0,
         high: 63,
-        form: Form::Word,
+        form: FieldForm::Word,
     },
     Field {
         name: "word 2",
@@ -338,7 +338,7 @@ const WORDS: [Field; 8] = [
         size: 8,
         low: 0,
         high: 63,
-        form: Form::Word,
+        form: FieldForm::Word,
     },
     Field {
         name: "word 3",
@@ -346,7 +346,7 @@ const WORDS: [Field; 8] = [
         size: 8,
         low: 0,
         high: 63,
-        form: Form::Word,
+        form: FieldForm::Word,
     },
     Field {
         name: "word 4",
@@ -354,7 +354,7 @@ const WORDS: [Field; 8] = [
         size: 8,
         low: 0,
         high: 63,
-        form: Form::Word,
+        form: FieldForm::Word,
     },
     Field {
         name: "word 5",
@@ -362,7 +362,7 @@ const WORDS: [Field; 8] = [
         size: 8,
         low: 0,
         high: 63,
-        form: Form::Word,
+        form: FieldForm::Word,
     },
     Field {
         name: "word 6",
@@ -370,7 +370,7 @@ const WORDS: [Field; 8] = [
         size: 8,
         low: 0,
         high: 63,
-        form: Form::Word,
+        form: FieldForm::Word,
     },
     Field {
         name: "word 7",
@@ -378,7 +378,7 @@ const WORDS: [Field; 8] = [
         size: 8,
         low: 0,
         high: 63,
-        form: Form::Word,
+        form: FieldForm::Word,
     },
 ];
 

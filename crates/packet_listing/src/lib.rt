@@ -10,6 +10,6 @@ mod layouts;
 mod telling;
 
 pub use digits::packet_of;
-pub use field::{Field, Form, value_of};
+pub use field::{Field, FieldForm, value_of};
 pub use layouts::{layout_of, type_name};
 pub use telling::{first_failing, is_slot_empty, push_fields, push_verdict};

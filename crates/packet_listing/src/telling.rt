@@ -5,7 +5,7 @@ ghost use Rattle.aql_packet.specs.Reading.{refusal};
 ghost use Rattle.aql_packet.specs.Words.{is_invalid, words_of};
 ghost use Rattle.std.specs.Prelude.{slice_index};
 
-use crate::field::{Field, Form, value_of};
+use crate::field::{Field, FieldForm, value_of};
 use crate::layouts::{HEADER, layout_of, type_name};
 use aql_packet::{CodecRule, decode, header_of, is_invalid, words_of};
 use std::alloc::AllocError;
@@ -88,25 +88,25 @@ fn push_or_none(out: &mut String, value: u64) -> Result<(), AllocError> {
 }
 
 // Adds what a field's number stands for.
-fn push_value(out: &mut String, form: Form, value: u64) -> Result<(), AllocError> {
+fn push_value(out: &mut String, form: FieldForm, value: u64) -> Result<(), AllocError> {
     match form {
-        Form::Type => write!(out, "{value}, {}", type_name((value % 256) as u8)),
-        Form::Number => write!(out, "{value}"),
-        Form::Scope => write!(out, "{value}, {}", scope_name(value)),
-        Form::Word => {
+        FieldForm::Type => write!(out, "{value}, {}", type_name((value % 256) as u8)),
+        FieldForm::Number => write!(out, "{value}"),
+        FieldForm::Scope => write!(out, "{value}, {}", scope_name(value)),
+        FieldForm::Word => {
             write!(out, "{value}, ")?;
             push_address(out, value)
         }
-        Form::Address => {
+        FieldForm::Address => {
             push_address(out, value)?;
             push_or_none(out, value)
         }
-        Form::Signal => {
+        FieldForm::Signal => {
             write!(out, "{value}")?;
             push_or_none(out, value)
         }
-        Form::Reserved if value == 0 => out.push_str("0"),
-        Form::Reserved => write!(out, "{value}, has to be 0"),
+        FieldForm::Reserved if value == 0 => out.push_str("0"),
+        FieldForm::Reserved => write!(out, "{value}, has to be 0"),
     }
 }
 

@@ -43,3 +43,24 @@ pub held_by_rule : (opening : Opening) (p : Packet) (none a k b c d : List (Obje
     → c ≡ b ++ rights_of (needs L9 opening.agent p) → d ≡ c ++ rights_of (needs L10 opening.agent p)
     → d ≡ map as_rights (held_by_needs opening p)
 held_by_rule opening p none a k b c d empty first kernel second third fourth = grind (arith, rights_map)
+
+behind : (none r4 r6 r8 r9 r10 : List (Object × Rights)) → ((((none ++ r4) ++ r6) ++ r8) ++ r9) ++ r10 ≡ none ++ ((((r4 ++ r6) ++ r8) ++ r9) ++ r10)
+behind [] r4 r6 r8 r9 r10 = refl
+behind (x ∷ xs) r4 r6 r8 r9 r10 = ap (λ ys. x ∷ ys) (behind xs r4 r6 r8 r9 r10)
+
+-- so it is behind what stood there before
+pub held_behind : (opening : Opening) (p : Packet) (none a k b c d : List (Object × Rights))
+    → a ≡ none ++ rights_of (needs L4 opening.agent p) → k ≡ a ++ rights_of (needs L6 opening.agent p) → b ≡ k ++ rights_of (needs L8 opening.agent p)
+    → c ≡ b ++ rights_of (needs L9 opening.agent p) → d ≡ c ++ rights_of (needs L10 opening.agent p)
+    → d ≡ none ++ map as_rights (held_by_needs opening p)
+held_behind opening p none a k b c d first kernel second third fourth =
+    let r4 : List (Object × Rights) = rights_of (needs L4 opening.agent p) in
+    let r6 : List (Object × Rights) = rights_of (needs L6 opening.agent p) in
+    let r8 : List (Object × Rights) = rights_of (needs L8 opening.agent p) in
+    let r9 : List (Object × Rights) = rights_of (needs L9 opening.agent p) in
+    let r10 : List (Object × Rights) = rights_of (needs L10 opening.agent p) in
+    let all : (((r4 ++ r6) ++ r8) ++ r9) ++ r10 ≡ map as_rights (held_by_needs opening p) =
+    held_by_rule opening p [] r4 (r4 ++ r6) ((r4 ++ r6) ++ r8) (((r4 ++ r6) ++ r8) ++ r9) ((((r4 ++ r6) ++ r8) ++ r9) ++ r10) refl refl refl refl refl refl in
+    let whole : d ≡ ((((none ++ r4) ++ r6) ++ r8) ++ r9) ++ r10 =
+    fourth ∙ ap (λ xs. xs ++ r10) (third ∙ ap (λ xs. xs ++ r9) (second ∙ ap (λ xs. xs ++ r8) (kernel ∙ ap (λ xs. xs ++ r6) first))) in
+    whole ∙ behind none r4 r6 r8 r9 r10 ∙ ap (λ xs. none ++ xs) all

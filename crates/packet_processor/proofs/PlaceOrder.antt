@@ -1,5 +1,5 @@
 -- Places in the order of ids: each packet has one of them, and it may be changed or taken out there.
-use Rattle.std.proofs.Common.{◌≡◌, ℕ, zero, suc, ◌<◌, Bool, true, false, if◌then◌else◌, List, [], ◌∷◌, ◌++◌, Option, None, Some, option_map, All, length, get_or, map, not, refl, ap, arith, sym, subst, ◌∙◌}
+use Rattle.std.proofs.Common.{◌≡◌, ℕ, zero, suc, ◌<◌, Bool, true, false, if◌then◌else◌, List, [], ◌∷◌, ◌++◌, Option, None, Some, option_map, All, drop, ◌+◌, length, get_or, map, not, refl, ap, arith, sym, subst, ◌∙◌}
 use Rattle.std.specs.Prelude.{slice_get, slice_set}
 use Rattle.std.specs.List.{remove}
 use Rattle.std.proofs.lemmas.Option.{get_or_from_slice_get, slice_get_within}
@@ -8,6 +8,7 @@ use Rattle.core_model.specs.declared.flight.Progress.{Progress}
 use Rattle.packet_processor.specs.Queueing.{IsFoundIn, further, is_place_of, with_progress, without_packet}
 use Rattle.packet_processor.specs.declared.places.FoundPacket.{FoundPacket}
 use Rattle.packet_processor.specs.declared.places.Place.{Place}
+use Rattle.packet_processor.proofs.LeftBehind.{first-behind, got-behind, got_or-behind, removed-behind, set-behind}
 use Rattle.packet_processor.specs.inner.Ascending.{Above, Ascends}
 
 -- ---- one place more, behind the others
@@ -96,6 +97,26 @@ pub taken-out : (xs : List Place) (found : FoundPacket) → Ascends xs → IsFou
 taken-out xs found order is =
     let p = there xs found is in
     without-at xs found.index p.0 order p.1 ∙ ap (λ id. without_packet id xs) p.2
+
+-- ---- the places behind those that were left behind
+
+pub found-within : (d : ℕ) (xs : List Place) (found : FoundPacket) → IsFoundIn found (drop d xs) → d + found.index < length xs
+found-within d xs found is =
+    let p = there (drop d xs) found is in
+    slice_get_within xs (d + found.index) p.0 (sym (got-behind d xs found.index) ∙ p.1)
+
+pub out-first : (d : ℕ) (xs : List Place) (found : FoundPacket) → Ascends (drop d xs) → IsFoundIn found (drop d xs) → found.index ≡ 0
+    → drop (d + 1) xs ≡ without_packet found.packet (drop d xs)
+out-first d xs found order is first = first-behind d xs ∙ ap (remove (drop d xs)) (sym first) ∙ taken-out (drop d xs) found order is
+
+pub out-later : (d : ℕ) (xs : List Place) (found : FoundPacket) → Ascends (drop d xs) → IsFoundIn found (drop d xs)
+    → drop d (remove xs (d + found.index)) ≡ without_packet found.packet (drop d xs)
+out-later d xs found order is = removed-behind d xs found.index ∙ taken-out (drop d xs) found order is
+
+pub changed-behind : (d : ℕ) (xs : List Place) (found : FoundPacket) (so_far : Progress) (old : Place) → Ascends (drop d xs) → IsFoundIn found (drop d xs)
+    → old ≡ get_or xs (d + found.index) old → drop d (slice_set xs (d + found.index) (further so_far old)) ≡ map (with_progress found.packet so_far) (drop d xs)
+changed-behind d xs found so_far old order is at =
+    set-behind d xs found.index (further so_far old) ∙ changed (drop d xs) found so_far old order is (at ∙ sym (got_or-behind d xs found.index old))
 
 -- ---- the order stays
 

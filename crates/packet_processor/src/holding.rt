@@ -30,13 +30,22 @@ pub fn held_by_needs(alloc: Global, asked: &PacketNeeds) -> Result<Sequence<Held
         ≡ map as_rights (held_by_needs (record { client = client; agent = asked.now.agent }) asked.now.packet)) }
 {
     let mut held = Sequence::new(alloc);
-    let packet = asked.packet();
-    hold_all(&mut held, &agent_needs(asked.agent()))?;
-    hold_all(&mut held, &kernel_needs(packet))?;
-    hold_all(&mut held, &memory_needs(packet))?;
-    hold_all(&mut held, &wait_needs(packet))?;
-    hold_all(&mut held, &completion_needs(packet))?;
+    hold_needs(&mut held, asked)?;
     Ok(held)
+}
+
+/// Puts what a packet holds by what it needs behind what stands in a list, rule by rule.
+pub fn hold_needs(held: &mut Sequence<Held>, asked: &PacketNeeds) -> Result<(), AllocError>
+    ensures { (client : ClientId) → OnOk result (held.new
+        ≡ held.old ++ map as_rights (held_by_needs (record { client = client; agent = asked.now.agent }) asked.now.packet)) }
+{
+    let packet = asked.packet();
+    hold_all(held, &agent_needs(asked.agent()))?;
+    hold_all(held, &kernel_needs(packet))?;
+    hold_all(held, &memory_needs(packet))?;
+    hold_all(held, &wait_needs(packet))?;
+    hold_all(held, &completion_needs(packet))?;
+    Ok(())
 }
 
 /// What a kernel dispatch holds by its arguments: all rights in force on each region in which one of the

@@ -21,17 +21,6 @@ use policy::{Object, Right, Takes};
 use queue_error::Rule;
 use regions::{Regions, region_of};
 
-/// The rules that look at a packet's fields, in the order in which they are tried.
-const RULES_OF_FIELDS: [Rule; 7] = [
-    Rule::L4,
-    Rule::L5,
-    Rule::L6,
-    Rule::L7,
-    Rule::L8,
-    Rule::L9,
-    Rule::L10,
-];
-
 /// Judges 64 bytes by the launch rules in order: they are launched as the packet that they lay out,
 /// or denied by the first rule that fails.
 pub fn verdict(bytes: &[u8; 64], facts: &Facts) -> Verdict
@@ -54,18 +43,38 @@ fn judge(facts: &Facts, asked: PacketNeeds) -> Verdict
     }
 }
 
-// The first rule that fails of those that look at the packet's fields.
+// The first rule that fails of those that look at the packet's fields. Each is asked for by itself, and not in a loop, so
+// that what only packets of another kind are asked for is not even reckoned.
 fn first_failing(facts: &Facts, asked: &PacketNeeds) -> Option<Rule>
     requires { asked.now.agent ≡ facts.now.agent }
     ensures { result ≡ later_failing (facts_seen facts.now) asked.now.packet }
 {
-    RULES_OF_FIELDS
-        .iter()
-        .find(|rule| !meets_rule(facts, asked, **rule))
-        .copied()
+    if !meets_rule(facts, asked, Rule::L4) {
+        return Some(Rule::L4);
+    }
+    if !meets_rule(facts, asked, Rule::L5) {
+        return Some(Rule::L5);
+    }
+    if !meets_rule(facts, asked, Rule::L6) {
+        return Some(Rule::L6);
+    }
+    if !meets_rule(facts, asked, Rule::L7) {
+        return Some(Rule::L7);
+    }
+    if !meets_rule(facts, asked, Rule::L8) {
+        return Some(Rule::L8);
+    }
+    if !meets_rule(facts, asked, Rule::L9) {
+        return Some(Rule::L9);
+    }
+    if !meets_rule(facts, asked, Rule::L10) {
+        return Some(Rule::L10);
+    }
+    None
 }
 
 // Whether a packet is as a rule asks, and the rights that it needs are in force.
+#[inline(always)]
 fn meets_rule(facts: &Facts, asked: &PacketNeeds, rule: Rule) -> bool
     requires { asked.now.agent ≡ facts.now.agent }
     ensures { result ≡ rules.meets_rule (facts_seen facts.now) asked.now.packet rule }
@@ -74,6 +83,7 @@ fn meets_rule(facts: &Facts, asked: &PacketNeeds, rule: Rule) -> bool
 }
 
 // Whether a packet is as a rule asks, beside the rights that it then holds.
+#[inline(always)]
 fn has_form(facts: &Facts, packet: &Packet, rule: Rule) -> bool
     ensures { result ≡ rules.has_form (facts_seen facts.now) packet.now rule }
 {
@@ -87,6 +97,7 @@ fn has_form(facts: &Facts, packet: &Packet, rule: Rule) -> bool
 }
 
 // Whether an agent takes a packet of this kind.
+#[inline(always)]
 fn agent_takes_kind(takes: Takes, packet: &Packet) -> bool
     ensures { result ≡ rules.agent_takes_kind takes packet.now }
 {
@@ -98,6 +109,7 @@ fn agent_takes_kind(takes: Takes, packet: &Packet) -> bool
 }
 
 // Whether what a dispatch asks for can be done.
+#[inline(always)]
 fn asks_for_known_work(packet: &Packet) -> bool
     ensures { result ≡ rules.asks_for_known_work packet.now }
 {
@@ -109,6 +121,7 @@ fn asks_for_known_work(packet: &Packet) -> bool
 }
 
 // Whether the rights that a rule asks for are in force. What most packets don't need is not even looked for.
+#[inline(always)]
 fn has_rights(facts: &Facts, asked: &PacketNeeds, rule: Rule) -> bool
     ensures { result ≡ list_all (rules.need_is_met (facts_seen facts.now)) (model.needs rule asked.now.agent asked.now.packet) }
 {
@@ -124,6 +137,7 @@ fn has_rights(facts: &Facts, asked: &PacketNeeds, rule: Rule) -> bool
 }
 
 // Whether the rights on ranges of memory are in force.
+#[inline(always)]
 fn has_memory_rights(facts: &Facts, packet: &Packet) -> bool
     ensures { result ≡ list_all (rules.need_is_met (facts_seen facts.now)) (model.memory_needs packet.now) }
 {
@@ -134,6 +148,7 @@ fn has_memory_rights(facts: &Facts, packet: &Packet) -> bool
 }
 
 // Whether the rights to wait on dependencies are in force.
+#[inline(always)]
 fn has_wait_rights(facts: &Facts, packet: &Packet) -> bool
     ensures { result ≡ list_all (rules.need_is_met (facts_seen facts.now)) (flat_map (model.signal_need Right.Wait) (model.dependencies packet.now)) }
 {

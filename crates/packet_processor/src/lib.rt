@@ -15,7 +15,7 @@ mod places;
 mod queue_state;
 
 pub use facts::{Facts, Verdict};
-pub use holding::{held_by_arguments, held_by_needs};
+pub use holding::{held_by_arguments, held_by_needs, hold_needs};
 pub use judging::verdict;
 pub use need_table::{function_of, result_range};
 pub use packet_needs::{MOST_NEEDS, PacketNeeds};

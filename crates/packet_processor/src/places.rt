@@ -1,8 +1,9 @@
 //! The places in which a packet processor keeps the packets of a queue in flight.
 
-ghost use Rattle.std.specs.Prelude.{◌≡◌, ◌==◌, ◌<◌, ◌++◌, ◌∷◌, [], All, IfSome, find, length, map, option_map};
+ghost use Rattle.std.specs.Prelude.{◌≡◌, ◌==◌, ◌<◌, ◌≤◌, ◌++◌, ◌∷◌, [], All, IfSome, drop, find, length, map, option_map};
 ghost use Rattle.std.specs.Option.{option_copied};
 ghost use Rattle.core_model.specs.Limits.{most_in_flight};
+ghost use Rattle.packet_processor.specs.declared.places.TheConstants.{PLACES};
 ghost use Rattle.core_model.specs.LaunchRules.{is_barrier};
 ghost use Rattle.packet_processor.specs.Queueing.{IsFoundIn, IsIndexOf, as_launched, is_place_of, with_progress, without_packet};
 
@@ -11,6 +12,9 @@ use aql_packet::{Barrier, Header, Packet, PacketId, Scope, SignalHandle};
 use arrayvec::ArrayVec;
 use core_model::{LAUNCH_PROGRESS, MOST_IN_FLIGHT, Progress};
 use std::marker::Model;
+
+/// How many places there are: twice as many as packets can be in flight, so that those in front are seldom moved.
+const PLACES: usize = 2 * MOST_IN_FLIGHT;
 
 /// What lies in a place that isn't taken.
 const NOTHING: Barrier = Barrier {
@@ -44,10 +48,13 @@ pub struct FoundPacket {
 }
 
 /// The packets of one queue in flight, in the order in which they were launched, which is that of their ids. They
-/// lie in eight places of the value itself, and take no memory. A contract sees the list.
+/// lie in sixteen places of the value itself, and take no memory. The first packet leaves its place behind, and the
+/// others are moved only where no place behind them is left. A contract sees the list.
 #[derive(Drop)]
 pub struct Places {
-    taken: ArrayVec<Place, MOST_IN_FLIGHT>,
+    taken: ArrayVec<Place, PLACES>,
+    /// How many places in front were left behind.
+    left: usize,
 }
 
 impl Model for Places {
@@ -56,11 +63,13 @@ impl Model for Places {
 
     ghost Value = { List Place };
 
-    ghost view = { λ p. p.taken.items };
+    ghost use Rattle.std.specs.Prelude.{drop};
 
-    ghost use Rattle.packet_processor.specs.inner.Ascending.{Ascends};
+    ghost view = { λ p. drop p.left p.taken.items };
 
-    ghost invariant = { λ p. Ascends p.taken.items };
+    ghost use Rattle.packet_processor.specs.inner.Ascending.{AreBehind};
+
+    ghost invariant = { λ p. AreBehind p.left p.taken.items };
 }
 
 impl Default for Place {
@@ -81,6 +90,7 @@ impl Places {
     {
         Places {
             taken: ArrayVec::new(),
+            left: 0,
         }
     }
 
@@ -88,7 +98,8 @@ impl Places {
     pub fn as_slice(&self) -> &[Place]
         ensures { result.now ≡ self.now }
     {
-        self.taken.as_slice()
+        let (_, flying) = self.taken.as_slice().split_at(self.left);
+        flying
     }
 
     /// The packet with an id, if it is in flight.
@@ -130,6 +141,7 @@ impl Places {
         requires above { All (λ place. place.id.0 < id.0) self.old }
         ensures { self.new ≡ self.old ++ as_launched id packet ∷ [] }
     {
+        self.left = make_room(&mut self.taken, self.left);
         self.taken.push(Place {
             id,
             packet,
@@ -141,7 +153,7 @@ impl Places {
     pub fn len(&self) -> usize
         ensures { result ≡ length self.now }
     {
-        self.taken.len()
+        self.taken.len() - self.left
     }
 
     /// Takes a packet that was found out of flight.
@@ -149,7 +161,11 @@ impl Places {
         requires { IsFoundIn found self.old }
         ensures { self.new ≡ without_packet found.packet self.old }
     {
-        self.taken.remove(found.index);
+        if found.index == 0 {
+            self.left += 1;
+            return;
+        }
+        self.taken.remove(self.left + found.index);
     }
 
     /// Notes how far a packet that was found has come.
@@ -157,10 +173,28 @@ impl Places {
         requires { IsFoundIn found self.old }
         ensures { self.new ≡ map (with_progress found.packet progress) self.old }
     {
-        if let Some(place) = self.taken.get_mut(found.index) {
+        if let Some(place) = self.taken.get_mut(self.left + found.index) {
             place.progress = progress;
         }
     }
+}
+
+// Sees to it that there is a place behind the packets, and answers how many lie in front that were left behind: where
+// the last place is taken the packets move to the front.
+fn make_room(taken: &mut ArrayVec<Place, PLACES>, left: usize) -> usize
+    requires within { left ≤ length taken.old.items }
+    requires few { length (drop left taken.old.items) < most_in_flight }
+    ensures same { drop result taken.new.items ≡ drop left taken.old.items }
+    ensures within { result ≤ length taken.new.items }
+    ensures room { length taken.new.items < PLACES }
+{
+    let count = taken.len();
+    if count < PLACES {
+        return left;
+    }
+    taken.as_mut_slice().copy_within(left..count, 0);
+    taken.truncate(count - left);
+    0
 }
 
 // Whether a place is that of the packet with an id.

@@ -3,14 +3,14 @@
 /// The page's text.
 pub const TEXT: &str = "# Running a kernel
 
-This page is for authors of kernels. It goes from a kernel's text to its writes in memory, and says at each step what may refuse it, and what helps. How a text is written is the matter of `docs/kernel_text.md`, what a policy is that of `docs/policy.md`, and how a packet is laid out that of `docs/aql_packets.md`.
+This page is for authors of kernels. It goes from a kernel's text to its writes in memory, and says at each step what may refuse it, and what helps. Other pages say how a text is written (`docs/kernel_text.md`), what a policy is (`docs/policy.md`), and how a packet is laid out (`docs/aql_packets.md`).
 
 ## From a text to a run
 
-1. **The text** stands in a `[[kernel]]` row of the policy, and `entry` names the kernel of it that packets launch. `brokerd check POLICY` reads and checks the texts of all rows in order, and names the first fault, as `kernel 1: check 3 line 4`. A module without a kernel of the entry's name is no fault of the check. `brokerd run` tells it, where the policy and its kernels have no other fault, as `kernel 1: no entry`, before any reply, and ends with status 1.
+1. **The text** stands in a `[[kernel]]` row of the policy, and `entry` names the kernel of it that packets launch. `brokerd check POLICY` reads and checks the texts of all rows in order, and names the first fault, as `kernel 1: check 3 line 4`. A module without a kernel of the entry's name is no fault of the check. Where the policy and its kernels have no other fault, `brokerd run` tells it as `kernel 1: no entry`, before any reply, and ends with status 1.
 2. **The grants.** A packet launches only what its client was granted: `USE` on the agent, `LAUNCH` on the kernel, rights on regions, `CHANGE` on the completion signal.
 3. **The arguments** are written to memory as one block: each at the next multiple of its size, or of its `align`. The dispatch has the block's address (`kernarg_address`). An argument of 64 bits may be the address of memory that the kernel works on.
-4. **The launch** (`serve`). The launch rules below decide. The block is copied then: what is written there later the packet doesn't see.
+4. **The launch** (`serve`). The launch rules below decide. The block is copied then: the packet doesn't see what is written there later.
 5. **The work-groups** (`run`) run one at a time, in the order of their places in the grid, with x fastest. The items of a group run in the order of their places, one after another, and see what those before wrote. A group that ends leaves all its writes at once, and is answered `ran G left N`. One that breaks a rule leaves none: `faulted ERROR`.
 6. **The completion** (`finish`). Where all groups ran the completion signal, if there is one, is decremented, and the packet holds nothing any more.
 
@@ -33,7 +33,13 @@ step 7 line 11 st_global_u32 $s1, [$d0];
 step 8 line 12 ret;
 ok
 ```
-For each kernel comes its line, with the bytes of its argument block and of its group variables and the number of its steps; then `argument OFFSET TYPE NAME` and `group OFFSET TYPE NAME` for its variables at their places; then its steps, counted from 0, each with its line and that line's text; and last `ok`. A fault goes to standard error, with the text of its line and a mark, and ends the command with status 1:
+Of each kernel come, in this order:
+
+- its line, with the bytes of its argument block and of its group variables and the number of its steps;
+- `argument OFFSET TYPE NAME` and `group OFFSET TYPE NAME` for its variables at their places;
+- its steps, counted from 0, each with its line and that line's text.
+
+The last line is `ok`. A fault goes to standard error, with the text of its line and a mark, and ends the command with status 1:
 ```
 read 2 line 3 column 14: Syntax: no module goes on with this token
   \tmov_b32 $s0,;
@@ -96,7 +102,7 @@ bytes    0  02 14                    header: type 2, acquire and release scope 2
 
 ## Group memory, a barrier and an atomic operation
 
-This kernel adds up numbers, a total for each work-group. Its items share `%sum`, which begins as 0 for each group: each adds its number to it by an atomic operation and waits at the barrier; then the first item of the group stores what has come together. This policy has it, as `sums.toml`:
+This kernel adds up numbers, a total for each work-group. Its items share `%sum`, which begins as 0 for each group. Each adds its number to it by an atomic operation and waits at the barrier. Then the first item of the group stores what has come together. This policy has it, as `sums.toml`:
 
 ```toml file=sums.toml
 client = [{ name = \"alice\" }]
@@ -141,7 +147,7 @@ prog kernel &sums(kernarg_u64 %numbers, kernarg_u64 %totals)
 '''
 ```
 
-Six numbers, two work-groups of three items. The group variable takes four bytes, and the packet has to give at least so many (`group_segment_size`, bytes 28 to 31): the first packet gives none, and is denied by rule L7.
+There are six numbers, and two work-groups of three items. The group variable takes four bytes, and the packet has to give at least so many (`group_segment_size`, bytes 28 to 31). The first packet gives none, and is denied by rule L7.
 
 ```script over=sums.toml
 > grant alice agent gpu USE
@@ -205,7 +211,12 @@ The block is as long as the end of the last argument; no alignment of its addres
 
 ## What a packet in flight holds
 
-From its launch until it is released a kernel dispatch holds `USE` on its agent, `LAUNCH` on its kernel, `CHANGE` on its completion signal, and **all rights that were in force at its launch on each region in which one of its arguments of 64 bits points**. None of these can be revoked meanwhile (`refused 4 Busy queue 1 packet 0`). So the work-groups run on rights that are in force.
+From its launch until it is released a kernel dispatch holds:
+
+- `USE` on its agent, `LAUNCH` on its kernel, and `CHANGE` on its completion signal;
+- **all rights that were in force at its launch on each region in which one of its arguments of 64 bits points**.
+
+None of these can be revoked meanwhile (`refused 4 Busy queue 1 packet 0`). So the work-groups run on rights that are in force. Of regions:
 
 - An argument points in a region where its number is the address of one of the region's bytes. What else the number may mean doesn't matter.
 - A region on which no right was in force at the launch is not held, and one that no argument points in isn't either, whatever rights there are. Arguments of 8, 16 and 32 bits hold nothing.
@@ -224,11 +235,11 @@ Each load and each store of global memory is judged by rules A1 to A3, in this o
 | A4 | an atomic operation's address is a multiple of its size | another address |
 | A5 | a work-item takes at most 65,536 instructions. `ret` is one, reaching the closing brace isn't | a loop that ends, or more work-items |
 
-An atomic operation is both a load and a store: it needs both rights. Group memory knows two rules of its own: A7, that an access ends inside the packet's `group_segment_size`, and A4 likewise. A6 is that of barriers, below.
+An atomic operation is both a load and a store: it needs both rights. Group memory has two rules of its own: A7, that an access ends inside the packet's `group_segment_size`, and A4 likewise. A6 is that of barriers, above.
 
-A work-item that breaks one ends its whole work-group: none of the group's writes is made, the packet is released, and its queue has an error and launches nothing more. The error says where, as `queue 1 packet 0 rule A3 group 1 item 1 line 9`: the group's number, the item's in it with x fastest, both from 0, and the line of the text; `--explain` tells the address too (`docs/explaining.md`). The writes of groups before stay, the completion signal isn't touched, and other packets of the queue that are in flight go on.
+A work-item that breaks one ends its whole work-group. None of the group's writes is made, the packet is released, and its queue has an error and launches nothing more. The error says where, as `queue 1 packet 0 rule A3 group 1 item 1 line 9`: the group's number, the item's in it with x fastest, both from 0, and the line of the text. `--explain` tells the address too (`docs/explaining.md`). The writes of groups before stay, the completion signal isn't touched, and other packets of the queue that are in flight go on.
 
-In the example, with `3100000001000000` as the argument (byte 49 of `buf`, which has 64) the first group runs, and the second is told just that error: its second item loads the four bytes from byte 61 on, and the last one is past the end. After `revoke alice region buf WRITE` before the launch, the first item's store is rule A2 on line 11. With an argument of 0 its load is rule A1 on line 9.
+Take the example with `3100000001000000` as the argument, which is byte 49 of `buf`; `buf` has 64. The first group runs, and the second is told just that error: its second item loads the four bytes from byte 61 on, and the last one is past the end. After `revoke alice region buf WRITE` before the launch, the first item's store is rule A2 on line 11. With an argument of 0 its load is rule A1 on line 9.
 
 ## Where this is tried
 

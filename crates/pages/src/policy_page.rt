@@ -3,7 +3,7 @@
 /// The page's text.
 pub const TEXT: &str = "# Writing a policy
 
-A policy says what exists in a broker, and which rights may be granted to whom. It grants nothing by itself: a right is in force only once it was granted (`grant ..` in a script), and a grant is made only where allow rows of the policy cover each of its rights and no deny row covers one. This page is for the administrator who writes the file.
+A policy says what exists in a broker, and which rights may be granted to whom. It grants nothing by itself: a right is in force only once it was granted (`grant ..` in a script). A grant is made only where allow rows of the policy cover each of its rights and no deny row covers one. This page is for the administrator who writes the file.
 
 The sample policy, `crates/brokerd/data/sample.toml`, is the running example. To check a policy:
 
@@ -25,7 +25,7 @@ ok
 
 `brokerd run POLICY [NEXT..] [--audit N]` opens a broker with a policy, reads a script from standard input and writes its replies. N is how many entries the audit has room for: 1 to 1,048,576, and 65,536 if it is absent. NEXT are the files of at most 16 further policies, which the script may put in force (\"Another policy for a broker that runs\", below).
 
-`brokerd check POLICY --list` lists in place of the counts what a policy without a fault declares, with the numbers that packets and audits use, and the rights that its rows allow each client; `--json` writes the same for programs, on one line ([its members](json.md)):
+`brokerd check POLICY --list` lists in place of the counts what a policy without a fault declares, with the numbers that packets and audits use, and the rights that its rows allow each client. `--json` writes the same for programs, on one line ([its members](json.md)):
 ```console
 $ brokerd check crates/brokerd/data/sample.toml --list
 KIND    NUMBER  NAME
@@ -98,7 +98,7 @@ So `grant bob region buf READ` is answered `ok`, and `grant bob region buf WRITE
 
 ### Deny rows
 
-A policy of version 2 may also say what isn't allowed. A deny row covers rights as an allow row does, and what a deny row covers isn't allowed, whatever allow rows say and wherever they stand. So everybody may be allowed to read and write all regions, but nobody to write `args`:
+A policy of version 2 may also say what isn't allowed. A deny row covers rights as an allow row does. What it covers isn't allowed, whatever allow rows say and wherever they stand. Here everybody may read and write all regions, but nobody may write `args`:
 
 ```
 version = 2
@@ -148,13 +148,19 @@ audit 2
 2 reload
 ```
 
-From the reload on the new rows decide: each right in force that they don't allow is taken, from every client, and each grant is asked of them. What the rows before didn't allow and these do may be granted from then on, and nothing is granted by itself: a right that one reload took doesn't come back with the next. A reload is refused, and changes nothing:
+From the reload on the new rows decide:
+
+- Each right in force that they don't allow is taken, from every client.
+- Each grant is asked of them. What the rows before didn't allow and these do may be granted from then on.
+- Nothing is granted by itself: a right that one reload took doesn't come back with the next.
+
+A reload is refused, and changes nothing:
 
 - `refused 16 OtherObjects`, where the policy doesn't declare the same clients and objects, in the same order and with the same keys: a region of another length, a kernel with a blank more in its text. Only the order in `takes` may be another. Versions and rows aren't compared.
 - `refused 4 Busy queue Q packet ID`, where a packet in flight holds a right that the rows don't allow: the one named has the least queue and id of all clients' packets. Bring it to its end, then reload.
 - `refused 10 AuditFull`, as every call that leaves an entry; `refused 0 OutOfMemory`, where there is no memory for the copy of the policy.
 
-A client whose `USE` on an agent was cut keeps its queues: they stay open. The next packet that is judged in such a queue is denied, by rule L4 unless its bytes break one of L1 to L3, and that stops the queue. So it goes with every right: a launched packet holds what it needs until it is released, and a packet that waits in a ring is judged by what is in force when it is taken.
+A client whose `USE` on an agent was cut keeps its queues: they stay open. The next packet that is judged in such a queue is denied, by rule L4 unless its bytes break one of L1 to L3, and that stops the queue. So it goes with every right. A launched packet holds what it needs until it is released; a packet that waits in a ring is judged by what is in force when it is taken.
 
 Each further policy is read in full before the script begins, in the order of the files and after all faults of the first policy and its kernels. Its first fault is told as that of any policy; `brokerd check` on the file tells the same. The texts of its kernels aren't read, since a policy with another text is refused.
 
@@ -174,12 +180,12 @@ A denied packet stops its queue, and the error names the first rule that failed:
 | L9 | `WAIT` on a dependency of a barrier packet | `grant alice signal go WAIT` |
 | L10 | `CHANGE` on the completion signal | `grant alice signal done CHANGE` |
 
-L1 to L3 are rules of a packet's layout. What a kernel then may touch is judged at each of its loads and stores: an error with a rule A1, A2, A3 or A5 names the group, the item and the line, and `docs/kernels.md` says what helps.
+L1 to L3 are rules of a packet's layout. What a kernel then may touch is judged at each of its loads and stores. An error with one of the rules A1 to A7 names the group, the item and the line, and `docs/kernels.md` says what helps.
 
-An object that isn't declared fails the same rule as one without a grant. Where a grant is answered `refused 5 NotAllowed`, the policy itself has to be widened by an allow row, or a deny row has to go; `refused 13 UnknownObject` and `refused 1 UnknownClient` say that a name isn't declared.
+An object that isn't declared fails the same rule as one without a grant. Where a grant is answered `refused 5 NotAllowed`, the policy itself has to be widened by an allow row, or a deny row has to go. `refused 13 UnknownObject` and `refused 1 UnknownClient` say that a name isn't declared.
 
 ## What a refusal means
-A refused call of the core changes nothing. The lines `publish`, `submit`, `peek`, `retire` and `serve` make several steps on a ring, and the steps before the one that is refused stay made. Whoever makes a call meets one of these numbers; they are tried in the order that each call's page gives, 10 after all others but 0.
+A refused call of the core changes nothing. The lines `publish`, `submit`, `peek`, `retire` and `serve` make several steps on a ring, and the steps before the one that is refused stay made. A refused call is answered one of these numbers. Each call tries them in an order of its own (`crates/core_model/specs/Owed.antt`), 10 after all others but 0.
 
 | Refusal | Who meets it | What it means, and what helps |
 |---|---|---|
@@ -240,7 +246,7 @@ Reading stops at the first fault. The tree lives until `read_policy` returns, so
 | whether rights are allowed (`allows`) | one walk over all allow rows and one over all deny rows, 4,096 each at most, which join the rights of those that cover the client and the object, and then one look at each of the six rights |
 | whether another policy declares the same clients and objects (`declares_as`) | one comparison of all names and of what the rows hold, kernel texts among them |
 
-A grant asks whether rights are allowed, and nothing that a packet does: a launch looks at the rights in force. A wildcard row costs no more than another, so a policy for many clients is best kept short with `\"*\"`.
+A grant asks whether rights are allowed. Nothing that a packet does asks it: a launch looks at the rights in force. A wildcard row costs no more than another, so a policy for many clients is best kept short with `\"*\"`.
 
 The hash has a fixed seed. Somebody who picks the names can therefore make them collide, and a look-up then compares with each of them, of which there are 1,024 at most.
 ";

@@ -3,16 +3,16 @@
 /// The page's text.
 pub const TEXT: &str = "# Readable packets
 
-A script's packet is 128 hexadecimal digits. In a readable script packets stand in words, and addresses by the names of regions:
+A script's packet is 128 hexadecimal digits. In a readable script packets stand in words, and addresses by the names of regions. A run takes one by `--readable`:
 ```
 brokerd run --readable policy.toml < script
 ```
-`brokerd assemble POLICY` writes such a script with the digits in their place, and passes every other line on byte for byte, but for a comment at its end. So two commands in a row do the same:
+`brokerd assemble POLICY` writes such a script with the digits in their place. It passes every other line on byte for byte, but for a comment at its end. So two commands in a row do the same:
 ```
 brokerd assemble policy.toml < script | brokerd run policy.toml
 ```
 
-Over the sample policy, after the seven first requests of `examples/fill.script` (they grant Alice what the policy allows, and open queue 1):
+This is over the sample policy, after the seven first requests of `examples/fill.script` (they grant Alice what the policy allows, and open queue 1):
 ```
 fill 1 1 buf length 4 with 0x5a signal done
 serve 1
@@ -29,7 +29,7 @@ and `brokerd run` replies `published 0`, `launched 0`, `ran 0 left 0`, `ok`, `by
 write alice 0000000100000000 010000000200000003000000ffffffff
 dispatch alice 1 1 inc grid 4 group 2 arguments buf at args signal done
 ```
-Of the second line come two: Alice writes the argument block, and the packet is submitted.
+The second line becomes two: Alice writes the argument block, and the packet is submitted.
 ```
 write alice 0000000200000000 0000000001000000
 submit 1 1 02140100020001000100000004000000010000000100000000000000000000000100000000000000000000000200000000000000000000000100000000000000
@@ -48,11 +48,11 @@ Q is a queue's number, P that of a producer; what stands in capitals is put in.
 | `all-of Q P SIGNAL..` | a barrier-AND on up to five signals; those not named are null |
 | `any-of Q P SIGNAL..` | a barrier-OR |
 
-Any line of a script is a readable line too. `read CLIENT ADDRESS N` and `write CLIENT ADDRESS BYTES` take their address as below besides the 16 digits that it has in a script. From a word that begins with `#` on a line is a comment. A line that begins with no word of this table or of that of `docs/scripts.md` is a fault; `drain` is told below.
+Any line of a script is a readable line too. `read CLIENT ADDRESS N` and `write CLIENT ADDRESS BYTES` take their address as below besides the 16 digits that it has in a script. A comment begins with a word that begins with `#`, and goes to the line's end. A line that begins with no word of this table or of that of `docs/scripts.md` is a fault; `drain` is told below.
 
-Options stand after, in any order; of one that stands twice the last counts.
+Options stand at the end, in any order; of one that stands twice the last counts.
 
-| Option | Of | Says | Else |
+| Option | Of | Says | If absent |
 |---|---|---|---|
 | `signal NAME` | all | the completion signal | none |
 | `barrier` | all | the barrier bit | not set |
@@ -70,7 +70,7 @@ Options stand after, in any order; of one that stands twice the last counts.
 - A first word that is a number is the queue's: a client whose name is a number can't be named here. Nor can a signal of the name `signal` or `barrier` be one of `all-of` and `any-of`.
 
 ## What isn't a form
-ends the run with status 1, after what the lines before it came to. The word is named, and what is wanted in its place; where no line begins with a word, the nearest that one begins with:
+A line of no form ends the run with status 1, after what the lines before it came to. The word is named, and what is wanted in its place. Where no line begins with a word, the nearest that one begins with is named:
 ```
 line 3: buff: wanted is an address: a region as buf or buf+16, or a number
 line 5: end of line: wanted is `at` and where the arguments lie, as at args
@@ -78,10 +78,10 @@ line 7: serv: wanted is a word that lines begin with, as serve
 ```
 A line of over 16,384 bytes is one too. The policy and its kernels are read and checked first; their faults are told as `brokerd check` tells them. Status 3 is as for `run`.
 
-`run --readable` tells it after its own `line 3: bad request`, with the same number. All that it tells, a bad request, an explanation and the end of a strict run, has the number of the line as it was typed. Of the two commands in a row the second counts the lines that it reads: after a `dispatch` with arguments, which comes to two, its `line N` is one further.
+`run --readable` tells it after its own `line 3: bad request`, with the same number. All that it tells, a bad request, an explanation and the end of a strict run, has the number of the line as it was typed. Of the two commands in a row the second counts the lines that it reads: after a `dispatch` with arguments, which becomes two, its `line N` is one further.
 
 ## Draining queues
-Two lines bring to their ends what can be:
+Two lines finish what can be finished:
 
 | Line | Does |
 |---|---|
@@ -109,16 +109,24 @@ ok
 drained launched 1 denied 0 ran 1 faulted 0 ready 1 failed 0 finished 2 waiting 0
 bytes 5a5a5a5a
 ```
-A drain makes the requests that `serve`, `run`, `poll` and `finish` make, one after the other, and replies once. In rounds each queue is served as far as it comes; then each packet in flight is run group by group, or polled, and finished once its work is done. After a round in which nothing moved it is over. Its first line counts what its requests came to: packets `launched` and `denied`, groups that `ran` and `faulted`, barrier packets that were `ready` and `failed`, packets `finished`. `waiting N` counts the lines that follow, one for each request of the last round that moved nothing though something is there: the queue, the packet where the request named one, and the reply to the request; behind `pending on` stand the signals that a barrier packet depends on. What is refused, as `refused 7 QueueDown` of a stopped queue, waits too.
+A drain makes the requests that `serve`, `run`, `poll` and `finish` make, one after the other, and replies once. In each round every queue is served as far as it comes; then each packet in flight is run group by group, or polled, and finished once its work is done. After a round in which nothing moved it is over.
+
+Its first line counts what its requests came to: packets `launched` and `denied`, groups that `ran` and `faulted`, barrier packets that were `ready` and `failed`, packets `finished`. `waiting N` counts the lines that follow, one for each request of the last round that moved nothing though something is there. Such a line has the queue, the packet where the request named one, and the reply to the request. After `pending on` stand the signals that a barrier packet depends on. What is refused, as `refused 7 QueueDown` of a stopped queue, waits too.
 
 It ends: each round but the last makes entries in the audit, which has at most 1,048,576, and where it is full what would make one is refused. At most 8 packets of a queue are in flight, and what is launched has at most 4,294,967,295 groups.
 
 A strict run ends after a drain in which a packet was denied or failed or a group faulted, or in whose last round a request was refused. With `--explain` the first such fault is explained, or else the first wait.
 
 ## What is proved
-A line that `assemble` passes on begins with a word of a script's table, has none, or is a comment, and nothing is put before it (`put_lines`); the policy by whose names lines go is that of the text (`Book::read`). Of a line that submits a packet it is proved that it has the digits of the 64 bytes that lay the packet out, by the layout of `docs/aql_packets.md` (`put_packet` in `crates/assemble`, its clause `Submits`); which packet each form is, field by field, from its operands and options (`dispatch_packet`, `fill_packet`, `copy_packet`, `add_packet`, `all_of_packet`, `any_of_packet`, with their definitions in `specs/Packets.antt`); which numbers words stand for, and where a line's words begin and end. Which of them a line uses, that operands are read in the order above, and the argument block is only tested, by `assembled.case`, `argument_blocks.case` and `readable.case` in `crates/cases/data`.
+A line that `assemble` passes on begins with a word of a script's table, has none, or is a comment, and nothing is put before it (`put_lines`). The policy by whose names lines go is that of the text (`Book::read`). Of a line that submits a packet these are proved:
 
-A drain is a list of requests in turn, each that of a line `serve Q`, `run Q ID`, `poll Q ID` or `finish Q ID` and replied to as that line is, and its counts are just those of these replies (`drain` in `crates/readable`, its clauses `Makes` and `Drains`). That it goes on while something moves, and what it tells of what waits, is tested: `tests/readable.py`.
+- It has the digits of the 64 bytes that lay the packet out, by the layout of `docs/aql_packets.md` (`put_packet` in `crates/assemble`, its clause `Submits`).
+- Which packet each form is, field by field, from its operands and options (`dispatch_packet`, `fill_packet`, `copy_packet`, `add_packet`, `all_of_packet`, `any_of_packet`, with their definitions in `specs/Packets.antt`).
+- Which numbers words stand for, and where a line's words begin and end.
 
-A whole run by line, of readable lines or with replies as JSON, is a list of requests in turn as well, each done and replied to as a script's line is; just their replies are handed over, and that to a drain begins with its counts (`run_by_line`, its clause `RunsByLine`). Which requests a readable line makes is tested, as above.
+Which of them a line uses, that operands are read in the order above, and the argument block is only tested, by `assembled.case`, `argument_blocks.case` and `readable.case` in `crates/cases/data`.
+
+A drain is a list of requests in turn. Each is that of a line `serve Q`, `run Q ID`, `poll Q ID` or `finish Q ID`, and is replied to as that line is. Its counts are just those of these replies (`drain` in `crates/readable`, its clauses `Makes` and `Drains`). That it goes on while something moves, and what it tells of what waits, is tested: `tests/readable.py`.
+
+A whole run by line, of readable lines or with replies as JSON, is a list of requests in turn as well. Each is done and replied to as a script's line is. Just their replies are handed over, and that to a drain begins with its counts (`run_by_line`, its clause `RunsByLine`). Which requests a readable line makes is tested, as above.
 ";

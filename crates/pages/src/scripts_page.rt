@@ -3,7 +3,7 @@
 /// The page's text.
 pub const TEXT: &str = "# Scripts
 
-`brokerd run POLICY` reads requests from standard input, a line each, and writes the replies. This is a whole script, over the sample policy `crates/brokerd/data/sample.toml`. Alice is granted the agent, the memory and the signal, opens a queue of two slots for one producer, and submits a packet that fills four bytes and then decrements a signal:
+`brokerd run POLICY` reads requests from standard input, a line each, and writes the replies. This is a whole script, over the sample policy `crates/brokerd/data/sample.toml`. Alice is granted the agent, the memory and the signal. She opens a queue of two slots for one producer, and submits a packet that fills four bytes and then decrements a signal:
 ```text file=first.script
 # Alice fills four bytes.
 grant alice agent gpu USE
@@ -37,11 +37,15 @@ audit 7
 6 run 1 0 group 0; write 0000000100000000 5a5a5a5a
 7 finish 1 0; signal 1 1 0; release 1 0
 ```
-`submit` publishes the packet under the id 0; `serve` has the packet processor judge and launch it; `run` does its work; `finish` completes it. How the 64 bytes are laid out says `docs/aql_packets.md`.
+`submit` publishes the packet under the id 0; `serve` has the packet processor judge and launch it; `run` does its work; `finish` completes it. `docs/aql_packets.md` tells the layout of the 64 bytes.
 
 ## Lines
 
-Words are separated by blanks; lines without a word and lines that begin with `#` have no reply. A line of no form below, a `reload` of a policy that the command line doesn't name, or a line of over 16,384 bytes ends the run with `line N: bad request` and status 1, after the replies to the lines before it.
+Words are separated by blanks; lines without a word and lines that begin with `#` have no reply. Three kinds of lines end the run with `line N: bad request` and status 1, after the replies to the lines before them:
+
+- a line of no form below,
+- a `reload` of a policy that the command line doesn't name,
+- a line of over 16,384 bytes.
 
 Clients and objects go by their names in the policy; a name that isn't there stands for number 0, which nothing has. Numbers are decimal, addresses 16 hexadecimal digits, bytes pairs of hexadecimal digits in order. A packet is its 64 bytes, 128 digits; a word of a packet is 8 of them in order, 16 digits. An empty list of rights is `-`.
 
@@ -78,9 +82,12 @@ Clients and objects go by their names in the policy; a name that isn't there sta
 | `audit` | the entries since the last `rotate`, or all | `audit N` and N lines |
 | `rotate` | hands out these entries, and goes on with an empty audit (`docs/audit.md`) | `rotated N` and N lines |
 
-ERROR is `queue Q packet ID rule RULE`, and for a rule of access ` group G item I line L` after it. A refusal is `refused N NAME`; `14 NotAStep` is a step that its seat may not make now, a take without a packet that was read whole, or a header that would be cleared before its packet is launched or denied (`docs/rings.md`); `15 Spent` a producer that has reserved 2^40 ids.
+ERROR is `queue Q packet ID rule RULE`, and for a rule of access ` group G item I line L` after it. A refusal is `refused N NAME`; two of them are of rings (`docs/rings.md`):
 
-Each line is one request to the world, or several in turn: `publish`, `submit`, `peek`, `retire` and `serve` make those named, up to the first that is refused, and the refusal is the reply; what was done before it stays. So a `submit` that meets a full ring, or whose packet is of type INVALID, has reserved its id: the ticket stays open, and `publish` may try it again. A `publish` of type INVALID makes no request.
+- `14 NotAStep` is a step that its seat may not make now, a take without a packet that was read whole, or a header that would be cleared before its packet is launched or denied.
+- `15 Spent` is a producer that has reserved 2^40 ids.
+
+Each line is one request to the world, or several in turn. `publish`, `submit`, `peek`, `retire` and `serve` make those named, up to the first that is refused: the refusal is the reply, and what was done before it stays. So a `submit` that meets a full ring, or whose packet is of type INVALID, has reserved its id. The ticket stays open, and `publish` may try it again. A `publish` of type INVALID makes no request.
 
 ## What to do
 
@@ -126,7 +133,7 @@ Some replies tell that nothing came of a line, or not yet:
 | `Slots` | eight packets of the queue are in flight | finish one |
 
 ### A packet is denied
-By `serve` or `take`, as `denied queue 1 packet 0 rule L8`. The first rule that fails is told. What counts is what is in force then, not when the packet was published.
+`serve` or `take` tells it, as `denied queue 1 packet 0 rule L8`: the first rule that fails. What counts is what is in force then, not when the packet was published.
 
 | Rule | Wants | What to do |
 |---|---|---|
@@ -142,7 +149,7 @@ By `serve` or `take`, as `denied queue 1 packet 0 rule L8`. The first rule that 
 | L10 | `CHANGE` on the completion signal | `grant alice signal done CHANGE`, or no completion signal |
 
 ### A packet fails at its work
-A kernel by `run`, as `faulted queue 1 packet 0 rule A3 group 1 item 1 line 9`: the group, the item in it, and the line of the kernel's text. None of the group's writes is made, and the packet is released. A barrier packet by `poll`, as `failed queue 1 packet 2 rule B1`.
+`run` tells it of a kernel, as `faulted queue 1 packet 0 rule A3 group 1 item 1 line 9`: the group, the item in it, and the line of the kernel's text. None of the group's writes is made, and the packet is released. `poll` tells it of a barrier packet, as `failed queue 1 packet 2 rule B1`.
 
 | Rule | Broken by | What to do |
 |---|---|---|
@@ -156,7 +163,7 @@ A kernel by `run`, as `faulted queue 1 packet 0 rule A3 group 1 item 1 line 9`: 
 | B1 | a signal below 0 that a barrier packet depends on | a negative value means an error: see to what was to signal it, store another value, and open another queue |
 
 ### The run ends
-With 0 where all lines were done or answered, with 2 where the command line isn't understood, and else with one of these on standard error, and the status after it:
+The status is 0 where all lines were done or answered, and 2 where the command line isn't understood. Else one of these lines stands on standard error, with its status:
 
 | Line | Status | What to do |
 |---|---|---|
@@ -195,7 +202,7 @@ With 0 where all lines were done or answered, with 2 where the command line isn'
 
 ## A picture of a run
 
-`brokerd picture POLICY [NEXT..]` runs a script just as `run` does and writes, in place of the replies, one SVG page of what the audit tells at the end; with further policies and `--audit N` as `run` has them.
+`brokerd picture POLICY [NEXT..]` runs a script just as `run` does. In place of the replies it writes one SVG page of what the audit tells at the end. It takes further policies and `--audit N` as `run` does.
 ```console
 $ brokerd picture crates/brokerd/data/sample.toml < examples/two_queues.script | cmp - docs/picture.svg
 ```
@@ -210,15 +217,19 @@ $ brokerd picture crates/brokerd/data/sample.toml < examples/two_queues.script |
 
 The more entries there are, the closer they stand: 200 packets fit on a screen. A page that is wider than 1,920 points isn't shrunk to the window: look at it part by part. `--from N` and `--to N` draw the entries from one number to another; what is in flight before the first has its bar from the left edge on. Of more than 5,000 entries the last 5,000 are drawn.
 
-A page is that of a whole script or there is none: where a line has no form, or reading, writing or memory fails, nothing is drawn (but a beginning, where the page's writer fails), and standard error and the status are those of `run`. So put a `#` before the bad line, or end the script before it. Refusals, denials and faults of packets end nothing.
+A page is that of a whole script or there is none. Where a line has no form, or reading, writing or memory fails, nothing is drawn (but a beginning, where the page's writer fails). Standard error and the status are then those of `run`. So put a `#` before the bad line, or end the script before it. Refusals, denials and faults of packets end nothing.
 
-## What isn't done, and packets in words
+## Options of a run, and other commands
 
-`brokerd run POLICY --strict` ends after the first reply that tells that a line was refused or denied, or that a kernel or a poll faulted, with status 1. `brokerd run POLICY --explain` tells on standard error after each such reply why, and the line that mends it (`docs/explaining.md`). `brokerd explain L8`, or `explain QueueDown`, or `explain 7`, tells what a rule, a refusal or a cause means. `brokerd run POLICY --readable` takes packets in words, and `drain`, which serves, runs and finishes until nothing moves; `brokerd assemble POLICY` turns such lines into those above (`docs/assemble.md`). `brokerd run POLICY --json` writes each reply as an object of JSON (`docs/json.md`).
+- `brokerd run POLICY --strict` ends with status 1 after the first reply that tells that a line was refused or denied, or that a kernel or a poll faulted.
+- `brokerd run POLICY --explain` tells on standard error after each such reply why, and the line that mends it (`docs/explaining.md`).
+- `brokerd explain L8`, or `explain QueueDown`, or `explain 7`, tells what a rule, a refusal or a cause means.
+- `brokerd run POLICY --readable` takes packets in words, and `drain`, which serves, runs and finishes until nothing moves. `brokerd assemble POLICY` turns such lines into those above (`docs/assemble.md`).
+- `brokerd run POLICY --json` writes each reply as an object of JSON (`docs/json.md`).
 
 ## Every form once
 
-After the first seven requests of `examples/fill.script`, which grant Alice what the sample policy allows and open queue 1 with two slots for two producers. Lines that begin with `>` are asked, the others are the replies; the whole is a case in `crates/cases/data/forms.case`, where `{FILL}` stands for the packet of that script.
+These lines stand after the first seven requests of `examples/fill.script`, which grant Alice what the sample policy allows and open queue 1 with two slots for two producers. Lines that begin with `>` are asked, the others are the replies. The whole is a case in `crates/cases/data/forms.case`, where `{FILL}` stands for the packet of that script.
 ```script over=crates/brokerd/data/sample.toml behind=examples/fill.script:7 names=crates/cases/data/packets.names
 > reserve 1 1
 ticket 0

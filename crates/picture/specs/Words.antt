@@ -17,8 +17,8 @@ use Rattle.policy.specs.Object.{kind_of}
 use Rattle.policy.specs.Policy.{Declared}
 use Rattle.regions.specs.Memory.{region_of}
 use Rattle.queue_error.specs.declared.error.QueueError.{QueueError}
-use Rattle.queue_error.specs.Texts.{text_of_rule, text_of_end}
 use Rattle.words.specs.Names.{name_of_client, name_of_object}
+use Rattle.words.specs.Errors.{text_of_broken}
 use Rattle.picture.specs.declared.element.Work.{Work}
 use Rattle.picture.specs.declared.element.Work.TheVariants as work
 use Rattle.picture.specs.declared.element.Sign.{Sign}
@@ -60,7 +60,7 @@ words_of_seen seen = flat_map (position_in seen) (1 ∷ 2 ∷ 3 ∷ 4 ∷ 5 ∷ 
 
 -- the rule that a packet broke, and where
 abbrev pub words_of_error : QueueError → List ℕ
-words_of_error error = decimal error.packet.0 ++ codes " " ++ text_of_rule error.rule ++ text_of_end error.place
+words_of_error error = decimal error.packet.0 ++ codes " " ++ text_of_broken error
 
 -- what is said of an entry
 abbrev pub words_of : Declared → Sign → List ℕ

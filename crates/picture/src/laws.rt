@@ -5,6 +5,6 @@ ghost use Rattle.std.specs.List.{list_any};
 ghost use Rattle.picture.specs.Escaping.{escaped, is_markup};
 
 /// An escaped text begins and ends no markup, whatever the text is.
-pub fn escaped_text_has_no_markup()
+pub fn law_escaped_text_has_no_markup()
     ensures { (text : List ℕ) → list_any is_markup (escaped text) ≡ false }
 {}

@@ -18,6 +18,6 @@ mod shapes;
 
 pub use arrows::Zero;
 pub use element::{Element, Ending, Frame, Sign, Span, Spot, Work};
-pub use laws::escaped_text_has_no_markup;
+pub use laws::law_escaped_text_has_no_markup;
 pub use page::write_page;
 pub use seats::Seat;

@@ -13,7 +13,7 @@ use policy::{Object, Policy, Right, Rights};
 use queue_error::QueueError;
 use regions::region_of;
 use std::alloc::AllocError;
-use words::{write_client, write_object};
+use words::{write_broken, write_client, write_object};
 
 // Writes a right behind a blank, if the set has it.
 fn write_right(out: &mut String, rights: Rights, right: Right) -> Result<(), AllocError>
@@ -123,11 +123,8 @@ fn write_seen(out: &mut String, seen: Satisfied) -> Result<(), AllocError>
 fn write_error(out: &mut String, error: &QueueError) -> Result<(), AllocError>
     ensures { OnOk result (string_bytes out.new ≡ string_bytes out.old ++ words_of_error error.now) }
 {
-    write!(out, "{} {}", error.packet.0, error.rule)?;
-    match error.place {
-        Some(place) => write!(out, " {place}"),
-        None => Ok(()),
-    }
+    write!(out, "{} ", error.packet.0)?;
+    write_broken(out, error)
 }
 
 // Writes the name of a lane.

@@ -15,13 +15,13 @@ ghost use Rattle.policy.specs.declared.row.TheConstants.{TAKES_NOTHING};
 /// The fault of a file is that of the first of its checks that fails, each check by itself: array by array, row by
 /// row, and in a row its keys, their values in order, and its names. Where none fails, the file has no fault. It
 /// does nothing.
-pub fn faults_are_first()
+pub fn law_faults_are_first()
     ensures { (file : Members) → result_err (declared_by file) ≡ first_of (file_checks file) }
 {}
 
 /// The code's limits of a policy, the bits of the rights, and what an agent takes that takes nothing, are those of the
 /// rules. It does nothing.
-pub fn numbers_are_those_of_the_rules()
+pub fn law_numbers_are_those_of_the_rules()
     ensures text { MOST_POLICY_BYTES ≡ most_policy_bytes }
     ensures name { MOST_NAME_BYTES ≡ most_name_bytes }
     ensures clients { MOST_CLIENTS ≡ most_clients }

@@ -19,7 +19,7 @@ mod version;
 
 pub use fault::{PolicyCause, PolicyFault, ReadPolicyError, Section};
 pub use kernel_source::KernelSource;
-pub use laws::{faults_are_first, numbers_are_those_of_the_rules};
+pub use laws::{law_faults_are_first, law_numbers_are_those_of_the_rules};
 pub use limits::{
     MOST_AGENTS, MOST_ALLOW_ROWS, MOST_CLIENTS, MOST_DENY_ROWS, MOST_KERNELS, MOST_MEMORY_BYTES,
     MOST_NAME_BYTES, MOST_POLICY_BYTES, MOST_SIGNALS,

@@ -11,8 +11,8 @@ use Rattle.core_model.specs.declared.entry.Effect.TheVariants.{Release, Signal, 
 use Rattle.core_model.specs.declared.entry.Entry.{Entry}
 use Rattle.core_model.specs.declared.event.Event.{Event}
 use Rattle.core_model.specs.declared.event.Event.TheVariants as event
-use Rattle.core_model.specs.declared.event.Request.{Request}
-use Rattle.core_model.specs.declared.event.Request.TheVariants as request
+use Rattle.core_model.specs.declared.event.CoreRequest.{CoreRequest}
+use Rattle.core_model.specs.declared.event.CoreRequest.TheVariants as request
 use Rattle.core_model.specs.declared.flight.InFlight.{InFlight}
 use Rattle.core_model.specs.declared.outcome.Outcome.{Outcome}
 use Rattle.core_model.specs.declared.refusal.Refusal.{Refusal}
@@ -126,12 +126,12 @@ full-flying old new goes empty none =
 declares-too : (o : Origin) (other : Declared) → DeclaresAs o.policy other → DeclaresAs (policy_in o) other
 declares-too o other d = record { clients = d.clients; agents = d.agents; regions = d.regions; signals = d.signals; kernels = d.kernels }
 
-pub made-asked : (old : Replayed) (event : Event) (asked : Request) (reply : AnswerOrRefusal) (new : History) → Asks old event asked → IsServed old.history asked reply new → IsMade event old.history reply new
-made-asked old (event.Open client agent size) asked reply new is served = subst (λ (r : Request). IsServed old.history r reply new) is served
-made-asked old (event.Take queue packet bytes) asked reply new is served = subst (λ (r : Request). IsServed old.history r reply new) is served
-made-asked old (event.Call call) asked reply new is served = subst (λ (r : Request). IsServed old.history r reply new) is served
+pub made-asked : (old : Replayed) (event : Event) (asked : CoreRequest) (reply : AnswerOrRefusal) (new : History) → Asks old event asked → IsServed old.history asked reply new → IsMade event old.history reply new
+made-asked old (event.Open client agent size) asked reply new is served = subst (λ (r : CoreRequest). IsServed old.history r reply new) is served
+made-asked old (event.Take queue packet bytes) asked reply new is served = subst (λ (r : CoreRequest). IsServed old.history r reply new) is served
+made-asked old (event.Call call) asked reply new is served = subst (λ (r : CoreRequest). IsServed old.history r reply new) is served
 made-asked old (event.Reload rows) asked reply new (policy, there, has, is) served =
-    let now = subst (λ (r : Request). IsServed old.history r reply new) is served in
+    let now = subst (λ (r : CoreRequest). IsServed old.history r reply new) is served in
     (now.0, now.1, by_others now.0 now.2)
   where
     by_others : (made : Result Outcome Refusal) → ReloadMeetsOrLacks policy old.history new made → MeetsOrLacks (event.Reload rows) old.history new made
@@ -139,14 +139,14 @@ made-asked old (event.Reload rows) asked reply new (policy, there, has, is) serv
     by_others made (inr same) = subst (λ (r : PolicyRows). MeetsOrLacks (event.Reload r) old.history new made) (sym has.rows_are) same.1
 
 -- what an event asks for is a call
-pub call-asked : (replay : Replayed) (event : Event) (asked : Request) → Asks replay event asked → IsCall asked
+pub call-asked : (replay : Replayed) (event : Event) (asked : CoreRequest) → Asks replay event asked → IsCall asked
 call-asked replay (event.Open client agent size) asked is = subst IsCall (sym is) tt
 call-asked replay (event.Take queue packet bytes) asked is = subst IsCall (sym is) tt
 call-asked replay (event.Call call) asked is = subst IsCall (sym is) tt
 call-asked replay (event.Reload rows) asked (policy, there, has, is) = subst IsCall (sym is) tt
 
 -- and a call is replied to by what an event comes to
-pub call-replied : (old : History) (asked : Request) (reply : AnswerOrRefusal) (new : History) → IsCall asked → IsServed old asked reply new → (made : Result Outcome Refusal) × (reply ≡ as_reply made)
+pub call-replied : (old : History) (asked : CoreRequest) (reply : AnswerOrRefusal) (new : History) → IsCall asked → IsServed old asked reply new → (made : Result Outcome Refusal) × (reply ≡ as_reply made)
 call-replied old (request.Open client agent size) reply new is served = (served.0, served.1)
 call-replied old (request.Take queue packet bytes) reply new is served = (served.0, served.1)
 call-replied old (request.Call asked) reply new is served = (served.0, served.1)
@@ -275,7 +275,7 @@ module _ (old new : Replayed) (entry : Entry) (reply : AnswerOrRefusal) (further
 
 -- ---- an entry is taken
 
-known-asked : (replay : Replayed) (event : Event) (asked : Request) → Asks replay event asked → IsKnown replay.history.origin.policy replay.further event
+known-asked : (replay : Replayed) (event : Event) (asked : CoreRequest) → Asks replay event asked → IsKnown replay.history.origin.policy replay.further event
 known-asked replay (event.Open client agent size) asked is = tt
 known-asked replay (event.Take queue packet bytes) asked is = tt
 known-asked replay (event.Call call) asked is = tt
@@ -302,7 +302,7 @@ module _ (old mid new : Replayed) (entry : Entry) (goes : GoesOn old [] mid) (kn
   takes-made (Err stop.NoRoom) makes = absurd makes
   takes-made (Err stop.UnknownRows) makes = absurd makes
 
-pub taken : (old mid : Replayed) (new : History) (entry : Entry) (asked : Request) (result : Result (Unit {0}) Stop) → GoesOn old [] mid → has_place mid.history ≡ true → Asks mid entry.event asked
+pub taken : (old mid : Replayed) (new : History) (entry : Entry) (asked : CoreRequest) (result : Result (Unit {0}) Stop) → GoesOn old [] mid → has_place mid.history ≡ true → Asks mid entry.event asked
     → HasMade mid.history asked entry result new → Takes old entry result (record { history = new; further = mid.further })
 taken old mid new entry asked result goes place is (reply, served, judged) =
     takes-made old mid behind entry goes (known-asked mid entry.event asked is) result (by_found (slice_get new.entries (length mid.history.entries)) refl result judged)

@@ -13,7 +13,7 @@ ghost use Rattle.replay.specs.Verdicts.{IsReplayed, StopsAt};
 /// opened one has taken nothing; one that takes an entry has taken one more; and where it stops, the entry isn't what
 /// it was owed behind those, or the further policies don't have its rows, or memory was wanted, or more than 2^62 entries
 /// came before. It does nothing.
-pub fn what_is_taken_is_a_whole_history()
+pub fn law_what_is_taken_is_a_whole_history()
     ensures opened { (policy : Declared) (kernels : List Program) (further : List Declared) (replay : Replayed) →
         IsOpening replay.history policy kernels audit_places → replay.further ≡ further → IsReplayed policy kernels further [] replay }
     ensures taken { (policy : Declared) (kernels : List Program) (further : List Declared) (entries : List Entry) (entry : Entry) (old new : Replayed) →

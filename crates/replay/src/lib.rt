@@ -8,7 +8,7 @@ mod sameness;
 mod stop;
 mod verdict;
 
-pub use laws::what_is_taken_is_a_whole_history;
+pub use laws::law_what_is_taken_is_a_whole_history;
 pub use replay::{PLACES, Replay};
 pub use sameness::tells_the_same;
 pub use stop::{Due, Stop};

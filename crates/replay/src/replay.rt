@@ -5,7 +5,7 @@ ghost use Rattle.policy.specs.Results.{map_ok};
 ghost use Rattle.core_model.specs.History.{beginning};
 ghost use Rattle.core_model.specs.Legal.{as_reply};
 ghost use Rattle.core_model.specs.declared.event.Event.TheVariants as event;
-ghost use Rattle.core_model.specs.declared.event.Request.TheVariants as request;
+ghost use Rattle.core_model.specs.declared.event.CoreRequest.TheVariants as request;
 ghost use Rattle.core_model.specs.declared.outcome.Outcome.{Outcome};
 ghost use Rattle.core_model.specs.declared.refusal.Refusal.{Refusal};
 ghost use Rattle.replay.specs.Replays.{GoesOn, Opens, Takes, has_place, state};
@@ -16,7 +16,7 @@ use crate::sameness::tells_the_same;
 use crate::stop::{Due, Stop};
 use access_core::{AccessCore, Kernel, OpenFault};
 use boxed::Boxed;
-use core_model::{Answer, Entry, Event, Refusal, Reply, Request};
+use core_model::{Answer, CoreRequest, Entry, Event, Refusal, Reply};
 use policy::{Policy, PolicyRows};
 use sequences::Sequence;
 use std::alloc::Global;
@@ -122,7 +122,7 @@ impl Replay {
     }
 
     // The request of an event.
-    fn request_of(&self, alloc: Global, event: &Event) -> Result<Request, Stop>
+    fn request_of(&self, alloc: Global, event: &Event) -> Result<CoreRequest, Stop>
         ensures { AsksOrNot self.now event.now result }
     {
         Ok(match event {
@@ -130,7 +130,7 @@ impl Replay {
                 client,
                 agent,
                 size,
-            } => Request::Open {
+            } => CoreRequest::Open {
                 client: *client,
                 agent: *agent,
                 size: *size,
@@ -139,13 +139,13 @@ impl Replay {
                 queue,
                 packet,
                 bytes,
-            } => Request::Take {
+            } => CoreRequest::Take {
                 queue: *queue,
                 packet: *packet,
                 bytes: *bytes,
             },
-            Event::Call(call) => Request::Call(call.copy(alloc)?),
-            Event::Reload { rows } => Request::Reload(self.policy_of(alloc, rows)?),
+            Event::Call(call) => CoreRequest::Call(call.copy(alloc)?),
+            Event::Reload { rows } => CoreRequest::Reload(self.policy_of(alloc, rows)?),
         })
     }
 
@@ -161,7 +161,12 @@ impl Replay {
 }
 
 // Has a core serve the request of an entry, and holds what came against the entry.
-fn make(core: &mut AccessCore, alloc: Global, request: Request, entry: &Entry) -> Result<(), Stop>
+fn make(
+    core: &mut AccessCore,
+    alloc: Global,
+    request: CoreRequest,
+    entry: &Entry,
+) -> Result<(), Stop>
     requires { IsCall request }
     ensures { HasMade core.old.history request entry.now result core.new.history }
 {

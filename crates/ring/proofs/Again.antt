@@ -8,8 +8,8 @@ use Rattle.std.proofs.lemmas.Grind.{same_number_lists}
 use Rattle.ring_core.specs.declared.access.Access.TheVariants.{LoadHeader, LoadBody}
 use Rattle.ring_core.specs.declared.access.Seen.TheVariants.{Read}
 use Rattle.ring_core.specs.declared.access.Made.{Made}
-use Rattle.ring_core.specs.declared.part.Part.{Part}
-use Rattle.ring_core.specs.declared.part.Part.TheVariants.{Processor}
+use Rattle.ring_core.specs.declared.part.SeatPart.{SeatPart}
+use Rattle.ring_core.specs.declared.part.SeatPart.TheVariants.{Processor}
 use Rattle.ring_core.specs.declared.part.ProcessorPart.{ProcessorPart}
 use Rattle.ring_core.specs.Words.{word, is_invalid, packet_of}
 use Rattle.ring_core.specs.Parts.{after_processing, collected_packet}
@@ -69,13 +69,13 @@ body_again size producers number k v w q pos body e h =
 
 -- ---- all words, in turn
 
-were_split : (size producers number : ℕ) (part : Part) (xs ys : List Made) → WereMade size producers number part (xs ++ ys) → WereMade size producers number part xs × WereMade size producers number (knowing_all part xs) ys
+were_split : (size producers number : ℕ) (part : SeatPart) (xs ys : List Made) → WereMade size producers number part (xs ++ ys) → WereMade size producers number part xs × WereMade size producers number (knowing_all part xs) ys
 were_split size producers number part [] ys h = (tt, h)
 were_split size producers number part (x ∷ xs) ys h =
     let r = were_split size producers number (after_own part x) xs ys h.1 in
     ((h.0, r.0), r.1)
 
-body_at : (size producers number : ℕ) (part : Part) (words : List ℕ) (n j : ℕ) → j < n → WereMade size producers number part (body_read words n) → WasMade size producers number (knowing_all part (body_read words j)) (read (LoadBody (suc j)) (slice_index words (suc j)))
+body_at : (size producers number : ℕ) (part : SeatPart) (words : List ℕ) (n j : ℕ) → j < n → WereMade size producers number part (body_read words n) → WasMade size producers number (knowing_all part (body_read words j)) (read (LoadBody (suc j)) (slice_index words (suc j)))
 body_at size producers number part words zero j lt h = absurd (omega (arith, lt))
 body_at size producers number part words (suc n) j lt h =
     let s = were_split size producers number part (body_read words n) (read (LoadBody (suc n)) (slice_index words (suc n)) ∷ []) h in
@@ -106,7 +106,7 @@ module _ (size producers : ℕ) (q : ProcessorPart) (packet words : List ℕ) (p
   at (suc j) lt =
       let g : Gathered words part1 j = gathering words part1 j in
       let h : WasMade size producers 0 (Processor g.part) (read (LoadBody (suc j)) (slice_index words (suc j))) =
-      subst (λ (u : Part). WasMade size producers 0 u (read (LoadBody (suc j)) (slice_index words (suc j)))) g.is (body_at size producers 0 (Processor part1) words 7 j (omega (arith, lt)) were.1) in
+      subst (λ (u : SeatPart). WasMade size producers 0 u (read (LoadBody (suc j)) (slice_index words (suc j)))) g.is (body_at size producers 0 (Processor part1) words 7 j (omega (arith, lt)) were.1) in
       let e : word g.part.collected (suc j) ≡ Some (get_or packet (suc j) 0) =
       ap (λ (c : List (Option ℕ)). word c (suc j)) g.collected
       ∙ gathered_later words part1.collected j (suc j) (omega arith)

@@ -2,7 +2,7 @@
 use Rattle.std.proofs.Common.{◌≡◌, ℕ, zero, suc, length, get_or, ◌+◌, ◌-◌, ◌<◌, List, [], ◌∷◌, ◌++◌, take, drop, replicate, refl, ap, ◌∙◌, sym, subst, arith}
 use Rattle.std.specs.Prelude.{All, ⊤}
 use Rattle.atomic_table.specs.Seated.{TableId}
-use Rattle.ring_core.specs.declared.part.Part.TheVariants.{Producer}
+use Rattle.ring_core.specs.declared.part.SeatPart.TheVariants.{Producer}
 use Rattle.ring_core.specs.Parts.{new_producer}
 use Rattle.ring.specs.declared.share.Numbered.{Numbered}
 use Rattle.ring.specs.Shares.{alone, numbered}

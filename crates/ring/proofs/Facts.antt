@@ -2,8 +2,8 @@
 use Rattle.std.proofs.Common.{◌≡◌, ℕ, zero, suc, ◌+◌, ◌*◌, ◌%◌, ◌^◌, ◌<◌, true, List, [], ◌∷◌, length, get_or, refl, ap, ◌∙◌, sym, subst, arith, inl, inr, ◌⊎◌}
 use Rattle.ring_core.specs.declared.access.Access.{Access}
 use Rattle.ring_core.specs.declared.access.Access.TheVariants.{Reserve, RaiseReadIndex}
-use Rattle.ring_core.specs.declared.part.Part.{Part}
-use Rattle.ring_core.specs.declared.part.Part.TheVariants.{Producer, Processor}
+use Rattle.ring_core.specs.declared.part.SeatPart.{SeatPart}
+use Rattle.ring_core.specs.declared.part.SeatPart.TheVariants.{Producer, Processor}
 use Rattle.ring_core.specs.declared.part.ProcessorPart.{ProcessorPart}
 use Rattle.ring_core.specs.Parts.{may_make, nobody}
 use Rattle.aql_packet.specs.Ring.{is_ring_size}
@@ -17,7 +17,7 @@ use Rattle.ring.specs.Places.{table_place}
 use Rattle.ring.specs.Steps.{KnowsIndex}
 use Rattle.ring.proofs.Places.{table_in}
 
-seats_count : (n : ℕ) (parts : List Part) → AreSeats n parts → length parts ≡ suc n
+seats_count : (n : ℕ) (parts : List SeatPart) → AreSeats n parts → length parts ≡ suc n
 seats_count n [] seats = absurd seats
 seats_count n (Producer p ∷ rest) seats = absurd seats
 seats_count n (Processor p ∷ rest) seats = ap suc seats.0
@@ -34,7 +34,7 @@ ring_of n size machine rule sized fits count =
     }
 
 -- the processor's part is at seat 0 alone
-pub processor_at : (n : ℕ) (parts : List Part) (number : ℕ) (q : ProcessorPart) → AreSeats n parts → get_or parts number nobody ≡ Processor q → processor_of parts ≡ q
+pub processor_at : (n : ℕ) (parts : List SeatPart) (number : ℕ) (q : ProcessorPart) → AreSeats n parts → get_or parts number nobody ≡ Processor q → processor_of parts ≡ q
 processor_at n [] number q seats e = absurd seats
 processor_at n (Producer p ∷ rest) number q seats e = absurd seats
 processor_at n (Processor p ∷ rest) zero q seats e = cc
@@ -44,14 +44,14 @@ processor_at n (Processor p ∷ rest) (suc number) q seats e =
     absurd (cc)
 
 -- so it knows the read index
-pub index_of : (n : ℕ) (machine : Machine) (number : ℕ) (part : Part) → IsRule n machine → part_at machine number ≡ part → KnowsIndex part (read_index machine)
+pub index_of : (n : ℕ) (machine : Machine) (number : ℕ) (part : SeatPart) → IsRule n machine → part_at machine number ≡ part → KnowsIndex part (read_index machine)
 index_of n machine number (Producer p) rule e = tt
 index_of n machine number (Processor q) rule e =
     let is : processor_of machine.parts ≡ q = processor_at n machine.parts number q rule.shared.seats e in
     sym rule.tied.count ∙ ap (λ u. length u.retired) is
 
 -- the place of an access is one of the table's words
-pub inside : (size : ℕ) (part : Part) (access : Access) (place : ℕ) → is_ring_size size ≡ true → may_make size part access ≡ true → ((index : ℕ) → KnowsIndex part index → place ≡ table_place (place_of size index access)) → place < 48 + 8 * size
+pub inside : (size : ℕ) (part : SeatPart) (access : Access) (place : ℕ) → is_ring_size size ≡ true → may_make size part access ≡ true → ((index : ℕ) → KnowsIndex part index → place ≡ table_place (place_of size index access)) → place < 48 + 8 * size
 inside size (Producer p) access place fits may lies = subst (λ (k : ℕ). k < 48 + 8 * size) (sym (lies 0 tt)) (table_in (place_of size 0 access) (8 * size) (within size 0 access (ring_size_bounds size fits).0 (names_word size (Producer p) access may)))
 inside size (Processor q) access place fits may lies = subst (λ (k : ℕ). k < 48 + 8 * size) (sym (lies (length q.retired) refl)) (table_in (place_of size (length q.retired) access) (8 * size) (within size (length q.retired) access (ring_size_bounds size fits).0 (names_word size (Processor q) access may)))
 

@@ -6,8 +6,8 @@ use Rattle.ring_core.specs.declared.ticket.Ticket.{Ticket}
 use Rattle.ring_core.specs.declared.ticket.HeldTicket.{HeldTicket}
 use Rattle.ring_core.specs.declared.access.Access.TheVariants.{StoreBody, StoreHeader}
 use Rattle.ring_core.specs.declared.access.Made.{Made}
-use Rattle.ring_core.specs.declared.part.Part.{Part}
-use Rattle.ring_core.specs.declared.part.Part.TheVariants.{Producer}
+use Rattle.ring_core.specs.declared.part.SeatPart.{SeatPart}
+use Rattle.ring_core.specs.declared.part.SeatPart.TheVariants.{Producer}
 use Rattle.ring_core.specs.declared.part.ProducerPart.{ProducerPart}
 use Rattle.ring_core.specs.Words.{is_body, has_body, is_invalid}
 use Rattle.ring_core.specs.Tickets.{held, changed, only_open, open_ticket, is_published, writing, shows_room}
@@ -20,11 +20,11 @@ use Rattle.ring.specs.inner.Halfway.{body_stored}
 
 -- ---- steps in turn
 
-pub knowing_append : (part : Part) (xs ys : List Made) → knowing_all part (xs ++ ys) ≡ knowing_all (knowing_all part xs) ys
+pub knowing_append : (part : SeatPart) (xs ys : List Made) → knowing_all part (xs ++ ys) ≡ knowing_all (knowing_all part xs) ys
 knowing_append part [] ys = refl
 knowing_append part (x ∷ xs) ys = knowing_append (after_own part x) xs ys
 
-pub were_append : (size producers number : ℕ) (part : Part) (xs ys : List Made) → WereMade size producers number part xs → WereMade size producers number (knowing_all part xs) ys → WereMade size producers number part (xs ++ ys)
+pub were_append : (size producers number : ℕ) (part : SeatPart) (xs ys : List Made) → WereMade size producers number part xs → WereMade size producers number (knowing_all part xs) ys → WereMade size producers number part (xs ++ ys)
 were_append size producers number part [] ys a b = b
 were_append size producers number part (x ∷ xs) ys a b = (a.0, were_append size producers number (after_own part x) xs ys a.1 b)
 

@@ -5,8 +5,8 @@ use Rattle.atomic_table.specs.Table.{Me}
 use Rattle.ring_core.specs.declared.access.Access.{Access}
 use Rattle.ring_core.specs.declared.access.Access.TheVariants.{StoreBody, StoreHeader}
 use Rattle.ring_core.specs.declared.access.Made.{Made}
-use Rattle.ring_core.specs.declared.part.Part.{Part}
-use Rattle.ring_core.specs.declared.part.Part.TheVariants.{Producer}
+use Rattle.ring_core.specs.declared.part.SeatPart.{SeatPart}
+use Rattle.ring_core.specs.declared.part.SeatPart.TheVariants.{Producer}
 use Rattle.ring_core.specs.Words.{is_invalid}
 use Rattle.ring_core.specs.Tickets.{open_ticket, shows_room}
 use Rattle.ring_core.specs.Parts.{may_make}
@@ -39,7 +39,7 @@ gained_more {S} size producers me me1 me2 xs ys h k =
     }
 
 -- a seat of this one part is ready for an access
-pub ready_of : {S : Type 0} (ring : RingSeen) (me : Me S (List Numbered)) (number : ℕ) (part : Part) (access : Access) (place : ℕ) → me ≡ (alone number part, []) → may_make ring.size part access ≡ true → ((index : ℕ) → KnowsIndex part index → place ≡ table_place (place_of ring.size index access)) → IsReady ring me access place
+pub ready_of : {S : Type 0} (ring : RingSeen) (me : Me S (List Numbered)) (number : ℕ) (part : SeatPart) (access : Access) (place : ℕ) → me ≡ (alone number part, []) → may_make ring.size part access ≡ true → ((index : ℕ) → KnowsIndex part index → place ≡ table_place (place_of ring.size index access)) → IsReady ring me access place
 ready_of {S} ring me number part access place one may lies =
     subst (λ (m : Me S (List Numbered)). IsReady ring m access place) (sym one) (record { one = refl; may = may; lies = lies })
 

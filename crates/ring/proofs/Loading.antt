@@ -5,8 +5,8 @@ use Rattle.std.proofs.lemmas.Bool.Decides.{nat_tests}
 use Rattle.atomic_table.specs.Table.{Me}
 use Rattle.ring_core.specs.declared.access.Access.TheVariants.{LoadHeader, LoadBody}
 use Rattle.ring_core.specs.declared.access.Made.{Made}
-use Rattle.ring_core.specs.declared.part.Part.{Part}
-use Rattle.ring_core.specs.declared.part.Part.TheVariants.{Processor}
+use Rattle.ring_core.specs.declared.part.SeatPart.{SeatPart}
+use Rattle.ring_core.specs.declared.part.SeatPart.TheVariants.{Processor}
 use Rattle.ring_core.specs.declared.part.ProcessorPart.{ProcessorPart}
 use Rattle.ring_core.specs.Words.{word, is_body, is_invalid}
 use Rattle.ring_core.specs.Parts.{after_processing}
@@ -98,7 +98,7 @@ module _ {S : Type 0} (ring : RingSeen) (me me1 : Me S (List Numbered)) (next he
   collected1 = rw valid refl
 
   pub eight1 : length f.part.collected ≡ 8
-  eight1 = eight_places ring.size ring.producers (only_number me.0) f.part (read LoadHeader header) pos (subst (λ (u : Part). WasMade ring.size ring.producers (only_number me.0) u (read LoadHeader header)) me_part told.were.0)
+  eight1 = eight_places ring.size ring.producers (only_number me.0) f.part (read LoadHeader header) pos (subst (λ (u : SeatPart). WasMade ring.size ring.producers (only_number me.0) u (read LoadHeader header)) me_part told.were.0)
 
   module _ (words : List ℕ) (k : ℕ) (me2 : Me S (List Numbered)) (h : HasGained ring.size ring.producers me1 (body_read words k) me2) where
     abbrev body : Gathered words part1 k

@@ -8,13 +8,13 @@ use lib.ListN.{get_elem?}
 use Rattle.atomic_table.specs.Table.{State}
 use Rattle.ring_core.specs.declared.access.Access.{Access}
 use Rattle.ring_core.specs.declared.access.Step.{Step}
-use Rattle.ring_core.specs.declared.part.Part.{Part}
+use Rattle.ring_core.specs.declared.part.SeatPart.{SeatPart}
 use Rattle.ring_core.specs.Parts.{may_make, nobody, seen_by}
 use Rattle.ring_core.specs.Machine.{Machine, Makes, Replays, machine_of, part_at, made, touched, found, word_after, knows_after, is_allowed}
 use Rattle.ring_core.proofs.Kept.{keeps, replays_keep, seated}
 use Rattle.ring_core.proofs.States.{replays_push}
 use Rattle.ring.specs.declared.share.Numbered.{Numbered}
-use Rattle.ring.specs.declared.share.Shape.{Shape}
+use Rattle.ring.specs.declared.share.RingShape.{RingShape}
 use Rattle.ring.specs.Places.{words_seen}
 use Rattle.ring.specs.Shares.{alone, AreOf, times_in, Unite, AreMachine, IsKept, IsOneStep}
 use Rattle.ring.specs.Made.{step_by}
@@ -23,7 +23,7 @@ use Rattle.ring.proofs.Shares.{unite_step, unite_cut, unite_join}
 
 -- ---- what the table keeps is a machine
 
-pub machine_kept : (size producers : ℕ) (words : List ℕ) (shares : List (List Numbered)) (steps : List Step) (parts : List Part) → 0 < size
+pub machine_kept : (size producers : ℕ) (words : List ℕ) (shares : List (List Numbered)) (steps : List Step) (parts : List SeatPart) → 0 < size
     → Replays size producers steps (machine_of size (words_seen words) parts) → Unite parts shares → AreMachine size producers words shares (machine_of size (words_seen words) parts)
 machine_kept size producers words shares steps parts pos leads unite =
     record {
@@ -34,7 +34,7 @@ machine_kept size producers words shares steps parts pos leads unite =
       rule = replays_keep size producers steps (machine_of size (words_seen words) parts) pos leads;
     }
 
-pub kept_machine : {S : Type 0} (shape : Shape) (state : State S (List Numbered)) → 0 < shape.size → IsKept shape state
+pub kept_machine : {S : Type 0} (shape : RingShape) (state : State S (List Numbered)) → 0 < shape.size → IsKept shape state
     → (machine : Machine) × AreMachine shape.size shape.producers state.words state.views machine
 kept_machine shape state pos h =
     (machine_of shape.size (words_seen state.words) h.1, machine_kept shape.size shape.producers state.words state.views h.0 h.1 pos h.2 h.3)
@@ -48,7 +48,7 @@ has_indices size producers words shares machine are =
 
 -- ---- an access is one step
 
-pub one_step : (size producers : ℕ) (words : List ℕ) (shares : List (List Numbered)) (machine : Machine) (seat number : ℕ) (part : Part) (access : Access)
+pub one_step : (size producers : ℕ) (words : List ℕ) (shares : List (List Numbered)) (machine : Machine) (seat number : ℕ) (part : SeatPart) (access : Access)
     → AreMachine size producers words shares machine → get_elem? shares seat ≡ some (alone number part) → may_make size part access ≡ true
     → IsOneStep size producers words shares machine seat (step_by number access)
 one_step size producers words shares machine seat number part access are at may =
@@ -102,7 +102,7 @@ some_share number (share ∷ shares) least =
     ]
 
 -- a share tells the part of a number that is in it
-same_part : (number : ℕ) (one two : List Part) (share : List Numbered) → 1 ≤ times_in number share → AreOf one share → AreOf two share → get_or one number nobody ≡ get_or two number nobody
+same_part : (number : ℕ) (one two : List SeatPart) (share : List Numbered) → 1 ≤ times_in number share → AreOf one share → AreOf two share → get_or one number nobody ≡ get_or two number nobody
 same_part number one two [] least a b = absurd (omega (arith, least))
 same_part number one two (entry ∷ share) least a b =
     elim (eqb_tells entry.number number) [
@@ -119,13 +119,13 @@ lt_no : (a b : ℕ) → b ≤ a → nat_lt a b ≡ false
 lt_no a b e = grind (arith, nat_tests)
 
 -- how often a number is in the shares tells whether there is a part with it
-inside_once : (parts : List Part) (shares : List (List Numbered)) (number : ℕ) → Unite parts shares → number < length parts → sum_by (times_in number) shares ≡ 1
+inside_once : (parts : List SeatPart) (shares : List (List Numbered)) (number : ℕ) → Unite parts shares → number < length parts → sum_by (times_in number) shares ≡ 1
 inside_once parts shares number u lt = u.once number ∙ ap (λ b. cond {A = ℕ} b 1 0) (lt_yes number (length parts) lt)
 
-past_never : (parts : List Part) (shares : List (List Numbered)) (number : ℕ) → Unite parts shares → length parts ≤ number → sum_by (times_in number) shares ≡ 0
+past_never : (parts : List SeatPart) (shares : List (List Numbered)) (number : ℕ) → Unite parts shares → length parts ≤ number → sum_by (times_in number) shares ≡ 0
 past_never parts shares number u le = u.once number ∙ ap (λ b. cond {A = ℕ} b 1 0) (lt_no number (length parts) le)
 
-not_more : (one two : List Part) (shares : List (List Numbered)) → Unite one shares → Unite two shares → length one ≤ length two
+not_more : (one two : List SeatPart) (shares : List (List Numbered)) → Unite one shares → Unite two shares → length one ≤ length two
 not_more one two shares u v =
     elim (leb_tells (length one) (length two)) [
       | inl g ↦ g.1
@@ -135,7 +135,7 @@ not_more one two shares u v =
           absurd (omega (arith, a, b))
     ]
 
-same_lists : (one two : List Part) → length one ≡ length two → ((k : ℕ) → k < length one → get_or one k nobody ≡ get_or two k nobody) → one ≡ two
+same_lists : (one two : List SeatPart) → length one ≡ length two → ((k : ℕ) → k < length one → get_or one k nobody ≡ get_or two k nobody) → one ≡ two
 same_lists [] [] n e = refl
 same_lists [] (y ∷ two) n e = absurd (omega (arith, n))
 same_lists (x ∷ one) [] n e = absurd (omega (arith, n))
@@ -144,7 +144,7 @@ same_lists (x ∷ one) (y ∷ two) n e =
     let others : one ≡ two = same_lists one two (omega (arith, n)) (λ k lt. e (suc k) (omega (arith, lt))) in
     λ i. first i ∷ others i
 
-unite_same : (one two : List Part) (shares : List (List Numbered)) → Unite one shares → Unite two shares → one ≡ two
+unite_same : (one two : List SeatPart) (shares : List (List Numbered)) → Unite one shares → Unite two shares → one ≡ two
 unite_same one two shares u v =
     same_lists one two (omega (arith, not_more one two shares u v, not_more two one shares v u))
     (λ k lt.

@@ -7,8 +7,8 @@ use Rattle.ring_core.specs.declared.access.Access.{Access}
 use Rattle.ring_core.specs.declared.access.Access.TheVariants.{Reserve, LoadReadIndex, StoreHeader}
 use Rattle.ring_core.specs.declared.access.Seen.TheVariants.{Read}
 use Rattle.ring_core.specs.declared.access.Made.{Made}
-use Rattle.ring_core.specs.declared.part.Part.{Part}
-use Rattle.ring_core.specs.declared.part.Part.TheVariants.{Producer}
+use Rattle.ring_core.specs.declared.part.SeatPart.{SeatPart}
+use Rattle.ring_core.specs.declared.part.SeatPart.TheVariants.{Producer}
 use Rattle.ring_core.specs.declared.part.ProducerPart.{ProducerPart}
 use Rattle.ring_core.specs.Tickets.{blank, held, only_open, open_ticket, seeing, writing, IsAbove}
 use Rattle.ring_core.specs.Parts.{may_make, after_producing}
@@ -69,7 +69,7 @@ module _ (size producers number id : ℕ) (p : ProducerPart) (pos : 0 < size) (h
       let same_Read : (a b : ℕ) → Read a ≡ Read b → a ≡ b = λ a b e. cc in
       let is : id ≡ write_index h.machine = same_Read id (write_index h.machine) h.makes.told in
       let a : IsAbove (write_index h.machine) (tickets_of (part_at h.machine number)) = all_below (write_index h.machine) h.machine.parts number rule.shared.named in
-      subst (λ (n : ℕ). IsAbove n p.tickets) (sym is) (subst (λ (u : Part). IsAbove (write_index h.machine) (tickets_of u)) h.had a)
+      subst (λ (n : ℕ). IsAbove n p.tickets) (sym is) (subst (λ (u : SeatPart). IsAbove (write_index h.machine) (tickets_of u)) h.had a)
 
   absent : held id p.tickets ≡ None
   absent = held_none id p.tickets (λ k lt same. let b = above k lt in omega (arith, b, same))
@@ -105,10 +105,6 @@ ticket_eight size producers number id p t made pos h is_open =
     at_most_one : (b : Bool) (m : ℕ) → m ≡ cond b 1 0 → m ≤ 1
     at_most_one true m e = omega arith
     at_most_one false m e = omega arith
-
--- a look for room
-pub may_look : (size id : ℕ) (p : ProducerPart) → is_some (open_ticket id p.tickets) ≡ true → may_make size (Producer p) (LoadReadIndex (record { 0 = id })) ≡ true
-may_look size id p is_open = is_open
 
 -- ---- a publication
 

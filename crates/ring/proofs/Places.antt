@@ -2,7 +2,7 @@
 use Rattle.std.proofs.Common.{◌≡◌, ◌≢◌, ℕ, zero, suc, ◌+◌, ◌-◌, ◌*◌, ◌<◌, ◌≤◌, true, List, [], ◌∷◌, ◌++◌, length, get_or, set, take, drop, replicate, refl, ap, ◌∙◌, sym, arith, length-set, get_or-set_same, get_or-set_other}
 use Rattle.std.specs.Prelude.{slice_index, slice_set}
 use Rattle.aql_packet.specs.Ring.{is_ring_size}
-use Rattle.ring_core.specs.Machine.{word_place, free_slots, opened}
+use Rattle.ring_core.specs.Machine.{word_place, free_slots}
 use Rattle.ring_core.proofs.Places.{place_high, place_in, free_length, free_more}
 use Rattle.ring_core.proofs.Sizes.{ring_size_bounds}
 use Rattle.ring.specs.Places.{table_count, table_place, words_seen}
@@ -126,9 +126,6 @@ slot_in size id fits =
     (omega (arith, few, lt), (let in_ : table_place (word_place size id 0) < 48 + 8 * size = table_in (word_place size id 0) (8 * size) lt in omega (arith, few, in_)))
 
 -- ---- the opening
-
-pub opening_seen : (size : ℕ) → words_seen (replicate 48 0 ++ free_slots size) ≡ (opened size 0).words
-opening_seen size = refl
 
 pub opening_count : (size : ℕ) → length (replicate 48 0 ++ free_slots size) ≡ table_count size
 opening_count size = let n : length (free_slots size) ≡ 8 * size = free_length size in omega (arith, n)

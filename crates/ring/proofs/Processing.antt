@@ -6,7 +6,7 @@ use Rattle.std.proofs.lemmas.List.{length_push}
 use Rattle.ring_core.specs.declared.access.Access.TheVariants.{LoadHeader, ClearHeader, RaiseReadIndex}
 use Rattle.ring_core.specs.declared.access.Seen.TheVariants.{Read}
 use Rattle.ring_core.specs.declared.access.Made.{Made}
-use Rattle.ring_core.specs.declared.part.Part.TheVariants.{Processor}
+use Rattle.ring_core.specs.declared.part.SeatPart.TheVariants.{Processor}
 use Rattle.ring_core.specs.declared.part.ProcessorPart.{ProcessorPart}
 use Rattle.ring_core.specs.Words.{is_invalid, packet_of}
 use Rattle.ring_core.specs.Parts.{after_processing, collected_packet}

@@ -5,13 +5,13 @@ use Rattle.std.proofs.lemmas.Bool.Decides.{eqb_tells}
 use mathlib.Core.Option.{some, some-injective, some-ne-none}
 use lib.ListN.{get_elem?}
 use Rattle.atomic_table.specs.Table.{Final, Seen}
-use Rattle.ring_core.specs.declared.part.Part.{Part}
-use Rattle.ring_core.specs.declared.part.Part.TheVariants.{Producer, Processor}
+use Rattle.ring_core.specs.declared.part.SeatPart.{SeatPart}
+use Rattle.ring_core.specs.declared.part.SeatPart.TheVariants.{Producer, Processor}
 use Rattle.ring_core.specs.Parts.{nobody}
 use Rattle.ring_core.specs.Machine.{machine_of, Replays}
 use Rattle.ring_core.proofs.Kept.{replays_keep}
 use Rattle.ring.specs.declared.share.Numbered.{Numbered}
-use Rattle.ring.specs.declared.share.Shape.{Shape}
+use Rattle.ring.specs.declared.share.RingShape.{RingShape}
 use Rattle.ring.specs.Places.{words_seen}
 use Rattle.ring.specs.Shares.{alone, shape_of, AreOf, IsKept}
 use Rattle.ring.proofs.Places.{wide, seen_is, drop_at}
@@ -34,9 +34,9 @@ missing_one (suc n) k passes lt lacks =
     ]
 
 -- what was closed
-pub closes : {S : Type 0} (ring : RingSeen) (shape : Shape) (id : ℕ) (share : List Numbered) (words : List ℕ) (slots : List S) → shape ≡ shape_of ring.size ring.producers → Final (Seen (IsKept {S = S} shape) id share) words slots → IsClosed ring share (words_seen words)
+pub closes : {S : Type 0} (ring : RingSeen) (shape : RingShape) (id : ℕ) (share : List Numbered) (words : List ℕ) (slots : List S) → shape ≡ shape_of ring.size ring.producers → Final (Seen (IsKept {S = S} shape) id share) words slots → IsClosed ring share (words_seen words)
 closes ring shape id share words slots is final =
-    let kept = subst (λ (s : Shape). IsKept s final.0) is final.1.0 in
+    let kept = subst (λ (s : RingShape). IsKept s final.0) is final.1.0 in
     let w = final.2 in
     (kept.0, kept.1, subst (λ (ws : List ℕ). Replays ring.size ring.producers kept.0 (machine_of ring.size (words_seen ws) kept.1)) w kept.2, kept.3.own id share final.1.1)
 
@@ -72,7 +72,7 @@ all_words words slots w r n a b e =
     is ∙ (λ i. a i ∷ b i ∷ t i)
 
 -- the shares of passes
-pub are_passes : (parts : List Part) (passes : List ProducerSeen) → AreOf parts (map share_of passes) → All (λ pass. get_or parts pass.number nobody ≡ Producer pass.part) passes
+pub are_passes : (parts : List SeatPart) (passes : List ProducerSeen) → AreOf parts (map share_of passes) → All (λ pass. get_or parts pass.number nobody ≡ Producer pass.part) passes
 are_passes parts [] h zero d lt = absurd (omega (arith, lt))
 are_passes parts [] h (suc k) d lt = absurd (omega (arith, lt))
 are_passes parts (pass ∷ passes) h zero d lt = h.0

@@ -6,7 +6,7 @@ use Rattle.std.proofs.lemmas.List.Sums.{sum_by-cons, sum_by_push}
 use mathlib.Core.Option.{some, some-injective, some-ne-none}
 use lib.ListN.{get_elem?}
 use Rattle.atomic_table.proofs.Lists.{at_set, at_snoc}
-use Rattle.ring_core.specs.declared.part.Part.{Part}
+use Rattle.ring_core.specs.declared.part.SeatPart.{SeatPart}
 use Rattle.ring_core.specs.Parts.{nobody}
 use Rattle.ring.specs.declared.share.Numbered.{Numbered}
 use Rattle.ring.specs.Shares.{alone, numbered, AreOf, times_in, Unite}
@@ -38,7 +38,7 @@ pub times_append : (number : ℕ) (xs ys : List Numbered) → times_in number (x
 times_append number [] ys = omega arith
 times_append number (x ∷ xs) ys = let h : times_in number (xs ++ ys) ≡ times_in number xs + times_in number ys = times_append number xs ys in omega (arith, h)
 
-pub are_append : (parts : List Part) (xs ys : List Numbered) → AreOf parts xs → AreOf parts ys → AreOf parts (xs ++ ys)
+pub are_append : (parts : List SeatPart) (xs ys : List Numbered) → AreOf parts xs → AreOf parts ys → AreOf parts (xs ++ ys)
 are_append parts [] ys a b = b
 are_append parts (x ∷ xs) ys a b = (a.0, are_append parts xs ys a.1 b)
 
@@ -47,11 +47,11 @@ pub times_cut : (number : ℕ) (xs : List Numbered) → times_in number (drop 1 
 times_cut number [] = refl
 times_cut number (x ∷ xs) = omega arith
 
-pub are_rest : (parts : List Part) (xs : List Numbered) → AreOf parts xs → AreOf parts (drop 1 xs)
+pub are_rest : (parts : List SeatPart) (xs : List Numbered) → AreOf parts xs → AreOf parts (drop 1 xs)
 are_rest parts [] a = a
 are_rest parts (x ∷ xs) a = a.1
 
-pub are_first : (parts : List Part) (xs : List Numbered) → AreOf parts xs → AreOf parts (take 1 xs)
+pub are_first : (parts : List SeatPart) (xs : List Numbered) → AreOf parts xs → AreOf parts (take 1 xs)
 are_first parts [] a = a
 are_first parts (x ∷ xs) a = (a.0, tt)
 
@@ -59,7 +59,7 @@ are_first parts (x ∷ xs) a = (a.0, tt)
 eqb_yes : (a b : ℕ) → a ≡ b → eqb a b ≡ true
 eqb_yes a b e = grind (arith, nat_tests)
 
-pub are_set : (parts : List Part) (number : ℕ) (part : Part) (xs : List Numbered) → times_in number xs ≡ 0 → AreOf parts xs → AreOf (set parts number part) xs
+pub are_set : (parts : List SeatPart) (number : ℕ) (part : SeatPart) (xs : List Numbered) → times_in number xs ≡ 0 → AreOf parts xs → AreOf (set parts number part) xs
 are_set parts number part [] none a = tt
 are_set parts number part (x ∷ xs) none a =
     elim (eqb_tells x.number number) [
@@ -69,14 +69,11 @@ are_set parts number part (x ∷ xs) none a =
 
 -- ---- all shares
 
-pub times_alone : (number : ℕ) (part : Part) → times_in number (alone number part) ≡ 1
+pub times_alone : (number : ℕ) (part : SeatPart) → times_in number (alone number part) ≡ 1
 times_alone number part = let one : cond {A = ℕ} (eqb number number) 1 0 ≡ 1 = ap (λ b. cond {A = ℕ} b 1 0) (eqb_yes number number refl) in omega (arith, one)
 
-pub times_same : (k number : ℕ) (part part' : Part) → times_in k (alone number part) ≡ times_in k (alone number part')
-times_same k number part part' = refl
-
 -- a step with a seat that has one part
-pub unite_step : (parts : List Part) (shares : List (List Numbered)) (seat number : ℕ) (part part' : Part) → get_elem? shares seat ≡ some (alone number part) → number < length parts → Unite parts shares → Unite (set parts number part') (set shares seat (alone number part'))
+pub unite_step : (parts : List SeatPart) (shares : List (List Numbered)) (seat number : ℕ) (part part' : SeatPart) → get_elem? shares seat ≡ some (alone number part) → number < length parts → Unite parts shares → Unite (set parts number part') (set shares seat (alone number part'))
 unite_step parts shares seat number part part' at within u =
     record {
       own = λ other share e. ⊎_elim
@@ -99,7 +96,7 @@ unite_step parts shares seat number part part' at within u =
     at_most false m e = omega arith
 
 -- a seat is cut in two
-pub unite_cut : (parts : List Part) (shares : List (List Numbered)) (seat : ℕ) (share : List Numbered) → get_elem? shares seat ≡ some share → Unite parts shares → Unite parts (set shares seat (drop 1 share) ++ take 1 share ∷ [])
+pub unite_cut : (parts : List SeatPart) (shares : List (List Numbered)) (seat : ℕ) (share : List Numbered) → get_elem? shares seat ≡ some share → Unite parts shares → Unite parts (set shares seat (drop 1 share) ++ take 1 share ∷ [])
 unite_cut parts shares seat share at u =
     record {
       own = λ other found e. ⊎_elim
@@ -118,7 +115,7 @@ unite_cut parts shares seat share at u =
     }
 
 -- two seats are joined, and the second is spent
-pub unite_join : (parts : List Part) (shares : List (List Numbered)) (seat other : ℕ) (share theirs : List Numbered) → get_elem? shares seat ≡ some share → get_elem? (set shares seat (share ++ theirs)) other ≡ some theirs → other ≢ seat → Unite parts shares → Unite parts (set (set shares seat (share ++ theirs)) other [])
+pub unite_join : (parts : List SeatPart) (shares : List (List Numbered)) (seat other : ℕ) (share theirs : List Numbered) → get_elem? shares seat ≡ some share → get_elem? (set shares seat (share ++ theirs)) other ≡ some theirs → other ≢ seat → Unite parts shares → Unite parts (set (set shares seat (share ++ theirs)) other [])
 unite_join parts shares seat other share theirs at at' ne u =
     let there : get_elem? shares other ≡ some theirs = ⊎_elim (λ t. absurd (ne t.0)) (λ t. t.1) (at_set shares seat other (share ++ theirs) theirs at') in
     let whole : AreOf parts (share ++ theirs) = are_append parts share theirs (u.own seat share at) (u.own other theirs there) in
@@ -137,26 +134,26 @@ unite_join parts shares seat other share theirs at at' ne u =
 
 -- ---- the opening
 
-pub are_numbered : (before parts : List Part) → AreOf (before ++ parts) (numbered (length before) parts)
+pub are_numbered : (before parts : List SeatPart) → AreOf (before ++ parts) (numbered (length before) parts)
 are_numbered before [] = tt
 are_numbered before (part ∷ parts) = (here before part parts, subst2 before part parts (are_numbered (before ++ part ∷ []) parts))
   where
-    here : (before : List Part) (part : Part) (parts : List Part) → get_or (before ++ part ∷ parts) (length before) nobody ≡ part
+    here : (before : List SeatPart) (part : SeatPart) (parts : List SeatPart) → get_or (before ++ part ∷ parts) (length before) nobody ≡ part
     here [] part parts = refl
     here (p ∷ before) part parts = here before part parts
 
-    assoc : (before : List Part) (part : Part) (parts : List Part) → (before ++ part ∷ []) ++ parts ≡ before ++ part ∷ parts
+    assoc : (before : List SeatPart) (part : SeatPart) (parts : List SeatPart) → (before ++ part ∷ []) ++ parts ≡ before ++ part ∷ parts
     assoc [] part parts = refl
     assoc (p ∷ before) part parts = ap (λ xs. p ∷ xs) (assoc before part parts)
 
-    longer : (before : List Part) (part : Part) → length (before ++ part ∷ []) ≡ suc (length before)
+    longer : (before : List SeatPart) (part : SeatPart) → length (before ++ part ∷ []) ≡ suc (length before)
     longer [] part = refl
     longer (p ∷ before) part = ap suc (longer before part)
 
-    subst2 : (before : List Part) (part : Part) (parts : List Part) → AreOf ((before ++ part ∷ []) ++ parts) (numbered (length (before ++ part ∷ [])) parts) → AreOf (before ++ part ∷ parts) (numbered (suc (length before)) parts)
-    subst2 before part parts h = subst (λ (n : ℕ). AreOf (before ++ part ∷ parts) (numbered n parts)) (longer before part) (subst (λ (xs : List Part). AreOf xs (numbered (length (before ++ part ∷ [])) parts)) (assoc before part parts) h)
+    subst2 : (before : List SeatPart) (part : SeatPart) (parts : List SeatPart) → AreOf ((before ++ part ∷ []) ++ parts) (numbered (length (before ++ part ∷ [])) parts) → AreOf (before ++ part ∷ parts) (numbered (suc (length before)) parts)
+    subst2 before part parts h = subst (λ (n : ℕ). AreOf (before ++ part ∷ parts) (numbered n parts)) (longer before part) (subst (λ (xs : List SeatPart). AreOf xs (numbered (length (before ++ part ∷ [])) parts)) (assoc before part parts) h)
 
-times_numbered : (k first : ℕ) (parts : List Part) → (k < first → times_in k (numbered first parts) ≡ 0) × (first ≤ k → k < first + length parts → times_in k (numbered first parts) ≡ 1) × (first + length parts ≤ k → times_in k (numbered first parts) ≡ 0)
+times_numbered : (k first : ℕ) (parts : List SeatPart) → (k < first → times_in k (numbered first parts) ≡ 0) × (first ≤ k → k < first + length parts → times_in k (numbered first parts) ≡ 1) × (first + length parts ≤ k → times_in k (numbered first parts) ≡ 0)
 times_numbered k first [] = ((λ _. refl), (λ a b. absurd (omega (arith, a, b))), (λ _. refl))
 times_numbered k first (part ∷ parts) =
     let h = times_numbered k (suc first) parts in
@@ -179,7 +176,7 @@ times_numbered k first (part ∷ parts) =
     eqb_no : (a b : ℕ) → a ≢ b → eqb a b ≡ false
     eqb_no a b e = grind (arith, nat_tests)
 
-pub unite_first : (parts : List Part) → Unite parts (numbered 0 parts ∷ [])
+pub unite_first : (parts : List SeatPart) → Unite parts (numbered 0 parts ∷ [])
 unite_first parts =
     record {
       own = λ seat share e. first seat share e;

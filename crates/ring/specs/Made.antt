@@ -6,7 +6,7 @@ use Rattle.ring_core.specs.declared.access.Access.{Access}
 use Rattle.ring_core.specs.declared.access.Step.{Step}
 use Rattle.ring_core.specs.declared.access.Seen.TheVariants.{Read, Stored}
 use Rattle.ring_core.specs.declared.access.Made.{Made}
-use Rattle.ring_core.specs.declared.part.Part.{Part}
+use Rattle.ring_core.specs.declared.part.SeatPart.{SeatPart}
 use Rattle.ring_core.specs.Runs.{after_own}
 use Rattle.ring_core.specs.Machine.{Machine, Makes, part_at}
 use Rattle.ring.specs.declared.share.Numbered.{Numbered}
@@ -27,7 +27,7 @@ step_by number access = record { seat = number; access = access }
 -- a seat that knew a part made this step: as it made it, the words of the ring and the shares of all its
 -- seats were together a machine that meets the ring rule; in it the seat had that part, and no other; the
 -- step is allowed in that machine, tells this, and leads to the machine that words and shares then were
-pub record WasMade (size producers number : ℕ) (part : Part) (made : Made) : Type 0 where
+pub record WasMade (size producers number : ℕ) (part : SeatPart) (made : Made) : Type 0 where
   pub words : List ℕ
   pub shares : List (List Numbered)
   pub machine : Machine
@@ -40,17 +40,17 @@ pub record WasMade (size producers number : ℕ) (part : Part) (made : Made) : T
   pub become : AreMachine size producers (words_after machine (step_by number made.access) words) (shares_after machine (step_by number made.access) seat shares) next
 
 -- what a seat knows after several steps that it made, in turn
-abbrev pub knowing_all : Part → List Made → Part
+abbrev pub knowing_all : SeatPart → List Made → SeatPart
 knowing_all part [] = part
 knowing_all part (made ∷ rest) = knowing_all (after_own part made) rest
 
 -- it made them, in turn
-abbrev pub WereMade : ℕ → ℕ → ℕ → Part → List Made → Type 0
+abbrev pub WereMade : ℕ → ℕ → ℕ → SeatPart → List Made → Type 0
 WereMade size producers number part [] = ⊤
 WereMade size producers number part (made ∷ rest) =
     WasMade size producers number part made × WereMade size producers number (after_own part made) rest
 
 -- a seat gained just these steps, in turn
-abbrev pub Gained : ℕ → ℕ → ℕ → Part → List Made → Part → Type 0
+abbrev pub Gained : ℕ → ℕ → ℕ → SeatPart → List Made → SeatPart → Type 0
 Gained size producers number part made after =
     WereMade size producers number part made × (after ≡ knowing_all part made)

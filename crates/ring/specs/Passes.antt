@@ -1,14 +1,14 @@
 -- What a contract sees of a ring and of its passes (own).
 use Rattle.std.specs.Prelude.{◌≡◌, ℕ, List, [], ◌∷◌, map, length, Option, Some, None, true, false, ⊤}
 use Rattle.atomic_table.specs.Seated.{TableId}
-use Rattle.ring_core.specs.declared.part.Part.{Part}
-use Rattle.ring_core.specs.declared.part.Part.TheVariants.{Producer, Processor}
+use Rattle.ring_core.specs.declared.part.SeatPart.{SeatPart}
+use Rattle.ring_core.specs.declared.part.SeatPart.TheVariants.{Producer, Processor}
 use Rattle.ring_core.specs.declared.part.ProducerPart.{ProducerPart}
 use Rattle.ring_core.specs.declared.part.ProcessorPart.{ProcessorPart}
 use Rattle.ring_core.specs.Words.{no_words}
 use Rattle.ring_core.specs.Parts.{nobody}
 use Rattle.ring.specs.declared.share.Numbered.{Numbered}
-use Rattle.ring.specs.declared.share.Shape.{Shape}
+use Rattle.ring.specs.declared.share.RingShape.{RingShape}
 use Rattle.aql_packet.specs.Ring.{is_ring_size}
 use Rattle.ring.specs.Places.{table_count}
 use Rattle.ring_core.specs.Machine.{is_producer_count}
@@ -22,7 +22,7 @@ pub record RingSeen : Type 0 where
 
 -- its table was made for this size and so many producers, and has eight words a slot, the two indices and
 -- the gaps before each of them and before the first slot
-pub record IsRing (table : TableId) (shape : Shape) (size producers : ℕ) : Type 0 where
+pub record IsRing (table : TableId) (shape : RingShape) (size producers : ℕ) : Type 0 where
   pub made_for : shape ≡ shape_of size producers
   pub words : table.words ≡ table_count size
   pub no_slots : table.slots ≡ 0
@@ -41,16 +41,16 @@ pub record ProcessorSeen : Type 0 where
   pub part : ProcessorPart
 
 -- the part of a producer, and of the processor
-abbrev pub as_producer : Part → ProducerPart
+abbrev pub as_producer : SeatPart → ProducerPart
 as_producer (Producer part) = part
 as_producer (Processor part) = record { allowance = 0; tickets = []; steps = [] }
 
-abbrev pub as_processor : Part → ProcessorPart
+abbrev pub as_processor : SeatPart → ProcessorPart
 as_processor (Processor part) = part
 as_processor (Producer part) = record { retired = []; collected = no_words; raising = false; steps = [] }
 
 -- the part of a share of one part
-abbrev pub only_part : List Numbered → Part
+abbrev pub only_part : List Numbered → SeatPart
 only_part [] = nobody
 only_part (entry ∷ rest) = entry.part
 

@@ -4,7 +4,7 @@ use Rattle.atomic_table.specs.Table.{Me}
 use Rattle.ring_core.specs.declared.ticket.Ticket.{Ticket}
 use Rattle.ring_core.specs.declared.access.Access.TheVariants.{LoadReadIndex}
 use Rattle.ring_core.specs.declared.access.Made.{Made}
-use Rattle.ring_core.specs.declared.part.Part.TheVariants.{Producer}
+use Rattle.ring_core.specs.declared.part.SeatPart.TheVariants.{Producer}
 use Rattle.ring_core.specs.declared.part.ProducerPart.{ProducerPart}
 use Rattle.ring_core.specs.Words.{is_invalid}
 use Rattle.ring_core.specs.Tickets.{open_ticket, has_room, shows_room}

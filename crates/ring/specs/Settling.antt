@@ -2,8 +2,8 @@
 use Rattle.std.specs.Prelude.{◌≡◌, ℕ, zero, suc, ◌==◌, ◌&&◌, Bool, true, List, ◌∷◌, get_or, All}
 use Rattle.std.specs.List.{list_any}
 use Rattle.ring_core.specs.declared.access.Step.{Step}
-use Rattle.ring_core.specs.declared.part.Part.{Part}
-use Rattle.ring_core.specs.declared.part.Part.TheVariants.{Producer, Processor}
+use Rattle.ring_core.specs.declared.part.SeatPart.{SeatPart}
+use Rattle.ring_core.specs.declared.part.SeatPart.TheVariants.{Producer, Processor}
 use Rattle.ring_core.specs.Parts.{nobody}
 use Rattle.ring_core.specs.Machine.{machine_of, Replays}
 use Rattle.ring_core.specs.Rule.{IsRule}
@@ -28,14 +28,14 @@ share_of pass = record { number = pass.number; part = Producer pass.part }
 -- these parts
 abbrev pub IsClosed : RingSeen → List Numbered → List ℕ → Type 0
 IsClosed ring share words =
-    (steps : List Step) × (parts : List Part)
+    (steps : List Step) × (parts : List SeatPart)
     × Replays ring.size ring.producers steps (machine_of ring.size words parts) × AreOf parts share
 
 -- the indices and the slots are those of a machine that meets the ring rule, in which the processor and
 -- each producer know what their passes know
 pub record IsSettled (ring : RingSeen) (passes : List ProducerSeen) (processor : ProcessorSeen) (write_index read_index : ℕ) (slots : List ℕ) : Type 0 where
   pub steps : List Step
-  pub parts : List Part
+  pub parts : List SeatPart
   pub replays : Replays ring.size ring.producers steps (machine_of ring.size (write_index ∷ read_index ∷ slots) parts)
   pub rule : IsRule ring.producers (machine_of ring.size (write_index ∷ read_index ∷ slots) parts)
   pub retired : get_or parts 0 nobody ≡ Processor processor.part

@@ -4,32 +4,32 @@ use mathlib.Core.Option.{some}
 use lib.ListN.{get_elem?}
 use Rattle.atomic_table.specs.Table.{State}
 use Rattle.ring_core.specs.declared.access.Step.{Step}
-use Rattle.ring_core.specs.declared.part.Part.{Part}
+use Rattle.ring_core.specs.declared.part.SeatPart.{SeatPart}
 use Rattle.ring_core.specs.Parts.{nobody, seen_by}
 use Rattle.ring_core.specs.Machine.{Machine, Makes, machine_of, opened, Replays, made, touched, found, word_after, knows_after}
 use Rattle.ring_core.specs.Rule.{IsRule}
 use Rattle.ring.specs.declared.share.Numbered.{Numbered}
-use Rattle.ring.specs.declared.share.Shape.{Shape}
+use Rattle.ring.specs.declared.share.RingShape.{RingShape}
 use Rattle.ring.specs.Places.{table_place, words_seen}
 
-abbrev pub shape_of : ℕ → ℕ → Shape
+abbrev pub shape_of : ℕ → ℕ → RingShape
 shape_of size producers = record { size = size; producers = producers }
 
 -- a share of one part
-abbrev pub alone : ℕ → Part → List Numbered
+abbrev pub alone : ℕ → SeatPart → List Numbered
 alone number part = record { number = number; part = part } ∷ []
 
 -- parts under their numbers, from a number on
-abbrev pub numbered : ℕ → List Part → List Numbered
+abbrev pub numbered : ℕ → List SeatPart → List Numbered
 numbered number [] = []
 numbered number (part ∷ parts) = record { number = number; part = part } ∷ numbered (suc number) parts
 
 -- the share of the first seat: all parts of a ring that opens
-abbrev pub first_share : Shape → List Numbered
+abbrev pub first_share : RingShape → List Numbered
 first_share shape = numbered 0 (opened shape.size shape.producers).parts
 
 -- each part of a share is the one that a machine has under its number
-abbrev pub AreOf : List Part → List Numbered → Type 0
+abbrev pub AreOf : List SeatPart → List Numbered → Type 0
 AreOf parts [] = ⊤
 AreOf parts (entry ∷ share) = (get_or parts entry.number nobody ≡ entry.part) × AreOf parts share
 
@@ -40,7 +40,7 @@ times_in number (entry ∷ share) = (if entry.number == number then 1 else 0) + 
 
 -- the shares of all seats unite to the parts of a machine: each share has parts of it, and each number is
 -- in one share, once. A spent share is empty
-pub record Unite (parts : List Part) (shares : List (List Numbered)) : Type 0 where
+pub record Unite (parts : List SeatPart) (shares : List (List Numbered)) : Type 0 where
   pub own : (seat : ℕ) (share : List Numbered) → get_elem? shares seat ≡ some share → AreOf parts share
   pub once : (number : ℕ) → sum_by (times_in number) shares ≡ (if nat_lt number (length parts) then 1 else 0)
 
@@ -72,8 +72,8 @@ pub record IsOneStep (size producers : ℕ) (words : List ℕ) (shares : List (L
 
 -- the fact that the table keeps between any two steps: some list of steps leads from the opening to a
 -- machine with the words seen among these and with the parts to which the shares of all seats unite
-abbrev pub IsKept : {S : Type 0} → Shape → State S (List Numbered) → Type 0
+abbrev pub IsKept : {S : Type 0} → RingShape → State S (List Numbered) → Type 0
 IsKept shape state =
-    (steps : List Step) × (parts : List Part)
+    (steps : List Step) × (parts : List SeatPart)
     × Replays shape.size shape.producers steps (machine_of shape.size (words_seen state.words) parts)
     × Unite parts state.views

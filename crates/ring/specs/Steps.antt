@@ -3,10 +3,10 @@ use Rattle.std.specs.Prelude.{◌≡◌, ◌⊎◌, ℕ, true, List, [], ◌∷�
 use Rattle.atomic_table.specs.Table.{Me}
 use Rattle.ring_core.specs.declared.access.Access.{Access}
 use Rattle.ring_core.specs.declared.access.Made.{Made}
-use Rattle.ring_core.specs.declared.part.Part.{Part}
+use Rattle.ring_core.specs.declared.part.SeatPart.{SeatPart}
 use Rattle.ring_core.specs.declared.access.Access.TheVariants.{Reserve, RaiseReadIndex}
 use Rattle.ring_core.specs.declared.access.Seen.TheVariants.{Stored}
-use Rattle.ring_core.specs.declared.part.Part.TheVariants.{Producer, Processor}
+use Rattle.ring_core.specs.declared.part.SeatPart.TheVariants.{Producer, Processor}
 use Rattle.ring_core.specs.Parts.{may_make, seen_by}
 use Rattle.ring_core.specs.Machine.{place_of, word_after}
 use Rattle.ring.specs.declared.share.Numbered.{Numbered}
@@ -22,7 +22,7 @@ only_number [] = 0
 only_number (entry ∷ rest) = entry.number
 
 -- the read index, as far as a part knows it: the processor counts what it retired
-abbrev pub KnowsIndex : Part → ℕ → Type 0
+abbrev pub KnowsIndex : SeatPart → ℕ → Type 0
 KnowsIndex (Producer part) index = ⊤
 KnowsIndex (Processor part) index = index ≡ length part.retired
 

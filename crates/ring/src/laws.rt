@@ -6,11 +6,11 @@ ghost use Rattle.ring.specs.Made.{step_by};
 ghost use Rattle.ring.specs.Places.{table_place, words_seen};
 ghost use Rattle.ring.specs.Shares.{AreMachine, IsKept, IsOneStep, alone};
 ghost use Rattle.ring.specs.declared.share.Numbered.{Numbered};
-ghost use Rattle.ring.specs.declared.share.Shape.{Shape};
+ghost use Rattle.ring.specs.declared.share.RingShape.{RingShape};
 ghost use Rattle.ring_core.specs.Machine.{Machine};
 ghost use Rattle.ring_core.specs.Parts.{may_make};
 ghost use Rattle.ring_core.specs.declared.access.Access.{Access};
-ghost use Rattle.ring_core.specs.declared.part.Part.{Part};
+ghost use Rattle.ring_core.specs.declared.part.SeatPart.{SeatPart};
 ghost use Rattle.ring_core.specs.declared.access.TheConstants.{FIRST_SLOT, READ_PLACE, WRITE_PLACE};
 ghost use Rattle.std.specs.Prelude.{List, [], drop, length, slice_index, slice_set, take, ℕ, ⊤, true, ◌*◌, ◌+◌, ◌++◌, ◌<◌, ◌≤◌, ◌∷◌, ◌≡◌, ◌≢◌};
 ghost use lib.ListN.{get_elem?};
@@ -19,13 +19,13 @@ ghost use mathlib.Core.Option.{some};
 /// Between any two atomic steps, whoever makes them, the words of a ring and the views of all its seats
 /// are together a machine to which some list of steps leads from the opening, and which meets the ring
 /// rule.
-pub fn a_ring_is_a_machine_between_steps()
-    ensures { (shape : Shape) (state : State ⊤ (List Numbered)) → 0 < shape.size → IsKept shape state
+pub fn law_a_ring_is_a_machine_between_steps()
+    ensures { (shape : RingShape) (state : State ⊤ (List Numbered)) → 0 < shape.size → IsKept shape state
         → (machine : Machine) × AreMachine shape.size shape.producers state.words state.views machine }
 {}
 
 /// They are one machine alone: words and views determine it.
-pub fn words_and_views_are_one_machine()
+pub fn law_words_and_views_are_one_machine()
     ensures { (size producers : ℕ) (words : List ℕ) (views : List (List Numbered)) (one two : Machine)
         → AreMachine size producers words views one → AreMachine size producers words views two → one ≡ two }
 {}
@@ -33,9 +33,9 @@ pub fn words_and_views_are_one_machine()
 /// Each access that a seat may make is exactly one step of that machine, its own: the word that the step
 /// touches and the view of this seat change as the step says, nothing else does, and words and views are
 /// then the machine after the step.
-pub fn each_access_is_one_step()
+pub fn law_each_access_is_one_step()
     ensures { (size producers : ℕ) (words : List ℕ) (views : List (List Numbered)) (machine : Machine)
-        (seat number : ℕ) (part : Part) (access : Access)
+        (seat number : ℕ) (part : SeatPart) (access : Access)
         → AreMachine size producers words views machine
         → get_elem? views seat ≡ some (alone number part)
         → may_make size part access ≡ true
@@ -44,7 +44,7 @@ pub fn each_access_is_one_step()
 
 /// Cutting a seat in two and joining two seats changes no word, and only divides or unites views: the
 /// machine stays. A seat that was joined is spent, its view empty.
-pub fn cuts_and_joins_keep_the_machine()
+pub fn law_cuts_and_joins_keep_the_machine()
     ensures cut { (size producers : ℕ) (words : List ℕ) (views : List (List Numbered)) (machine : Machine)
         (seat : ℕ) (view : List Numbered)
         → AreMachine size producers words views machine
@@ -61,7 +61,7 @@ pub fn cuts_and_joins_keep_the_machine()
 
 /// A store at the table's place of one of the machine's is, on the words seen, a store at the machine's
 /// place. It leaves every other word of the table, those in the gaps too.
-pub fn stores_are_seen_and_leave_the_gaps()
+pub fn law_stores_are_seen_and_leave_the_gaps()
     ensures seen { (words : List ℕ) (place word : ℕ) → 2 ≤ length (words_seen words)
         → words_seen (slice_set words (table_place place) word) ≡ slice_set (words_seen words) place word }
     ensures others { (words : List ℕ) (place word other : ℕ) → other ≢ table_place place
@@ -70,7 +70,7 @@ pub fn stores_are_seen_and_leave_the_gaps()
 
 /// Both indices and the slots lie 16 words apart, 128 bytes, two cache lines. Each slot has whole groups of
 /// eight words for itself: a line each, where the table's memory begins on one.
-pub fn indices_and_slots_lie_apart()
+pub fn law_indices_and_slots_lie_apart()
     ensures write { table_place WRITE_PLACE + 16 ≤ table_place READ_PLACE }
     ensures read { (word : ℕ) → table_place READ_PLACE + 16 ≤ table_place (FIRST_SLOT + word) }
     ensures slots { (slot : ℕ) → table_place (FIRST_SLOT + 8 * slot) ≡ 8 * (6 + slot) }

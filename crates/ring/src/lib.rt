@@ -13,9 +13,9 @@ mod step;
 
 pub use closing::{SettleFault, SettleRoom, Settled, Unsettled, has_passes, settle, settle_in};
 pub use laws::{
-    a_ring_is_a_machine_between_steps, cuts_and_joins_keep_the_machine, each_access_is_one_step,
-    indices_and_slots_lie_apart, stores_are_seen_and_leave_the_gaps,
-    words_and_views_are_one_machine,
+    law_a_ring_is_a_machine_between_steps, law_cuts_and_joins_keep_the_machine,
+    law_each_access_is_one_step, law_indices_and_slots_lie_apart,
+    law_stores_are_seen_and_leave_the_gaps, law_words_and_views_are_one_machine,
 };
 pub use processor::{Peeked, ProcessorPass, Shown};
 pub use producer::{ProducerPass, Publication, Spent, Ticket};

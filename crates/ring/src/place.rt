@@ -5,7 +5,7 @@
 ghost use Rattle.aql_packet.specs.Ring.{is_ring_size};
 ghost use Rattle.ring.specs.Places.{table_count, table_place, words_seen};
 ghost use Rattle.ring_core.specs.Machine.{opened, word_place};
-ghost use Rattle.std.specs.Prelude.{IfOk, length, true, ◌<◌, ◌^◌, ◌≡◌, ◌≤◌};
+ghost use Rattle.std.specs.Prelude.{IfOk, length, true, ◌<◌, ◌^◌, ◌≡◌};
 
 use aql_packet::INVALID;
 use ring_core::{FIRST_SLOT, READ_PLACE, WRITE_PLACE, word_place};

@@ -11,7 +11,7 @@ ghost use Rattle.ring.specs.Opening.{IsRingFault};
 use crate::place::opening_table;
 use crate::processor::ProcessorPass;
 use crate::producer::ProducerPass;
-use crate::share::{FirstOff, Kept, RingSeat, Shape, Share};
+use crate::share::{FirstOff, Kept, RingSeat, RingShape, Share};
 use aql_packet::is_ring_size;
 use atomic_table::Table;
 use ring_core::{ALLOWANCE, is_producer_count};
@@ -22,7 +22,7 @@ use std::marker::Model;
 /// sees which table of words it is, how many slots it has and how many producers.
 #[derive(Drop)]
 pub struct Ring {
-    pub(crate) table: Table<(), Share, Shape, Kept, Global>,
+    pub(crate) table: Table<(), Share, RingShape, Kept, Global>,
     pub(crate) size: u64,
     pub(crate) producers: u64,
 }
@@ -86,7 +86,7 @@ fn with_one_seat(alloc: Global, size: u64, producers: u64) -> Result<(Ring, Ring
     ensures seat { IfOk result (λ o. (o.1.table_id ≡ o.0.table) × (o.1.me ≡ (first_share (shape_of size producers), []))) }
 {
     let words = opening_table(alloc, size)?;
-    let shape = Shape { size, producers };
+    let shape = RingShape { size, producers };
     let (table, seat) = Table::of_words(alloc, words.as_slice(), &shape)?;
     let ring = Ring {
         table,

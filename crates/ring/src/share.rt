@@ -1,5 +1,5 @@
 //! What the seats of a ring know, and how it is cut and united. No value of these types is made but
-//! `Shape`: they serve the proofs.
+//! `RingShape`: they serve the proofs.
 
 ghost use Rattle.std.specs.Prelude.{ℕ, [], ◌++◌, take, drop};
 ghost use Rattle.ring_core.specs.declared.access.Access.{Access};
@@ -7,14 +7,14 @@ ghost use Rattle.ring.specs.Shares.{IsKept, first_share};
 ghost use Rattle.ring.specs.Steps.{IsTold};
 
 use atomic_table::{Join, Play, Seat, Split, TableRule};
-use ring_core::Part;
+use ring_core::SeatPart;
 use std::collections::LinkedList;
 use std::marker::{Brand, PhantomData};
 
 /// A part of a ring under the number of its seat.
 pub struct Numbered {
     pub number: u64,
-    pub part: Part,
+    pub part: SeatPart,
 }
 
 /// What a seat knows: one part or several, or none once its parts went to another seat.
@@ -25,7 +25,7 @@ pub type RingSeat = Seat<(), Share>;
 
 /// How many slots and producers a ring has.
 #[derive(Clone, Copy)]
-pub struct Shape {
+pub struct RingShape {
     pub size: u64,
     pub producers: u64,
 }
@@ -33,7 +33,7 @@ pub struct Shape {
 /// The fact that a ring's table keeps between any two steps.
 pub struct Kept;
 
-impl TableRule<(), Share, Shape> for Kept {
+impl TableRule<(), Share, RingShape> for Kept {
     ghost holds = { IsKept };
 
     ghost first = { first_share };

@@ -14,8 +14,8 @@ use Rattle.ring_core.specs.declared.access.Access.TheVariants.{Reserve, LoadRead
 use Rattle.ring_core.specs.declared.access.Step.{Step}
 use Rattle.ring_core.specs.declared.part.ProducerPart.{ProducerPart}
 use Rattle.ring_core.specs.declared.part.ProcessorPart.{ProcessorPart}
-use Rattle.ring_core.specs.declared.part.Part.{Part}
-use Rattle.ring_core.specs.declared.part.Part.TheVariants.{Producer, Processor}
+use Rattle.ring_core.specs.declared.part.SeatPart.{SeatPart}
+use Rattle.ring_core.specs.declared.part.SeatPart.TheVariants.{Producer, Processor}
 use Rattle.ring_core.specs.Words.{word, no_words, is_body, has_body, packet_of, is_invalid}
 use Rattle.ring_core.specs.Tickets.{blank, is_published, shows_room, seeing, writing, held, only_open, open_ticket, changed}
 use Rattle.ring_core.specs.Parts.{passes, producer_may, processor_may, may_make, after_producing, after_processing, new_producer, nobody}
@@ -65,7 +65,7 @@ body_room t eight body = some_of (word t.words 1) (body_known t.words 1 eight bo
 
 -- ---- a producer's step
 
-module _ (n size : ℕ) (words : List ℕ) (q : ProcessorPart) (rest : List Part) (seat : ℕ) (p : ProducerPart) (here : get_or rest seat nobody ≡ Producer p) (within : seat < length rest) (h : IsRule n (record { size = size; words = words; parts = Processor q ∷ rest })) where
+module _ (n size : ℕ) (words : List ℕ) (q : ProcessorPart) (rest : List SeatPart) (seat : ℕ) (p : ProducerPart) (here : get_or rest seat nobody ≡ Producer p) (within : seat < length rest) (h : IsRule n (record { size = size; words = words; parts = Processor q ∷ rest })) where
   -- the seats stay, each of its kind
   seats_kept : (p' : ProducerPart) → AreSeats n (Processor q ∷ set rest seat (Producer p'))
   seats_kept p' = (length-set rest seat (Producer p') ∙ h.shared.seats.0, and_set (list_all is_producer) is_producer refl (λ _ _. refl) rest seat (Producer p') refl h.shared.seats.1)
@@ -227,7 +227,7 @@ module _ (n size : ℕ) (words : List ℕ) (q : ProcessorPart) (rest : List Part
 
 -- ---- the processor's step
 
-module _ (n size : ℕ) (words : List ℕ) (q : ProcessorPart) (rest : List Part) (h : IsRule n (record { size = size; words = words; parts = Processor q ∷ rest })) where
+module _ (n size : ℕ) (words : List ℕ) (q : ProcessorPart) (rest : List SeatPart) (h : IsRule n (record { size = size; words = words; parts = Processor q ∷ rest })) where
   -- a step that changes the processor's part
   settling : (q' : ProcessorPart) (words' : List ℕ) → get_or words' 0 0 ≡ get_or words 0 0 → length words' ≡ length words
       → IsTied size (get_or words' 1 0) (λ j k. get_or words' (word_place size j k) 0) (ticket_of (Processor q ∷ rest)) q'.retired q'.collected q'.raising
@@ -322,24 +322,24 @@ nobody_may size (LoadBody place) = refl
 nobody_may size ClearHeader = refl
 nobody_may size RaiseReadIndex = refl
 
-pub producer_of : (part : Part) → is_producer part ≡ true → (p : ProducerPart) × (part ≡ Producer p)
+pub producer_of : (part : SeatPart) → is_producer part ≡ true → (p : ProducerPart) × (part ≡ Producer p)
 producer_of (Producer p) h = (p, refl)
 producer_of (Processor q) h = absurd (cc)
 
-pub producers_all : (rest : List Part) (seat : ℕ) → list_all is_producer rest ≡ true → is_producer (get_or rest seat nobody) ≡ true
+pub producers_all : (rest : List SeatPart) (seat : ℕ) → list_all is_producer rest ≡ true → is_producer (get_or rest seat nobody) ≡ true
 producers_all [] seat h = refl
 producers_all (p ∷ rest) zero h = (both (is_producer p) (list_all is_producer rest) h).0
 producers_all (p ∷ rest) (suc seat) h = producers_all rest seat (both (is_producer p) (list_all is_producer rest) h).1
 
 -- a seat that may do something is one of the ring's
-pub seated : (size : ℕ) (parts : List Part) (seat : ℕ) (access : Access) → may_make size (get_or parts seat nobody) access ≡ true → seat < length parts
+pub seated : (size : ℕ) (parts : List SeatPart) (seat : ℕ) (access : Access) → may_make size (get_or parts seat nobody) access ≡ true → seat < length parts
 seated size parts seat access may =
     elim (leb_tells (length parts) seat) [
       | inl g ↦ let past : get_or parts seat nobody ≡ nobody = get_or_past parts seat nobody g.1 in let none : may_make size (get_or parts seat nobody) access ≡ false = ap (λ p. may_make size p access) past ∙ nobody_may size access in absurd (cc)
       | inr g ↦ g.1
     ]
 
-keeps_parts : (n size : ℕ) (words : List ℕ) (parts : List Part) (seat : ℕ) (access : Access) → IsRule n (record { size = size; words = words; parts = parts }) → may_make size (get_or parts seat nobody) access ≡ true → IsRule n (made (record { size = size; words = words; parts = parts }) (record { seat = seat; access = access }))
+keeps_parts : (n size : ℕ) (words : List ℕ) (parts : List SeatPart) (seat : ℕ) (access : Access) → IsRule n (record { size = size; words = words; parts = parts }) → may_make size (get_or parts seat nobody) access ≡ true → IsRule n (made (record { size = size; words = words; parts = parts }) (record { seat = seat; access = access }))
 keeps_parts n size words [] seat access h may = absurd h.shared.seats
 keeps_parts n size words (Producer p ∷ rest) seat access h may = absurd h.shared.seats
 keeps_parts n size words (Processor q ∷ rest) zero access h may = processor_keeps n size words q rest h access may

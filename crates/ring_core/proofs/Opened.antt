@@ -215,9 +215,6 @@ pub saw_keeps : (id : PacketId) (r : ℕ) (ones ones' value : List HeldTicket) (
 saw_keeps id r ones ones' value log log' more kept view has changes =
     changed_keeps id.0 (seeing r) (λ t. refl) ones ones' value log log' (after_more log log' (Saw id r) more) kept view has changes
 
-pub saw_shows : (id : PacketId) (r : ℕ) (value : List HeldTicket) (log log' : List TicketChange) → log' ≡ log ++ Saw id r ∷ [] → after_changes log ≡ value → after_changes log' ≡ changed id.0 (seeing r) value
-saw_shows id r value log log' more view = after_more log log' (Saw id r) more ∙ ap (changed id.0 (seeing r)) view
-
 pub wrote_keeps : (id : PacketId) (k w : ℕ) (ones ones' value : List HeldTicket) (log log' : List TicketChange) → is_body k ≡ true → log' ≡ log ++ Wrote id k w ∷ []
     → IsKept ones log → after_changes log ≡ value → is_some (open_ticket id.0 value) ≡ true → ones' ≡ changed id.0 (writing k w) ones → IsKept ones' log'
 wrote_keeps id k w ones ones' value log log' body more kept view has changes =
@@ -228,9 +225,6 @@ wrote_keeps id k w ones ones' value log log' body more kept view has changes =
 
     stays : (t : Ticket) → is_published (writing k w t) ≡ is_published t
     stays t = ap is_some (get_or-set_other t.words k 0 (Some w) None apart)
-
-pub wrote_shows : (id : PacketId) (k w : ℕ) (value : List HeldTicket) (log log' : List TicketChange) → log' ≡ log ++ Wrote id k w ∷ [] → after_changes log ≡ value → after_changes log' ≡ changed id.0 (writing k w) value
-wrote_shows id k w value log log' more view = after_more log log' (Wrote id k w) more ∙ ap (changed id.0 (writing k w)) view
 
 pub publish_keeps : (id : PacketId) (w : ℕ) (ones ones' value : List HeldTicket) (log log' : List TicketChange) → log' ≡ log ++ Wrote id 0 w ∷ []
     → IsKept ones log → after_changes log ≡ value → is_some (open_ticket id.0 value) ≡ true → ones' ≡ without id.0 ones → HasEightWords id.0 ones → IsKept ones' log'
@@ -262,9 +256,6 @@ push_keeps id ones ones' value log log' more kept view above pushes =
       subst IsAscending (sym after) (rise_push all entry kept.0 above'),
       pushes ∙ ap (λ xs. xs ++ entry ∷ []) kept.1 ∙ sym (open_push all entry refl) ∙ ap open_ones (sym after),
     )
-
-pub push_shows : (id : PacketId) (value : List HeldTicket) (log log' : List TicketChange) → log' ≡ log ++ Opened id ∷ [] → after_changes log ≡ value → after_changes log' ≡ value ++ record { id = id; ticket = blank } ∷ []
-push_shows id value log log' more view = after_more log log' (Opened id) more ∙ ap (λ xs. xs ++ record { id = id; ticket = blank } ∷ []) view
 
 -- ---- a ticket that is looked up and changed, or published whole
 

@@ -10,8 +10,8 @@ use Rattle.ring_core.specs.declared.access.Access.{Access}
 use Rattle.ring_core.specs.declared.access.Access.TheVariants.{Reserve, LoadReadIndex, StoreBody, StoreHeader, LoadHeader, LoadBody, ClearHeader, RaiseReadIndex}
 use Rattle.ring_core.specs.declared.access.Made.{Made}
 use Rattle.ring_core.specs.declared.access.Step.{Step}
-use Rattle.ring_core.specs.declared.part.Part.{Part}
-use Rattle.ring_core.specs.declared.part.Part.TheVariants.{Producer, Processor}
+use Rattle.ring_core.specs.declared.part.SeatPart.{SeatPart}
+use Rattle.ring_core.specs.declared.part.SeatPart.TheVariants.{Producer, Processor}
 use Rattle.ring_core.specs.declared.part.ProcessorPart.{ProcessorPart}
 use Rattle.ring_core.specs.Words.{word, packet_of}
 use Rattle.ring_core.specs.Parts.{part_after, seen_by, new_producer, nobody}
@@ -22,12 +22,12 @@ use Rattle.ring_core.proofs.Kept.{keeps, opens, seated, replays_keep}
 
 -- ---- one step more
 
-fold_more : (part : Part) (steps : List Made) (made : Made) → fold after_own part (steps ++ made ∷ []) ≡ after_own (fold after_own part steps) made
+fold_more : (part : SeatPart) (steps : List Made) (made : Made) → fold after_own part (steps ++ made ∷ []) ≡ after_own (fold after_own part steps) made
 fold_more part [] made = refl
 fold_more part (first ∷ steps) made = fold_more (after_own part first) steps made
 
 -- a store's word is looked at by nobody
-pub after_seen : (part : Part) (access : Access) (old : ℕ) → part_after part access (word_read (seen_by access old)) ≡ part_after part access old
+pub after_seen : (part : SeatPart) (access : Access) (old : ℕ) → part_after part access (word_read (seen_by access old)) ≡ part_after part access old
 after_seen (Producer p) Reserve old = refl
 after_seen (Producer p) (LoadReadIndex ticket) old = refl
 after_seen (Producer p) (StoreBody ticket place word) old = refl
@@ -45,12 +45,12 @@ after_seen (Processor p) (LoadBody place) old = refl
 after_seen (Processor p) ClearHeader old = refl
 after_seen (Processor p) RaiseReadIndex old = refl
 
-steps_more : (part : Part) (access : Access) (old : ℕ) → steps_of (part_after part access old) ≡ steps_of part ++ record { access = access; seen = seen_by access old } ∷ []
+steps_more : (part : SeatPart) (access : Access) (old : ℕ) → steps_of (part_after part access old) ≡ steps_of part ++ record { access = access; seen = seen_by access old } ∷ []
 steps_more (Producer p) access old = refl
 steps_more (Processor p) access old = refl
 
 -- a part that follows from its steps still does after one more
-follows_more : (begin part : Part) (access : Access) (old : ℕ) → part ≡ fold after_own begin (steps_of part) →
+follows_more : (begin part : SeatPart) (access : Access) (old : ℕ) → part ≡ fold after_own begin (steps_of part) →
     part_after part access old ≡ fold after_own begin (steps_of (part_after part access old))
 follows_more begin part access old h =
     let made : Made = record { access = access; seen = seen_by access old } in
@@ -58,7 +58,7 @@ follows_more begin part access old h =
     ap (fold after_own begin) (steps_more part access old) ∙ fold_more begin (steps_of part) made in
     sym (all ∙ ap (λ p. after_own p made) (sym h) ∙ after_seen part access old)
 
-own_more : (part : Part) (access : Access) (old : ℕ) (before : List Access) → map (λ m. m.access) (steps_of part) ≡ before →
+own_more : (part : SeatPart) (access : Access) (old : ℕ) (before : List Access) → map (λ m. m.access) (steps_of part) ≡ before →
     map (λ m. m.access) (steps_of (part_after part access old)) ≡ before ++ access ∷ []
 own_more part access old before h =
     ap (map (λ m. m.access)) (steps_more part access old) ∙ map-append (λ m. m.access) (steps_of part) (record { access = access; seen = seen_by access old } ∷ []) ∙ ap (λ xs. xs ++ access ∷ []) h
@@ -150,7 +150,7 @@ eight_access q (LoadBody place) old few all = all
 eight_access q ClearHeader old few all = all
 eight_access q RaiseReadIndex old few all = eight_more q.retired (packet_of q.collected) all (length-map q.collected (λ w. unwrap_or w 0) ∙ few)
 
-eight_parts : (n : ℕ) (parts : List Part) (seat : ℕ) (access : Access) (old : ℕ) → AreSeats n parts → length (processor_of parts).collected ≡ 8 → AreEight (processor_of parts).retired →
+eight_parts : (n : ℕ) (parts : List SeatPart) (seat : ℕ) (access : Access) (old : ℕ) → AreSeats n parts → length (processor_of parts).collected ≡ 8 → AreEight (processor_of parts).retired →
     AreEight (processor_of (set parts seat (part_after (get_or parts seat nobody) access old))).retired
 eight_parts n [] seat access old seats few all = absurd seats
 eight_parts n (Producer p ∷ rest) seat access old seats few all = absurd seats

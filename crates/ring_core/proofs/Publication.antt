@@ -11,8 +11,8 @@ use Rattle.ring_core.specs.declared.access.Access.TheVariants.{Reserve, LoadRead
 use Rattle.ring_core.specs.declared.access.Step.{Step}
 use Rattle.ring_core.specs.declared.part.ProducerPart.{ProducerPart}
 use Rattle.ring_core.specs.declared.part.ProcessorPart.{ProcessorPart}
-use Rattle.ring_core.specs.declared.part.Part.{Part}
-use Rattle.ring_core.specs.declared.part.Part.TheVariants.{Producer, Processor}
+use Rattle.ring_core.specs.declared.part.SeatPart.{SeatPart}
+use Rattle.ring_core.specs.declared.part.SeatPart.TheVariants.{Producer, Processor}
 use Rattle.ring_core.specs.Words.{word, is_body, has_body, packet_of, is_invalid}
 use Rattle.ring_core.specs.Tickets.{blank, is_published, shows_room, seeing, writing, held, only_open, open_ticket, changed}
 use Rattle.ring_core.specs.Parts.{passes, producer_may, may_make, after_producing, nobody}
@@ -41,7 +41,7 @@ passing : (test : Ticket → Bool) (o : Option Ticket) → passes test o ≡ tru
 passing test None h = absurd (cc)
 passing test (Some t) h = refl
 
-module _ (n size : ℕ) (words : List ℕ) (q : ProcessorPart) (rest : List Part) (seat : ℕ) (p : ProducerPart) (here : get_or rest seat nobody ≡ Producer p) (within : seat < length rest) (h : IsRule n (record { size = size; words = words; parts = Processor q ∷ rest })) where
+module _ (n size : ℕ) (words : List ℕ) (q : ProcessorPart) (rest : List SeatPart) (seat : ℕ) (p : ProducerPart) (here : get_or rest seat nobody ≡ Producer p) (within : seat < length rest) (h : IsRule n (record { size = size; words = words; parts = Processor q ∷ rest })) where
   once : (id : ℕ) → times id (all_tickets rest) ≤ 1
   once id = let e : times id (all_tickets rest) ≡ cond (nat_lt id (get_or words 0 0)) 1 0 = h.shared.named id in at_most_one (nat_lt id (get_or words 0 0)) (times id (all_tickets rest)) e
     where
@@ -82,7 +82,7 @@ module _ (n size : ℕ) (words : List ℕ) (q : ProcessorPart) (rest : List Part
   producer_stays ClearHeader may old is j published = absurd (cc)
   producer_stays RaiseReadIndex may old is j published = absurd (cc)
 
-stays_in : (n size : ℕ) (words : List ℕ) (parts : List Part) (seat : ℕ) (access : Access) → IsRule n (record { size = size; words = words; parts = parts }) → may_make size (get_or parts seat nobody) access ≡ true
+stays_in : (n size : ℕ) (words : List ℕ) (parts : List SeatPart) (seat : ℕ) (access : Access) → IsRule n (record { size = size; words = words; parts = parts }) → may_make size (get_or parts seat nobody) access ≡ true
     → (id : ℕ) → is_published (ticket_of parts id) ≡ true → ticket_of (made (record { size = size; words = words; parts = parts }) (record { seat = seat; access = access })).parts id ≡ ticket_of parts id
 stays_in n size words [] seat access h may id published = absurd h.shared.seats
 stays_in n size words (Producer p ∷ rest) seat access h may id published = absurd h.shared.seats
@@ -127,7 +127,7 @@ index_stays size words RaiseReadIndex in1 other = absurd (other refl)
 abbrev pub Moved : Machine → Step → Type 0
 Moved machine step = Raised machine (made machine step) step.access ⊎ Stayed machine (made machine step) step.access
 
-processor_moves : (size : ℕ) (words : List ℕ) (q : ProcessorPart) (rest : List Part) → 1 < length words → (access : Access) → may_make size (Processor q) access ≡ true
+processor_moves : (size : ℕ) (words : List ℕ) (q : ProcessorPart) (rest : List SeatPart) → 1 < length words → (access : Access) → may_make size (Processor q) access ≡ true
     → Moved (record { size = size; words = words; parts = Processor q ∷ rest }) (record { seat = zero; access = access })
 processor_moves size words q rest in1 LoadHeader m = inr (record { other = λ e. cc; index_is = index_stays size words LoadHeader in1 (λ e. cc); clears = λ r. inl r })
 processor_moves size words q rest in1 (LoadBody place) m = inr (record { other = λ e. cc; index_is = index_stays size words (LoadBody place) in1 (λ e. cc); clears = λ r. inl r })
@@ -141,7 +141,7 @@ processor_moves size words q rest in1 (StoreHeader ticket w) m = absurd (cc)
 raises_not : (size : ℕ) (p : ProducerPart) → producer_may size p RaiseReadIndex ≡ true → ⊥
 raises_not size p e = cc
 
-moves_in : (n size : ℕ) (words : List ℕ) (parts : List Part) (seat : ℕ) (access : Access) → IsRule n (record { size = size; words = words; parts = parts }) → may_make size (get_or parts seat nobody) access ≡ true
+moves_in : (n size : ℕ) (words : List ℕ) (parts : List SeatPart) (seat : ℕ) (access : Access) → IsRule n (record { size = size; words = words; parts = parts }) → may_make size (get_or parts seat nobody) access ≡ true
     → Moved (record { size = size; words = words; parts = parts }) (record { seat = seat; access = access })
 moves_in n size words [] seat access h may = absurd h.shared.seats
 moves_in n size words (Producer p ∷ rest) seat access h may = absurd h.shared.seats

@@ -5,7 +5,7 @@ use Rattle.std.proofs.lemmas.Bool.Decides.{nat_tests, eqb_tells, leb_tells}
 use Rattle.std.proofs.lemmas.Option.{same_Some}
 use Rattle.ring_core.specs.declared.ticket.Ticket.{Ticket}
 use Rattle.ring_core.specs.declared.ticket.HeldTicket.{HeldTicket}
-use Rattle.ring_core.specs.declared.part.Part.{Part}
+use Rattle.ring_core.specs.declared.part.SeatPart.{SeatPart}
 use Rattle.ring_core.specs.Tickets.{held, changed, blank, unnamed, IsAbove}
 use Rattle.ring_core.specs.Parts.{nobody}
 use Rattle.ring_core.specs.Rule.{tickets_of, all_tickets, ticket_of, times}
@@ -100,12 +100,12 @@ changed_right id change (x ∷ xs) ys z =
     ]
 
 -- what one part holds is among all tickets
-seat_counts : (id : ℕ) (parts : List Part) (seat : ℕ) (t : Ticket) → held id (tickets_of (get_or parts seat nobody)) ≡ Some t → 1 ≤ times id (all_tickets parts)
+seat_counts : (id : ℕ) (parts : List SeatPart) (seat : ℕ) (t : Ticket) → held id (tickets_of (get_or parts seat nobody)) ≡ Some t → 1 ≤ times id (all_tickets parts)
 seat_counts id [] seat t e = absurd (cc)
 seat_counts id (p ∷ parts) zero t e = omega (arith, held_counts id (tickets_of p) t e, times_append id (tickets_of p) (all_tickets parts))
 seat_counts id (p ∷ parts) (suc seat) t e = omega (arith, seat_counts id parts seat t e, times_append id (tickets_of p) (all_tickets parts))
 
-pub seat_held : (id : ℕ) (parts : List Part) (seat : ℕ) (t : Ticket) → times id (all_tickets parts) ≤ 1 → held id (tickets_of (get_or parts seat nobody)) ≡ Some t → held id (all_tickets parts) ≡ Some t
+pub seat_held : (id : ℕ) (parts : List SeatPart) (seat : ℕ) (t : Ticket) → times id (all_tickets parts) ≤ 1 → held id (tickets_of (get_or parts seat nobody)) ≡ Some t → held id (all_tickets parts) ≡ Some t
 seat_held id [] seat t one e = absurd (cc)
 seat_held id (p ∷ parts) zero t one e = held_append id (tickets_of p) (all_tickets parts) ∙ ap (λ o. or_else o (held id (all_tickets parts))) e
 seat_held id (p ∷ parts) (suc seat) t one e =
@@ -115,7 +115,7 @@ seat_held id (p ∷ parts) (suc seat) t one e =
     held_append id (tickets_of p) (all_tickets parts) ∙ ap (λ o. or_else o (held id (all_tickets parts))) (held_absent id (tickets_of p) z) ∙ seat_held id parts seat t less e
 
 -- a seat that changes its ticket changes that one among all
-pub seat_changed : (id : ℕ) (change : Ticket → Ticket) (parts : List Part) (seat : ℕ) (part : Part) (t : Ticket) → times id (all_tickets parts) ≤ 1 → held id (tickets_of (get_or parts seat nobody)) ≡ Some t → tickets_of part ≡ changed id change (tickets_of (get_or parts seat nobody)) → all_tickets (set parts seat part) ≡ changed id change (all_tickets parts)
+pub seat_changed : (id : ℕ) (change : Ticket → Ticket) (parts : List SeatPart) (seat : ℕ) (part : SeatPart) (t : Ticket) → times id (all_tickets parts) ≤ 1 → held id (tickets_of (get_or parts seat nobody)) ≡ Some t → tickets_of part ≡ changed id change (tickets_of (get_or parts seat nobody)) → all_tickets (set parts seat part) ≡ changed id change (all_tickets parts)
 seat_changed id change [] seat part t one e same = absurd (cc)
 seat_changed id change (p ∷ parts) zero part t one e same =
     ap (λ xs. xs ++ all_tickets parts) same ∙ sym (changed_left id change (tickets_of p) (all_tickets parts) t e)
@@ -126,7 +126,7 @@ seat_changed id change (p ∷ parts) (suc seat) part t one e same =
     ap (λ xs. tickets_of p ++ xs) (seat_changed id change parts seat part t less e same) ∙ sym (changed_right id change (tickets_of p) (all_tickets parts) z)
 
 -- so the tickets by id have the new one in place of the old
-pub ticket_changed : (id : ℕ) (change : Ticket → Ticket) (parts : List Part) (seat : ℕ) (part : Part) (t : Ticket) → times id (all_tickets parts) ≤ 1 → held id (tickets_of (get_or parts seat nobody)) ≡ Some t → tickets_of part ≡ changed id change (tickets_of (get_or parts seat nobody)) → (j : ℕ) → ticket_of (set parts seat part) j ≡ with_at (ticket_of parts) id (change (ticket_of parts id)) j
+pub ticket_changed : (id : ℕ) (change : Ticket → Ticket) (parts : List SeatPart) (seat : ℕ) (part : SeatPart) (t : Ticket) → times id (all_tickets parts) ≤ 1 → held id (tickets_of (get_or parts seat nobody)) ≡ Some t → tickets_of part ≡ changed id change (tickets_of (get_or parts seat nobody)) → (j : ℕ) → ticket_of (set parts seat part) j ≡ with_at (ticket_of parts) id (change (ticket_of parts id)) j
 ticket_changed id change parts seat part t one e same j =
     let all : all_tickets (set parts seat part) ≡ changed id change (all_tickets parts) = seat_changed id change parts seat part t one e same in
     let here : held id (all_tickets parts) ≡ Some t = seat_held id parts seat t one e in
@@ -147,7 +147,7 @@ ticket_changed id change parts seat part t one e same j =
 held_last : (id : ℕ) (xs : List HeldTicket) (e : HeldTicket) → held id (xs ++ e ∷ []) ≡ or_else (held id xs) (if eqb e.id.0 id then Some e.ticket else None)
 held_last id xs e = held_append id xs (e ∷ [])
 
-pub reserved_other : (id : ℕ) (parts : List Part) (seat : ℕ) (part : Part) (e : HeldTicket) → seat < length parts → tickets_of part ≡ tickets_of (get_or parts seat nobody) ++ e ∷ [] → e.id.0 ≢ id → held id (all_tickets (set parts seat part)) ≡ held id (all_tickets parts)
+pub reserved_other : (id : ℕ) (parts : List SeatPart) (seat : ℕ) (part : SeatPart) (e : HeldTicket) → seat < length parts → tickets_of part ≡ tickets_of (get_or parts seat nobody) ++ e ∷ [] → e.id.0 ≢ id → held id (all_tickets (set parts seat part)) ≡ held id (all_tickets parts)
 reserved_other id [] seat part e lt same ne = absurd (omega arith)
 reserved_other id (p ∷ parts) zero part e lt same ne =
     let f : eqb e.id.0 id ≡ false = grind (arith, nat_tests) in
@@ -164,7 +164,7 @@ reserved_other id (p ∷ parts) (suc seat) part e lt same ne =
     ∙ ap (λ o. or_else (held id (tickets_of p)) o) (reserved_other id parts seat part e (omega arith) same ne)
     ∙ sym (held_append id (tickets_of p) (all_tickets parts))
 
-pub reserved_new : (parts : List Part) (seat : ℕ) (part : Part) (e : HeldTicket) → seat < length parts → tickets_of part ≡ tickets_of (get_or parts seat nobody) ++ e ∷ [] → times e.id.0 (all_tickets parts) ≡ 0 → held e.id.0 (all_tickets (set parts seat part)) ≡ Some e.ticket
+pub reserved_new : (parts : List SeatPart) (seat : ℕ) (part : SeatPart) (e : HeldTicket) → seat < length parts → tickets_of part ≡ tickets_of (get_or parts seat nobody) ++ e ∷ [] → times e.id.0 (all_tickets parts) ≡ 0 → held e.id.0 (all_tickets (set parts seat part)) ≡ Some e.ticket
 reserved_new [] seat part e lt same z = absurd (omega arith)
 reserved_new (p ∷ parts) zero part e lt same z =
     let f : eqb e.id.0 e.id.0 ≡ true = grind (arith, nat_tests) in
@@ -180,7 +180,7 @@ reserved_new (p ∷ parts) (suc seat) part e lt same z =
     ∙ reserved_new parts seat part e (omega arith) same zr
 
 -- a blank ticket is what an id without one is taken to have, so the tickets by id stay
-pub ticket_reserved : (parts : List Part) (seat : ℕ) (part : Part) (e : HeldTicket) → seat < length parts → tickets_of part ≡ tickets_of (get_or parts seat nobody) ++ e ∷ [] → e.ticket ≡ blank → times e.id.0 (all_tickets parts) ≡ 0 → (j : ℕ) → ticket_of (set parts seat part) j ≡ ticket_of parts j
+pub ticket_reserved : (parts : List SeatPart) (seat : ℕ) (part : SeatPart) (e : HeldTicket) → seat < length parts → tickets_of part ≡ tickets_of (get_or parts seat nobody) ++ e ∷ [] → e.ticket ≡ blank → times e.id.0 (all_tickets parts) ≡ 0 → (j : ℕ) → ticket_of (set parts seat part) j ≡ ticket_of parts j
 ticket_reserved parts seat part e lt same new z j =
     elim (eqb_tells e.id.0 j) [
       | inl h ↦
@@ -193,14 +193,14 @@ ticket_reserved parts seat part e lt same new z j =
     ]
 
 -- how often an id is among all tickets, after one part changed
-pub times_set : (id : ℕ) (parts : List Part) (seat : ℕ) (part : Part) → seat < length parts → times id (all_tickets (set parts seat part)) + times id (tickets_of (get_or parts seat nobody)) ≡ times id (all_tickets parts) + times id (tickets_of part)
+pub times_set : (id : ℕ) (parts : List SeatPart) (seat : ℕ) (part : SeatPart) → seat < length parts → times id (all_tickets (set parts seat part)) + times id (tickets_of (get_or parts seat nobody)) ≡ times id (all_tickets parts) + times id (tickets_of part)
 times_set id [] seat part lt = absurd (omega arith)
 times_set id (p ∷ parts) zero part lt = omega (arith, times_append id (tickets_of p) (all_tickets parts), times_append id (tickets_of part) (all_tickets parts))
 times_set id (p ∷ parts) (suc seat) part lt =
     omega (arith, times_set id parts seat part (omega arith), times_append id (tickets_of p) (all_tickets parts), times_append id (tickets_of p) (all_tickets (set parts seat part)))
 
 -- the tickets of one part are among all
-part_times : (id : ℕ) (parts : List Part) (seat : ℕ) → times id (tickets_of (get_or parts seat nobody)) ≤ times id (all_tickets parts)
+part_times : (id : ℕ) (parts : List SeatPart) (seat : ℕ) → times id (tickets_of (get_or parts seat nobody)) ≤ times id (all_tickets parts)
 part_times id [] seat = omega arith
 part_times id (p ∷ parts) zero = omega (arith, times_append id (tickets_of p) (all_tickets parts))
 part_times id (p ∷ parts) (suc seat) = omega (arith, part_times id parts seat, times_append id (tickets_of p) (all_tickets parts))
@@ -212,7 +212,7 @@ entry_times (x ∷ xs) zero lt = let f : eqb x.id.0 x.id.0 ≡ true = grind (ari
 entry_times (x ∷ xs) (suc k) lt = omega (arith, entry_times xs k (omega arith))
 
 -- where all ids are below a bound, so are those of one part
-pub all_below : (bound : ℕ) (parts : List Part) (seat : ℕ) → ((id : ℕ) → times id (all_tickets parts) ≡ (if nat_lt id bound then 1 else 0)) → IsAbove bound (tickets_of (get_or parts seat nobody))
+pub all_below : (bound : ℕ) (parts : List SeatPart) (seat : ℕ) → ((id : ℕ) → times id (all_tickets parts) ≡ (if nat_lt id bound then 1 else 0)) → IsAbove bound (tickets_of (get_or parts seat nobody))
 all_below bound parts seat named k lt =
     let id : ℕ = (get_or (tickets_of (get_or parts seat nobody)) k unnamed).id.0 in
     elim (leb_tells bound id) [

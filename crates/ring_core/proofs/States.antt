@@ -8,11 +8,11 @@ use Rattle.ring_core.specs.declared.access.Access.TheVariants.{Reserve, LoadRead
 use Rattle.ring_core.specs.declared.access.Step.{Step}
 use Rattle.ring_core.specs.declared.access.Seen.{Seen}
 use Rattle.ring_core.specs.declared.ticket.Ticket.{Ticket}
-use Rattle.ring_core.specs.declared.part.Part.{Part}
+use Rattle.ring_core.specs.declared.part.SeatPart.{SeatPart}
 use Rattle.ring_core.specs.declared.state.StepFault.{StepFault}
 use Rattle.ring_core.specs.declared.state.StepFault.TheVariants as step
 use Rattle.ring_core.specs.Faults.{IsReplayFault, fault_at}
-use Rattle.ring_core.specs.declared.part.Part.TheVariants.{Producer, Processor}
+use Rattle.ring_core.specs.declared.part.SeatPart.TheVariants.{Producer, Processor}
 use Rattle.ring_core.specs.Words.{word, is_body, has_body, is_invalid}
 use Rattle.ring_core.specs.Tickets.{blank, is_published, shows_room, open_ticket, IsAbove}
 use Rattle.ring_core.specs.Parts.{may_make, part_after, new_producer, nobody, seen_by, passes, SuitsPart}
@@ -47,7 +47,7 @@ ring_steps machine step h may =
     }
 
 -- an access that is allowed names one of the eight words, if it names one
-pub names_word : (size : ℕ) (part : Part) (access : Access) → may_make size part access ≡ true → NamesWord access
+pub names_word : (size : ℕ) (part : SeatPart) (access : Access) → may_make size part access ≡ true → NamesWord access
 names_word size part Reserve may = tt
 names_word size part (LoadReadIndex ticket) may = tt
 names_word size (Producer p) (StoreBody ticket place word) may = let b = (both (is_body place) _ may).0 in grind (arith, nat_tests)
@@ -95,7 +95,7 @@ few_reserved machine h =
     omega arith
 
 -- only the processor raises the read index, and only between clearing and raising
-pub raises : (n size : ℕ) (parts : List Part) (seat : ℕ) → AreSeats n parts → may_make size (get_or parts seat nobody) RaiseReadIndex ≡ true → (processor_of parts).raising ≡ true
+pub raises : (n size : ℕ) (parts : List SeatPart) (seat : ℕ) → AreSeats n parts → may_make size (get_or parts seat nobody) RaiseReadIndex ≡ true → (processor_of parts).raising ≡ true
 raises n size [] seat seats may = absurd seats
 raises n size (Producer p ∷ rest) seat seats may = absurd seats
 raises n size (Processor q ∷ rest) zero seats may = may
@@ -129,7 +129,7 @@ fits_by machine ClearHeader h raising = tt
 
 -- what the code of a step knows of the fields that it reads: `allowed` is the test's answer, `r` the read index, and
 -- `place` where the access goes
-module _ (size : ℕ) (words : List ℕ) (parts : List Part) (value : Machine) (step : Step) (r place : ℕ) (allowed : Bool)
+module _ (size : ℕ) (words : List ℕ) (parts : List SeatPart) (value : Machine) (step : Step) (r place : ℕ) (allowed : Bool)
     (view : ◌≡◌ {A = Machine} (record { size = size; words = words; parts = parts }) value) (h : IsRing (record { size = size; words = words; parts = parts }))
     (allows : allowed ≡ is_allowed value step) (yes : allowed ≡ true)
     (reads : r ≡ get_or words 1 r) (goes : place ≡ place_of size r step.access) where
@@ -159,16 +159,16 @@ module _ (size : ℕ) (words : List ℕ) (parts : List Part) (value : Machine) (
         subst (λ (n : ℕ). Fits64 step.access n) (sym old_is) f
 
     -- an id that is reserved is above those that its seat has, and a ticket that is named is open
-    pub suits : (part : Part) → part ≡ get_or parts step.seat part → SuitsPart part step.access old
+    pub suits : (part : SeatPart) → part ≡ get_or parts step.seat part → SuitsPart part step.access old
     suits part has =
         let lt : step.seat < length parts = seated size parts step.seat step.access may in
         let e : part ≡ get_or parts step.seat nobody = get_or_read parts step.seat part lt has nobody in
         let n : SuitsPart (get_or parts step.seat nobody) step.access (found (record { size = size; words = words; parts = parts }) step) =
         new_by (get_or parts step.seat nobody) step.access (get_or words 0 0) (found (record { size = size; words = words; parts = parts }) step)
         may (all_below (get_or words 0 0) parts step.seat h.rule.shared.named) (λ a. ap (λ x. get_or words (place_of size (get_or words 1 0) x) 0) a) in
-        subst (λ (u : Part). SuitsPart u step.access old) (sym e) (subst (λ (w : ℕ). SuitsPart (get_or parts step.seat nobody) step.access w) (sym old_is) n)
+        subst (λ (u : SeatPart). SuitsPart u step.access old) (sym e) (subst (λ (w : ℕ). SuitsPart (get_or parts step.seat nobody) step.access w) (sym old_is) n)
       where
-        new_by : (part : Part) (access : Access) (w old : ℕ) → may_make size part access ≡ true → IsAbove w (tickets_of part) → (access ≡ Reserve → old ≡ w) → SuitsPart part access old
+        new_by : (part : SeatPart) (access : Access) (w old : ℕ) → may_make size part access ≡ true → IsAbove w (tickets_of part) → (access ≡ Reserve → old ≡ w) → SuitsPart part access old
         new_by (Processor q) access w old can above is = tt
         new_by (Producer p) Reserve w old can above is = subst (λ (n : ℕ). IsAbove n p.tickets) (sym (is refl)) above
         new_by (Producer p) (LoadReadIndex ticket) w old can above is = can
@@ -184,7 +184,7 @@ module _ (size : ℕ) (words : List ℕ) (parts : List Part) (value : Machine) (
         new_by (Producer p) RaiseReadIndex w old can above is = tt
 
     -- the fields after the step
-    pub leads_to : (w : ℕ) (part part' : Part) → w ≡ word_after step.access old → part ≡ get_or parts step.seat part → part' ≡ part_after part step.access old → ◌≡◌ {A = Machine} (record { size = size; words = set words place w; parts = set parts step.seat part' }) (made value step)
+    pub leads_to : (w : ℕ) (part part' : SeatPart) → w ≡ word_after step.access old → part ≡ get_or parts step.seat part → part' ≡ part_after part step.access old → ◌≡◌ {A = Machine} (record { size = size; words = set words place w; parts = set parts step.seat part' }) (made value step)
     leads_to w part part' writes has knows =
         let lt : step.seat < length parts = seated size parts step.seat step.access may in
         let e : part ≡ get_or parts step.seat nobody = get_or_read parts step.seat part lt has nobody in
@@ -194,12 +194,12 @@ module _ (size : ℕ) (words : List ℕ) (parts : List Part) (value : Machine) (
         λ i. record { size = size; words = set words (place_is i) (a i); parts = set parts step.seat (b i) } in
         f ∙ ap (λ m. made m step) view
 
-    pub ring_after : (w : ℕ) (part part' : Part) → w ≡ word_after step.access old → part ≡ get_or parts step.seat part → part' ≡ part_after part step.access old → IsRing (record { size = size; words = set words place w; parts = set parts step.seat part' })
+    pub ring_after : (w : ℕ) (part part' : SeatPart) → w ≡ word_after step.access old → part ≡ get_or parts step.seat part → part' ≡ part_after part step.access old → IsRing (record { size = size; words = set words place w; parts = set parts step.seat part' })
     ring_after w part part' writes has knows =
         let v : IsRing (made value step) = subst (λ (m : Machine). IsRing (made m step)) view (ring_steps (record { size = size; words = words; parts = parts }) step h may) in
         subst (λ (m : Machine). IsRing m) (sym (leads_to w part part' writes has knows)) v
 
-    pub makes : (w : ℕ) (part part' : Part) (seen : Seen) → w ≡ word_after step.access old → part ≡ get_or parts step.seat part → part' ≡ part_after part step.access old → seen ≡ seen_by step.access old → Makes value step seen (record { size = size; words = set words place w; parts = set parts step.seat part' })
+    pub makes : (w : ℕ) (part part' : SeatPart) (seen : Seen) → w ≡ word_after step.access old → part ≡ get_or parts step.seat part → part' ≡ part_after part step.access old → seen ≡ seen_by step.access old → Makes value step seen (record { size = size; words = set words place w; parts = set parts step.seat part' })
     makes w part part' seen writes has knows tells =
         record {
           allowed = sym allows ∙ yes;

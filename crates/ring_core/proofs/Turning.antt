@@ -7,8 +7,8 @@ use Rattle.ring_core.specs.declared.access.Access.{Access}
 use Rattle.ring_core.specs.declared.access.Access.TheVariants.{LoadReadIndex, StoreBody, StoreHeader, LoadHeader, LoadBody, ClearHeader, RaiseReadIndex}
 use Rattle.ring_core.specs.declared.access.Made.{Made}
 use Rattle.ring_core.specs.declared.access.Seen.TheVariants.{Read}
-use Rattle.ring_core.specs.declared.part.Part.{Part}
-use Rattle.ring_core.specs.declared.part.Part.TheVariants.{Producer, Processor}
+use Rattle.ring_core.specs.declared.part.SeatPart.{SeatPart}
+use Rattle.ring_core.specs.declared.part.SeatPart.TheVariants.{Producer, Processor}
 use Rattle.ring_core.specs.declared.part.ProducerPart.{ProducerPart}
 use Rattle.ring_core.specs.declared.part.ProcessorPart.{ProcessorPart}
 use Rattle.ring_core.specs.declared.ticket.Ticket.{Ticket}
@@ -20,7 +20,7 @@ use Rattle.ring_core.specs.Machine.{Machine, producers_of, place_of, word_after,
 use Rattle.ring_core.specs.Rule.{AreSeats, IsRing, all_tickets, processor_of, tickets_of, times, ticket_of}
 use Rattle.ring_core.specs.Runs.{after_own, word_read}
 use Rattle.ring_core.specs.Calls.{body_places, made_of, publication, showing, retiring}
-use Rattle.ring_core.specs.InTurn.{MadeInTurn, step_by, publishing, collecting}
+use Rattle.ring_core.specs.InTurn.{MadeInTurn, step_by, publishing, stored_if, look_if, collecting}
 use Rattle.ring_core.specs.inner.Together.{after_all, packet_in, packet_put}
 use Rattle.ring_core.proofs.Own.{after_seen}
 use Rattle.ring_core.proofs.Kept.{both, open_held, some_ticket}
@@ -30,11 +30,11 @@ use Rattle.ring_core.proofs.Seats.{seat_held, held_changed_same}
 use Rattle.ring_core.proofs.States.{fits_by, raises, ring_steps}
 use Rattle.ring_core.proofs.Gathering.{eight}
 
-abbrev pub M : ℕ → List ℕ → List Part → Machine
+abbrev pub M : ℕ → List ℕ → List SeatPart → Machine
 M size words parts = record { size = size; words = words; parts = parts }
 
 -- a part may make each of these accesses, in turn
-abbrev pub MayEach : ℕ → Part → List Made → Type 0
+abbrev pub MayEach : ℕ → SeatPart → List Made → Type 0
 MayEach size part [] = ⊤
 MayEach size part (one ∷ more) = (may_make size part one.access ≡ true) × MayEach size (after_own part one) more
 
@@ -64,23 +64,23 @@ set_read (x ∷ xs) (suc i) d = ap (λ ys. x ∷ ys) (set_read xs i d)
 -- ---- the steps
 
 -- what a part may do and what words tell is what the machine's steps are
-pub in_turn : (size : ℕ) (words last : List ℕ) (parts : List Part) (seat : ℕ) (mades : List Made) → seat < length parts → MayEach size (get_or parts seat nobody) mades → FindEach size words mades last
+pub in_turn : (size : ℕ) (words last : List ℕ) (parts : List SeatPart) (seat : ℕ) (mades : List Made) → seat < length parts → MayEach size (get_or parts seat nobody) mades → FindEach size words mades last
     → MadeInTurn (M size words parts) seat mades (M size last (set parts seat (fold after_own (get_or parts seat nobody) mades)))
 in_turn size words last parts seat [] lt may finds = λ i. M size (finds i) (set_read parts seat nobody i)
 in_turn size words last parts seat (one ∷ more) lt may finds =
-    let part : Part = get_or parts seat nobody in
+    let part : SeatPart = get_or parts seat nobody in
     let old : ℕ = get_or words (place_of size (get_or words 1 0) one.access) 0 in
-    let parts1 : List Part = set parts seat (part_after part one.access old) in
+    let parts1 : List SeatPart = set parts seat (part_after part one.access old) in
     let own : after_own part one ≡ part_after part one.access old = ap (λ s. part_after part one.access (word_read s)) finds.0 ∙ after_seen part one.access old in
     let here : get_or parts1 seat nobody ≡ after_own part one = get_or-set_same parts seat (part_after part one.access old) nobody lt ∙ sym own in
     let lt1 : seat < length parts1 = omega (arith, lt, length-set parts seat (part_after part one.access old)) in
-    let may1 : MayEach size (get_or parts1 seat nobody) more = subst (λ (p : Part). MayEach size p more) (sym here) may.1 in
+    let may1 : MayEach size (get_or parts1 seat nobody) more = subst (λ (p : SeatPart). MayEach size p more) (sym here) may.1 in
     let rest : MadeInTurn (M size (words_after size words one.access) parts1) seat more (M size last (set parts1 seat (fold after_own (get_or parts1 seat nobody) more))) =
     in_turn size (words_after size words one.access) last parts1 seat more lt1 may1 finds.1 in
     let ends : set parts1 seat (fold after_own (get_or parts1 seat nobody) more) ≡ set parts seat (fold after_own (after_own part one) more) =
-    set_twice parts seat (part_after part one.access old) (fold after_own (get_or parts1 seat nobody) more) ∙ ap (λ (p : Part). set parts seat (fold after_own p more)) here in (
+    set_twice parts seat (part_after part one.access old) (fold after_own (get_or parts1 seat nobody) more) ∙ ap (λ (p : SeatPart). set parts seat (fold after_own p more)) here in (
       record { allowed = may.0; told = finds.0; leads = refl },
-      subst (λ (ps : List Part). MadeInTurn (M size (words_after size words one.access) parts1) seat more (M size last ps)) ends rest,
+      subst (λ (ps : List SeatPart). MadeInTurn (M size (words_after size words one.access) parts1) seat more (M size last ps)) ends rest,
     )
 
 -- they keep what is kept of a ring state
@@ -138,9 +138,9 @@ publication_may size id seen words p t stands n room valid =
     (may, body_may size id seen words body_places (after_producing p (LoadReadIndex (record { 0 = id })) seen) (seeing seen t) refl stands1 room valid whole)
 
 -- a ticket of a seat has eight words
-own_eight : (size : ℕ) (words : List ℕ) (parts : List Part) (seat id : ℕ) (p : ProducerPart) (t : Ticket) → IsRing (M size words parts) → get_or parts seat nobody ≡ Producer p → open_ticket id p.tickets ≡ Some t → length t.words ≡ 8
+own_eight : (size : ℕ) (words : List ℕ) (parts : List SeatPart) (seat id : ℕ) (p : ProducerPart) (t : Ticket) → IsRing (M size words parts) → get_or parts seat nobody ≡ Producer p → open_ticket id p.tickets ≡ Some t → length t.words ≡ 8
 own_eight size words parts seat id p t h here stands =
-    let mine : held id (tickets_of (get_or parts seat nobody)) ≡ Some t = ap (λ (u : Part). held id (tickets_of u)) here ∙ (open_held (held id p.tickets) t stands).0 in
+    let mine : held id (tickets_of (get_or parts seat nobody)) ≡ Some t = ap (λ (u : SeatPart). held id (tickets_of u)) here ∙ (open_held (held id p.tickets) t stands).0 in
     let few : times id (all_tickets parts) ≤ 1 = at_most (nat_lt id (get_or words 0 0)) (times id (all_tickets parts)) (h.rule.shared.named id) in
     let is : ticket_of parts id ≡ t = ap (λ o. unwrap_or o blank) (seat_held id parts seat t few mine) in
     ap (λ (u : Ticket). length u.words) (sym is) ∙ h.rule.tied.eight id
@@ -150,11 +150,11 @@ own_eight size words parts seat id p t h here stands =
     at_most false n e = omega (arith, e)
 
 -- a seat that may look for room may make what a publication makes
-pub publishing_may : (size : ℕ) (words : List ℕ) (parts : List Part) (seat id seen : ℕ) (packet : List ℕ) → IsRing (M size words parts) → is_invalid (slice_index packet 0) ≡ false
+pub publishing_may : (size : ℕ) (words : List ℕ) (parts : List SeatPart) (seat id seen : ℕ) (packet : List ℕ) → IsRing (M size words parts) → is_invalid (slice_index packet 0) ≡ false
     → may_make size (get_or parts seat nobody) (LoadReadIndex (record { 0 = id })) ≡ true → MayEach size (get_or parts seat nobody) (publishing size id seen packet)
 publishing_may size words parts seat id seen packet h valid may = by_part (get_or parts seat nobody) refl may
   where
-    by_part : (part : Part) → get_or parts seat nobody ≡ part → may_make size part (LoadReadIndex (record { 0 = id })) ≡ true → MayEach size part (publishing size id seen packet)
+    by_part : (part : SeatPart) → get_or parts seat nobody ≡ part → may_make size part (LoadReadIndex (record { 0 = id })) ≡ true → MayEach size part (publishing size id seen packet)
     by_part (Processor q) here may = absurd (cc)
     by_part (Producer p) here may =
         let stands = some_ticket (open_ticket id p.tickets) may in
@@ -188,12 +188,12 @@ collecting_of size words q n may false valid =
     ap (λ (b : Bool). is_some (word (if b then q.collected else set q.collected 0 (Some (slice_index words 0))) 0)) valid ∙ known_first q.collected (slice_index words 0) n in
     (may, loads_may size words body_places (after_processing q LoadHeader (slice_index words 0)) refl known)
 
-pub collecting_may : (size : ℕ) (words : List ℕ) (part : Part) → (may_make size part LoadHeader ≡ true) → ((q : ProcessorPart) → part ≡ Processor q → length q.collected ≡ 8) → MayEach size part (collecting words)
+pub collecting_may : (size : ℕ) (words : List ℕ) (part : SeatPart) → (may_make size part LoadHeader ≡ true) → ((q : ProcessorPart) → part ≡ Processor q → length q.collected ≡ 8) → MayEach size part (collecting words)
 collecting_may size words (Producer p) may n = absurd (cc)
 collecting_may size words (Processor q) may n = collecting_of size words q (n q refl) may (is_invalid (slice_index words 0)) refl
 
 -- a header that may be cleared is cleared, and then the read index raised
-pub retiring_may : (size index : ℕ) (part : Part) → may_make size part ClearHeader ≡ true → MayEach size part (retiring index)
+pub retiring_may : (size index : ℕ) (part : SeatPart) → may_make size part ClearHeader ≡ true → MayEach size part (retiring index)
 retiring_may size index (Producer p) may = absurd (cc)
 retiring_may size index (Processor q) may = (may, (refl, tt))
 
@@ -277,47 +277,47 @@ retiring_finds size words =
 
 -- ---- what the code of a call knows of the fields that it reads
 
-pub slot_within : (size : ℕ) (words : List ℕ) (parts : List Part) (id : ℕ) → IsRing (M size words parts) → word_place size id 0 + 8 ≤ length words
+pub slot_within : (size : ℕ) (words : List ℕ) (parts : List SeatPart) (id : ℕ) → IsRing (M size words parts) → word_place size id 0 + 8 ≤ length words
 unfolding word_place
 slot_within size words parts id h = let n = h.rule.words in let some = h.rule.slots in omega (arith, n, some)
 
 -- `part` is the part at a seat, `makes` whether it may make the first access
-module _ (size : ℕ) (words : List ℕ) (parts : List Part) (value : Machine) (seat : ℕ) (part : Part) (makes : Bool) (access : Access)
+module _ (size : ℕ) (words : List ℕ) (parts : List SeatPart) (value : Machine) (seat : ℕ) (part : SeatPart) (makes : Bool) (access : Access)
     (view : M size words parts ≡ value) (h : IsRing (M size words parts)) (lt : seat < length parts) (has : part ≡ get_or parts seat part) (may : makes ≡ may_make size part access) where
   here : part ≡ get_or parts seat nobody
   here = get_or_read parts seat part lt has nobody
 
   pub may_here : makes ≡ true → may_make size (get_or parts seat nobody) access ≡ true
-  may_here is = ap (λ (p : Part). may_make size p access) (sym here) ∙ sym may ∙ is
+  may_here is = ap (λ (p : SeatPart). may_make size p access) (sym here) ∙ sym may ∙ is
 
   -- it makes them all
-  pub together : (mades : List Made) (last : List ℕ) (part' : Part) → MayEach size (get_or parts seat nobody) mades → FindEach size words mades last → part' ≡ fold after_own part mades
+  pub together : (mades : List Made) (last : List ℕ) (part' : SeatPart) → MayEach size (get_or parts seat nobody) mades → FindEach size words mades last → part' ≡ fold after_own part mades
       → MadeInTurn value seat mades (M size last (set parts seat part'))
   together mades last part' each finds noted =
       let all : MadeInTurn (M size words parts) seat mades (M size last (set parts seat (fold after_own (get_or parts seat nobody) mades))) = in_turn size words last parts seat mades lt each finds in
       subst (λ (m : Machine). MadeInTurn m seat mades (M size last (set parts seat part'))) view
-      (subst (λ (p : Part). MadeInTurn (M size words parts) seat mades (M size last (set parts seat p))) (sym (noted ∙ ap (λ (p : Part). fold after_own p mades) here)) all)
+      (subst (λ (p : SeatPart). MadeInTurn (M size words parts) seat mades (M size last (set parts seat p))) (sym (noted ∙ ap (λ (p : SeatPart). fold after_own p mades) here)) all)
 
-pub read_is : (size : ℕ) (words : List ℕ) (parts : List Part) (r : ℕ) → IsRing (M size words parts) → r ≡ get_or words 1 r → r ≡ get_or words 1 0
+pub read_is : (size : ℕ) (words : List ℕ) (parts : List SeatPart) (r : ℕ) → IsRing (M size words parts) → r ≡ get_or words 1 r → r ≡ get_or words 1 0
 read_is size words parts r h reads =
     let n = h.rule.words in
     let some = h.rule.slots in
     get_or_read words 1 r (omega (arith, n, some)) reads 0
 
-first_seat : (n : ℕ) (parts : List Part) → AreSeats n parts → 0 < length parts
+first_seat : (n : ℕ) (parts : List SeatPart) → AreSeats n parts → 0 < length parts
 first_seat n [] seats = absurd seats
 first_seat n (Producer p ∷ rest) seats = absurd seats
 first_seat n (Processor q ∷ rest) seats = omega arith
 
-pub processor_in : (size : ℕ) (words : List ℕ) (parts : List Part) → IsRing (M size words parts) → 0 < length parts
+pub processor_in : (size : ℕ) (words : List ℕ) (parts : List SeatPart) → IsRing (M size words parts) → 0 < length parts
 processor_in size words parts h = first_seat _ parts h.rule.shared.seats
 
-first_eight : (parts : List Part) (q : ProcessorPart) → get_or parts 0 nobody ≡ Processor q → length (processor_of parts).collected ≡ 8 → length q.collected ≡ 8
+first_eight : (parts : List SeatPart) (q : ProcessorPart) → get_or parts 0 nobody ≡ Processor q → length (processor_of parts).collected ≡ 8 → length q.collected ≡ 8
 first_eight [] q is n = absurd (cc)
 first_eight (Producer p ∷ rest) q is n = absurd (cc)
 first_eight (Processor p ∷ rest) q is n = let same : p ≡ q = cc in ap (λ (u : ProcessorPart). length u.collected) (sym same) ∙ n
 
-all_made : (part part' : Part) (mades : List Made) (makes : Bool) → makes ≡ true → part' ≡ after_all makes part mades → part' ≡ fold after_own part mades
+all_made : (part part' : SeatPart) (mades : List Made) (makes : Bool) → makes ≡ true → part' ≡ after_all makes part mades → part' ≡ fold after_own part mades
 all_made part part' mades makes is noted = noted ∙ ap (λ (b : Bool). after_all b part mades) is
 
 -- one of two lists, by a test
@@ -327,25 +327,32 @@ kept_words b put words is = sym (ap (λ (c : Bool). if c then put else words) is
 pub put_words : (b : Bool) (put words last : List ℕ) → b ≡ true → last ≡ put → last ≡ (if b then put else words)
 put_words b put words last is puts = puts ∙ sym (ap (λ (c : Bool). if c then put else words) is)
 
+-- what a look came to, in a ring as its contracts see it
+pub look_is : (s : Machine) (value : Machine) (room b : Bool) (id seen : ℕ) → s ≡ value → room ≡ has_room s.size id seen → room ≡ b
+    → look_if b seen ≡ look_if (has_room value.size id seen) seen
+look_is s value room b id seen view is at =
+    ap (λ (c : Bool). look_if c seen) (sym at ∙ is ∙ ap (λ (m : Machine). has_room m.size id seen) view)
+
 -- a publication
-module _ (size : ℕ) (words : List ℕ) (parts : List Part) (value : Machine) (seat id : ℕ) (part part' : Part) (makes : Bool) (seen : ℕ) (packet last : List ℕ)
+module _ (size : ℕ) (words : List ℕ) (parts : List SeatPart) (value : Machine) (seat id : ℕ) (part part' : SeatPart) (makes : Bool) (seen : ℕ) (room : Bool) (packet last : List ℕ)
     (view : M size words parts ≡ value) (h : IsRing (M size words parts)) (lt : seat < length parts) (has : part ≡ get_or parts seat part)
     (may : makes ≡ may_make size part (LoadReadIndex (record { 0 = id }))) (valid : is_invalid (slice_index packet 0) ≡ false) (is : makes ≡ true)
-    (reads : seen ≡ get_or words 1 seen) (noted : part' ≡ after_all makes part (publishing size id seen packet))
-    (puts : last ≡ (if has_room size id seen then packet_put words (word_place size id 0) packet else words)) where
+    (reads : seen ≡ get_or words 1 seen) (shows : room ≡ has_room size id seen) (noted : part' ≡ after_all makes part (stored_if room id seen packet))
+    (puts : last ≡ (if room then packet_put words (word_place size id 0) packet else words)) where
   published_each : MayEach size (get_or parts seat nobody) (publishing size id seen packet)
   published_each = publishing_may size words parts seat id seen packet h valid (may_here size words parts value seat part makes (LoadReadIndex (record { 0 = id })) view h lt has may is)
 
   published_finds : FindEach size words (publishing size id seen packet) last
   published_finds =
-      subst (λ (ws : List ℕ). FindEach size words (publishing size id seen packet) ws) (sym puts)
+      subst (λ (ws : List ℕ). FindEach size words (publishing size id seen packet) ws)
+      (sym (puts ∙ ap (λ (b : Bool). if b then packet_put words (word_place size id 0) packet else words) shows))
       (subst (λ (r : ℕ). FindEach size words (publishing size id r packet) (if has_room size id r then packet_put words (word_place size id 0) packet else words)) (sym (read_is size words parts seen h reads))
       (publishing_finds size id packet words (has_room size id (get_or words 1 0))))
 
   published_all : MadeInTurn value seat (publishing size id seen packet) (M size last (set parts seat part'))
   published_all =
       together size words parts value seat part makes (LoadReadIndex (record { 0 = id })) view h lt has may (publishing size id seen packet) last part' published_each published_finds
-      (all_made part part' (publishing size id seen packet) makes is noted)
+      (all_made part part' (publishing size id seen packet) makes is (noted ∙ ap (λ (b : Bool). after_all makes part (stored_if b id seen packet)) shows))
 
   pub published_call : MadeInTurn value seat (publishing value.size id seen packet) (M size last (set parts seat part'))
   published_call = subst (λ (n : ℕ). MadeInTurn value seat (publishing n id seen packet) (M size last (set parts seat part'))) (ap (λ (m : Machine). m.size) view) published_all
@@ -354,7 +361,7 @@ module _ (size : ℕ) (words : List ℕ) (parts : List Part) (value : Machine) (
   published_ring = turn_keeps value seat (publishing size id seen packet) (M size last (set parts seat part')) (subst (λ (m : Machine). IsRing m) view h) published_all
 
 -- a packet is collected
-module _ (size : ℕ) (words : List ℕ) (parts : List Part) (value : Machine) (part part' : Part) (makes : Bool) (r slot : ℕ) (packet : List ℕ)
+module _ (size : ℕ) (words : List ℕ) (parts : List SeatPart) (value : Machine) (part part' : SeatPart) (makes : Bool) (r slot : ℕ) (packet : List ℕ)
     (view : M size words parts ≡ value) (h : IsRing (M size words parts)) (has : part ≡ get_or parts 0 part)
     (may : makes ≡ may_make size part LoadHeader) (is : makes ≡ true)
     (reads : r ≡ get_or words 1 r) (at : slot ≡ word_place size r 0) (found : packet ≡ packet_in words slot) (noted : part' ≡ after_all makes part (collecting packet)) where
@@ -375,7 +382,7 @@ module _ (size : ℕ) (words : List ℕ) (parts : List Part) (value : Machine) (
   collected_ring = turn_keeps value 0 (collecting packet) (M size words (set parts 0 part')) (subst (λ (m : Machine). IsRing m) view h) collected_call
 
 -- a packet is retired
-module _ (size : ℕ) (words : List ℕ) (parts : List Part) (value : Machine) (part part' : Part) (makes : Bool) (index slot : ℕ)
+module _ (size : ℕ) (words : List ℕ) (parts : List SeatPart) (value : Machine) (part part' : SeatPart) (makes : Bool) (index slot : ℕ)
     (view : M size words parts ≡ value) (h : IsRing (M size words parts)) (has : part ≡ get_or parts 0 part)
     (may : makes ≡ may_make size part ClearHeader) (is : makes ≡ true)
     (reads : index ≡ get_or words 1 index) (at : slot ≡ word_place size index 0) (noted : part' ≡ after_all makes part (retiring index)) where

@@ -1,11 +1,13 @@
 -- What the calls on a ring machine do, as lists of steps: those that one seat makes in turn, and what each read
 -- (own; over PSA, User Mode Queuing).
-use Rattle.std.specs.Prelude.{◌≡◌, ℕ, true, false, List, [], ◌∷◌, length, slice_index, Option, Some, None, Result, Ok, Err, if◌then◌else◌}
+use Rattle.std.specs.Prelude.{◌≡◌, ℕ, Bool, true, false, List, [], ◌∷◌, length, slice_index, Option, Some, None, Result, Ok, Err, if◌then◌else◌}
 use Rattle.ring_core.specs.declared.access.Access.{Access}
 use Rattle.ring_core.specs.declared.access.Access.TheVariants.{Reserve, LoadReadIndex, LoadHeader, ClearHeader}
 use Rattle.ring_core.specs.declared.access.Made.{Made}
 use Rattle.ring_core.specs.declared.access.Seen.TheVariants.{Read}
 use Rattle.ring_core.specs.declared.access.Step.{Step}
+use Rattle.ring_core.specs.declared.state.Look.{Look}
+use Rattle.ring_core.specs.declared.state.Look.TheVariants.{Published, Busy}
 use Rattle.ring_core.specs.declared.state.StepFault.{StepFault}
 use Rattle.ring_core.specs.declared.state.StepFault.TheVariants.{OutOfMemory, NotAStep}
 use Rattle.ring_core.specs.Words.{is_invalid}
@@ -33,13 +35,22 @@ Reserves old seat (Ok id) new = Makes old (step_by seat Reserve) (Read id) new
 Reserves old seat (Err OutOfMemory) new = (is_allowed old (step_by seat Reserve) ≡ true) × (new ≡ old)
 Reserves old seat (Err NotAStep) new = Refuses old seat Reserve NotAStep new
 
+-- a look for room that saw this read index, and, if it saw room, the stores
+abbrev pub stored_if : Bool → ℕ → ℕ → List ℕ → List Made
+stored_if room id seen words =
+    if room then publication id seen words else made_of (LoadReadIndex (record { 0 = id })) seen ∷ []
+
 -- publishing: a look for room, and, where the read index that it saw shows room, the stores
 abbrev pub publishing : ℕ → ℕ → ℕ → List ℕ → List Made
-publishing size id seen words =
-    if has_room size id seen then publication id seen words else made_of (LoadReadIndex (record { 0 = id })) seen ∷ []
+publishing size id seen words = stored_if (has_room size id seen) id seen words
 
-abbrev pub Publishes : Machine → ℕ → ℕ → List ℕ → Result ℕ StepFault → Machine → Type 0
-Publishes old seat id words (Ok seen) new = MadeInTurn old seat (publishing old.size id seen words) new
+-- what a look that saw this read index comes to, if it saw room or not
+abbrev pub look_if : Bool → ℕ → Look
+look_if room seen = if room then Published else Busy seen
+
+abbrev pub Publishes : Machine → ℕ → ℕ → List ℕ → Result Look StepFault → Machine → Type 0
+Publishes old seat id words (Ok look) new =
+    (seen : ℕ) × (look ≡ look_if (has_room old.size id seen) seen) × MadeInTurn old seat (publishing old.size id seen words) new
 Publishes old seat id words (Err fault) new = Refuses old seat (LoadReadIndex (record { 0 = id })) fault new
 
 -- collecting: a look at the header, and, where its type is another than INVALID, at the body

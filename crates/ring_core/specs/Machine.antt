@@ -1,22 +1,22 @@
 -- The ring machine: its words and parts, and what a step is (own; over PSA, User Mode Queuing).
-use Rattle.std.specs.Prelude.{◌≡◌, ℕ, ◌+◌, ◌*◌, ◌%◌, ◌-◌, ◌<◌, length, zero, suc, Bool, ◌&&◌, nat_le, true, false, List, [], ◌∷◌, get_or, slice_index, slice_set, replicate, ◌^◌, ⊤}
+use Rattle.std.specs.Prelude.{◌≡◌, ℕ, ◌+◌, ◌*◌, ◌%◌, ◌-◌, ◌<◌, length, zero, suc, Bool, ◌&&◌, nat_le, true, false, List, [], ◌∷◌, get_or, slice_index, slice_set, replicate, ◌^◌, ⊤, if◌then◌else◌}
 use Rattle.ring_core.specs.declared.access.Access.{Access}
 use Rattle.ring_core.specs.declared.access.Access.TheVariants.{Reserve, LoadReadIndex, StoreBody, StoreHeader, LoadHeader, LoadBody, ClearHeader, RaiseReadIndex}
 use Rattle.aql_packet.specs.Kinds.{invalid_type}
 use Rattle.ring_core.specs.declared.access.TheConstants.{FIRST_SLOT, READ_PLACE, WRITE_PLACE}
-use Rattle.ring_core.specs.Limits.{most_producers}
+use Rattle.ring_core.specs.Limits.{most_producers, no_ring_size}
 use Rattle.ring_core.specs.declared.access.Step.{Step}
 use Rattle.ring_core.specs.declared.access.Seen.{Seen}
-use Rattle.ring_core.specs.declared.part.Part.{Part}
+use Rattle.ring_core.specs.declared.part.SeatPart.{SeatPart}
 use Rattle.ring_core.specs.Parts.{may_make, part_after, seen_by, new_producer, new_processor, nobody}
 
 -- a ring: how many slots it has, its words, and the part of each seat, that of the processor first
 pub record Machine : Type 0 where
   pub size : ℕ
   pub words : List ℕ
-  pub parts : List Part
+  pub parts : List SeatPart
 
-abbrev pub machine_of : ℕ → List ℕ → List Part → Machine
+abbrev pub machine_of : ℕ → List ℕ → List SeatPart → Machine
 machine_of size words parts = record { size = size; words = words; parts = parts }
 
 -- how many words a ring has, and where word k of the packet with an id lies: eight words a slot (own)
@@ -56,7 +56,7 @@ word_after RaiseReadIndex old = old + 1
 word_after _ old = old
 
 -- the part of a seat
-abbrev pub part_at : Machine → ℕ → Part
+abbrev pub part_at : Machine → ℕ → SeatPart
 part_at machine seat = get_or machine.parts seat nobody
 
 -- how many producers there are: the first part is the processor's
@@ -75,7 +75,7 @@ abbrev pub found : Machine → Step → ℕ
 found machine step = slice_index machine.words (touched machine step)
 
 -- what the seat of a step knows after it
-abbrev pub knows_after : Machine → Step → Part
+abbrev pub knows_after : Machine → Step → SeatPart
 knows_after machine step = part_after (part_at machine step.seat) step.access (found machine step)
 
 -- the machine after a step: one word and the part of the step's own seat
@@ -101,6 +101,10 @@ free_slots (suc n) = invalid_type ∷ 0 ∷ 0 ∷ 0 ∷ 0 ∷ 0 ∷ 0 ∷ 0 ∷ 
 -- how many producers a ring may have (own)
 abbrev pub is_producer_count : ℕ → Bool
 is_producer_count producers = nat_le 1 producers && nat_le producers most_producers
+
+-- the size by which the opening of a ring is judged: a bad count of producers is judged as a size that no ring has (own)
+abbrev pub judged_size : ℕ → ℕ → ℕ
+judged_size size producers = if is_producer_count producers then size else no_ring_size
 
 -- a ring as it opens: both indices 0, each slot free
 abbrev pub opened : ℕ → ℕ → Machine

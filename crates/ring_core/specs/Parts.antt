@@ -12,8 +12,8 @@ use Rattle.ring_core.specs.declared.access.Made.{Made}
 use Rattle.ring_core.specs.declared.part.ProducerPart.{ProducerPart}
 use Rattle.ring_core.specs.declared.part.ProcessorPart.{ProcessorPart}
 use Rattle.ring_core.specs.Limits.{most_reservations}
-use Rattle.ring_core.specs.declared.part.Part.{Part}
-use Rattle.ring_core.specs.declared.part.Part.TheVariants.{Producer, Processor}
+use Rattle.ring_core.specs.declared.part.SeatPart.{SeatPart}
+use Rattle.ring_core.specs.declared.part.SeatPart.TheVariants.{Producer, Processor}
 use Rattle.ring_core.specs.Words.{word, no_words, is_body, has_body, packet_of, is_invalid}
 use Rattle.ring_core.specs.Tickets.{blank, seeing, writing, shows_room, open_ticket, changed, IsAbove}
 
@@ -52,7 +52,7 @@ processor_may p RaiseReadIndex = p.raising
 processor_may p _ = false
 
 -- whether a seat with this part may make an access
-abbrev pub may_make : ℕ → Part → Access → Bool
+abbrev pub may_make : ℕ → SeatPart → Access → Bool
 may_make size (Producer p) access = producer_may size p access
 may_make size (Processor p) access = processor_may p access
 
@@ -114,7 +114,7 @@ after_processing p access old =
       steps = noted p.steps access old;
     }
 
-abbrev pub part_after : Part → Access → ℕ → Part
+abbrev pub part_after : SeatPart → Access → ℕ → SeatPart
 part_after (Producer p) access old = Producer (after_producing p access old)
 part_after (Processor p) access old = Processor (after_processing p access old)
 
@@ -127,17 +127,17 @@ Suits (StoreBody ticket place word) old tickets = (is_some (open_ticket ticket.0
 Suits (StoreHeader ticket word) old tickets = is_some (open_ticket ticket.0 tickets) ≡ true
 Suits _ old tickets = ⊤
 
-abbrev pub SuitsPart : Part → Access → ℕ → Type 0
+abbrev pub SuitsPart : SeatPart → Access → ℕ → Type 0
 SuitsPart (Producer p) access old = Suits access old p.tickets
 SuitsPart (Processor p) access old = ⊤
 
 -- the parts at the opening: the whole allowance of ids to reserve, no ticket, nothing retired or collected, no step made
-abbrev pub new_producer : Part
+abbrev pub new_producer : SeatPart
 new_producer = Producer record { allowance = most_reservations; tickets = []; steps = [] }
 
-abbrev pub new_processor : Part
+abbrev pub new_processor : SeatPart
 new_processor = Processor record { retired = []; collected = no_words; raising = false; steps = [] }
 
 -- a seat that the ring doesn't have may do nothing
-abbrev pub nobody : Part
+abbrev pub nobody : SeatPart
 nobody = Producer record { allowance = 0; tickets = []; steps = [] }

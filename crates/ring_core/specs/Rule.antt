@@ -4,8 +4,8 @@ use Rattle.std.specs.List.{list_all}
 use Rattle.ring_core.specs.declared.ticket.Ticket.{Ticket}
 use Rattle.ring_core.specs.declared.ticket.HeldTicket.{HeldTicket}
 use Rattle.ring_core.specs.declared.part.ProcessorPart.{ProcessorPart}
-use Rattle.ring_core.specs.declared.part.Part.{Part}
-use Rattle.ring_core.specs.declared.part.Part.TheVariants.{Producer, Processor}
+use Rattle.ring_core.specs.declared.part.SeatPart.{SeatPart}
+use Rattle.ring_core.specs.declared.part.SeatPart.TheVariants.{Producer, Processor}
 use Rattle.ring_core.specs.Words.{word, no_words, is_invalid}
 use Rattle.ring_core.specs.Tickets.{blank, is_published, shows_room, held}
 use Rattle.aql_packet.specs.Ring.{is_ring_size}
@@ -15,15 +15,15 @@ use Rattle.ring_core.specs.Limits.{most_producers}
 use Rattle.ring_core.specs.Machine.{Machine, word_count, write_index, read_index, slot_word, producers_of}
 
 -- the tickets that a part has, and those of all parts
-abbrev pub tickets_of : Part → List HeldTicket
+abbrev pub tickets_of : SeatPart → List HeldTicket
 tickets_of (Producer p) = p.tickets
 tickets_of (Processor p) = []
 
-abbrev pub all_tickets : List Part → List HeldTicket
+abbrev pub all_tickets : List SeatPart → List HeldTicket
 all_tickets parts = flat_map tickets_of parts
 
 -- the ticket of an id, whoever has it; of an id that is not reserved, a blank one
-abbrev pub ticket_of : List Part → ℕ → Ticket
+abbrev pub ticket_of : List SeatPart → ℕ → Ticket
 ticket_of parts id = unwrap_or (held id (all_tickets parts)) blank
 
 -- how often an id is among tickets
@@ -32,28 +32,28 @@ times id [] = 0
 times id (entry ∷ entries) = (if entry.id.0 == id then 1 else 0) + times id entries
 
 -- what is left to a part to reserve
-abbrev pub allowance_of : Part → ℕ
+abbrev pub allowance_of : SeatPart → ℕ
 allowance_of (Producer p) = p.allowance
 allowance_of (Processor p) = 0
 
-abbrev pub is_producer : Part → Bool
+abbrev pub is_producer : SeatPart → Bool
 is_producer (Producer p) = true
 is_producer (Processor p) = false
 
 -- one processor part, then one part for each producer
-abbrev pub AreSeats : ℕ → List Part → Type 0
+abbrev pub AreSeats : ℕ → List SeatPart → Type 0
 AreSeats producers [] = ⊥
 AreSeats producers (Producer p ∷ parts) = ⊥
 AreSeats producers (Processor p ∷ parts) =
     (length parts ≡ producers) × (list_all is_producer parts ≡ true)
 
 -- what the processor knows
-abbrev pub processor_of : List Part → ProcessorPart
+abbrev pub processor_of : List SeatPart → ProcessorPart
 processor_of (Processor p ∷ parts) = p
 processor_of _ = record { retired = []; collected = no_words; raising = false; steps = [] }
 
 -- who has which ticket (own)
-pub record IsShared (producers write_index : ℕ) (parts : List Part) : Type 0 where
+pub record IsShared (producers write_index : ℕ) (parts : List SeatPart) : Type 0 where
   -- one part for each producer and one processor part
   pub seats : AreSeats producers parts
   -- the write index and all allowances are together producers times 2^40

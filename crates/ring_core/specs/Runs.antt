@@ -6,14 +6,14 @@ use Rattle.ring_core.specs.declared.access.Made.{Made}
 use Rattle.ring_core.specs.declared.access.Seen.{Seen}
 use Rattle.ring_core.specs.declared.access.Seen.TheVariants.{Read, Stored}
 use Rattle.ring_core.specs.declared.access.Step.{Step}
-use Rattle.ring_core.specs.declared.part.Part.{Part}
-use Rattle.ring_core.specs.declared.part.Part.TheVariants.{Producer, Processor}
+use Rattle.ring_core.specs.declared.part.SeatPart.{SeatPart}
+use Rattle.ring_core.specs.declared.part.SeatPart.TheVariants.{Producer, Processor}
 use Rattle.ring_core.specs.Parts.{part_after, new_producer, new_processor}
 use Rattle.ring_core.specs.Machine.{Machine, part_at}
 use Rattle.ring_core.specs.Rule.{processor_of, ticket_of}
 
 -- the steps that a part has
-abbrev pub steps_of : Part → List Made
+abbrev pub steps_of : SeatPart → List Made
 steps_of (Producer p) = p.steps
 steps_of (Processor p) = p.steps
 
@@ -23,11 +23,11 @@ word_read (Read word) = word
 word_read Stored = 0
 
 -- what a seat knows after one step more of its own
-abbrev pub after_own : Part → Made → Part
+abbrev pub after_own : SeatPart → Made → SeatPart
 after_own part made = part_after part made.access (word_read made.seen)
 
 -- the part with which a seat begins: seat 0 is the processor
-abbrev pub begins_with : ℕ → Part
+abbrev pub begins_with : ℕ → SeatPart
 begins_with zero = new_processor
 begins_with (suc seat) = new_producer
 

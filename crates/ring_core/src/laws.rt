@@ -12,13 +12,13 @@ ghost use Rattle.ring_core.specs.Rule.{IsRule};
 ghost use Rattle.ring_core.specs.Runs.{KnowsItsOwn, retired_at, ticket_words, all_known};
 
 /// Each step keeps the ring rule.
-pub fn each_step_keeps_the_rule()
+pub fn law_each_step_keeps_the_rule()
     ensures { (producers : ℕ) (machine next : Machine) (step : Step) (seen : Seen) →
         IsRule producers machine → Makes machine step seen next → IsRule producers next }
 {}
 
 /// The machine after any list of steps, in any order, meets the ring rule.
-pub fn every_run_meets_the_rule()
+pub fn law_every_run_meets_the_rule()
     ensures { (size producers : ℕ) (steps : List Step) (machine : Machine) →
         0 < size → Replays size producers steps machine → IsRule producers machine }
 {}
@@ -26,13 +26,13 @@ pub fn every_run_meets_the_rule()
 /// After any list of steps each seat, the processor at 0 and the producers behind it, has just the steps that
 /// were its own, in order, and its part is what follows from them and from what they read: the fold of its
 /// steps over the part with which it began.
-pub fn each_part_follows_from_its_own_steps()
+pub fn law_each_part_follows_from_its_own_steps()
     ensures { (size producers : ℕ) (steps : List Step) (machine : Machine) (seat : ℕ) →
         Replays size producers steps machine → seat ≤ producers → KnowsItsOwn steps machine seat }
 {}
 
 /// After any list of steps each retired packet is the eight words of the ticket of its id, whole.
-pub fn each_retired_packet_is_its_tickets()
+pub fn law_each_retired_packet_is_its_tickets()
     ensures eight { (size producers : ℕ) (steps : List Step) (machine : Machine) (id : ℕ) →
         0 < size → Replays size producers steps machine → id < read_index machine → length (retired_at machine id) ≡ 8 }
     ensures words { (size producers : ℕ) (steps : List Step) (machine : Machine) (id : ℕ) →
@@ -41,13 +41,13 @@ pub fn each_retired_packet_is_its_tickets()
 {}
 
 /// A ring has 2 to 4,096 slots.
-pub fn ring_sizes_are_bounded()
+pub fn law_ring_sizes_are_bounded()
     ensures least { (size : ℕ) → is_ring_size size ≡ true → 2 ≤ size }
     ensures most { (size : ℕ) → is_ring_size size ≡ true → size ≤ 4096 }
 {}
 
 /// The code's limits of a ring are those of the rules.
-pub fn numbers_are_those_of_the_rules()
+pub fn law_numbers_are_those_of_the_rules()
     ensures producers { MOST_PRODUCERS ≡ most_producers }
     ensures reservations { ALLOWANCE ≡ most_reservations }
 {}

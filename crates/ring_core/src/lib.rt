@@ -16,14 +16,15 @@ pub use access::{Access, FIRST_SLOT, Made, READ_PLACE, Seen, Step, WRITE_PLACE, 
 pub use aql_packet::is_invalid;
 pub use calls::has_room;
 pub use laws::{
-    each_part_follows_from_its_own_steps, each_retired_packet_is_its_tickets,
-    each_step_keeps_the_rule, every_run_meets_the_rule, numbers_are_those_of_the_rules,
-    ring_sizes_are_bounded,
+    law_each_part_follows_from_its_own_steps, law_each_retired_packet_is_its_tickets,
+    law_each_step_keeps_the_rule, law_every_run_meets_the_rule, law_numbers_are_those_of_the_rules,
+    law_ring_sizes_are_bounded,
 };
 pub use log::Log;
-pub use part::{ALLOWANCE, Part, ProcessorPart, ProducerPart};
+pub use part::{ALLOWANCE, ProcessorPart, ProducerPart, SeatPart};
 pub use state::{
-    MOST_PRODUCERS, ReplayFault, RingState, StepFault, is_producer_count, opening_words, replay,
+    Look, MOST_PRODUCERS, ReplayFault, RingState, StepFault, is_producer_count, judged_size,
+    opening_words, replay,
 };
 pub use ticket::{HeldTicket, Ticket, TicketChange};
 pub use tickets::Tickets;

@@ -7,14 +7,14 @@ ghost use Rattle.ring_core.specs.Parts.{producer_may, processor_may, may_make, p
 ghost use Rattle.ring_core.specs.Words.{has_body, is_invalid};
 ghost use Rattle.ring_core.specs.Tickets.{open_ticket, shows_room};
 ghost use Rattle.ring_core.specs.declared.access.Access.TheVariants.{LoadReadIndex};
-ghost use Rattle.ring_core.specs.declared.part.Part.TheVariants.{Processor, Producer};
+ghost use Rattle.ring_core.specs.declared.part.SeatPart.TheVariants.{Processor, Producer};
 ghost use Rattle.ring_core.specs.Calls.{made_of, publication, retiring, showing};
-ghost use Rattle.ring_core.specs.InTurn.{collecting, publishing};
+ghost use Rattle.ring_core.specs.InTurn.{collecting, stored_if};
 ghost use Rattle.ring_core.specs.Runs.{after_own};
 ghost use Rattle.ring_core.specs.inner.Together.{after_all};
 
 use crate::access::{Access, Made};
-use crate::calls::{has_room, publication, showing};
+use crate::calls::{publication, showing};
 use crate::log::Log;
 use crate::ticket::{Ticket, has_body, is_body, known, packet_of, whole, with_word};
 use crate::tickets::Tickets;
@@ -47,7 +47,7 @@ pub struct ProcessorPart {
 
 /// What one seat knows.
 #[derive(Drop, Debug)]
-pub enum Part {
+pub enum SeatPart {
     Processor(ProcessorPart),
     Producer(ProducerPart),
 }
@@ -99,19 +99,19 @@ impl ProducerPart {
         Ok(())
     }
 
-    /// Notes a publication whose look saw this read index: the look, and, where that shows room, the stores.
+    /// Notes a publication whose look saw this read index: the look, and, if that saw room, the stores.
     /// Without an open ticket of this id nothing changes: whether there is one.
     pub(crate) fn publish(
         &mut self,
-        size: u64,
         ticket: PacketId,
         seen: u64,
+        room: bool,
         words: &[u64; 8],
     ) -> bool
         ensures open { result ≡ is_some (open_ticket ticket.0 self.old.tickets) }
-        ensures noted { Producer self.new ≡ after_all result (Producer self.old) (publishing size ticket.0 seen words.now) }
+        ensures noted { Producer self.new ≡ after_all result (Producer self.old) (stored_if room ticket.0 seen words.now) }
     {
-        if has_room(size, ticket, seen) {
+        if room {
             self.store(ticket, seen, words)
         } else {
             self.look(ticket, seen)
@@ -248,12 +248,12 @@ impl ProcessorPart {
     }
 }
 
-impl Part {
+impl SeatPart {
     /// The part of a producer as a ring opens. It takes no memory.
-    pub(crate) fn new_producer(alloc: Global) -> Part
+    pub(crate) fn new_producer(alloc: Global) -> SeatPart
         ensures { result ≡ new_producer }
     {
-        Part::Producer(ProducerPart {
+        SeatPart::Producer(ProducerPart {
             allowance: ALLOWANCE,
             tickets: Tickets::new(alloc),
             steps: Log::new(),
@@ -261,10 +261,10 @@ impl Part {
     }
 
     /// The part of the processor as a ring opens. It takes no memory.
-    pub(crate) fn new_processor() -> Part
+    pub(crate) fn new_processor() -> SeatPart
         ensures { result ≡ new_processor }
     {
-        Part::Processor(ProcessorPart {
+        SeatPart::Processor(ProcessorPart {
             retired: Log::new(),
             collected: [None; 8],
             raising: false,
@@ -277,8 +277,8 @@ impl Part {
         ensures { result ≡ may_make size self.now access }
     {
         match self {
-            Part::Processor(part) => part.may_make(access),
-            Part::Producer(part) => part.may_make(size, access),
+            SeatPart::Processor(part) => part.may_make(access),
+            SeatPart::Producer(part) => part.may_make(size, access),
         }
     }
 
@@ -291,29 +291,29 @@ impl Part {
         ensures due { OnErr result (access ≡ Access.Reserve) }
     {
         match self {
-            Part::Processor(part) => {
+            SeatPart::Processor(part) => {
                 part.record(access, old);
                 Ok(())
             }
-            Part::Producer(part) => part.record(access, old),
+            SeatPart::Producer(part) => part.record(access, old),
         }
     }
 
-    /// Notes a publication whose look saw this read index, as far as that shows room, if the seat may look for it:
+    /// Notes a publication whose look saw this read index, the stores if it saw room, if the seat may look for it:
     /// whether it may.
     pub(crate) fn publish(
         &mut self,
-        size: u64,
         ticket: PacketId,
         seen: u64,
+        room: bool,
         words: &[u64; 8],
     ) -> bool
-        ensures may { result ≡ may_make size self.old (LoadReadIndex ticket) }
-        ensures noted { self.new ≡ after_all result self.old (publishing size ticket.0 seen words.now) }
+        ensures may { (size : ℕ) → result ≡ may_make size self.old (LoadReadIndex ticket) }
+        ensures noted { self.new ≡ after_all result self.old (stored_if room ticket.0 seen words.now) }
     {
         match self {
-            Part::Processor(_) => false,
-            Part::Producer(part) => part.publish(size, ticket, seen, words),
+            SeatPart::Processor(_) => false,
+            SeatPart::Producer(part) => part.publish(ticket, seen, room, words),
         }
     }
 
@@ -323,8 +323,8 @@ impl Part {
         ensures noted { self.new ≡ after_all result self.old (collecting words.now) }
     {
         match self {
-            Part::Processor(part) => part.collect(words),
-            Part::Producer(_) => false,
+            SeatPart::Processor(part) => part.collect(words),
+            SeatPart::Producer(_) => false,
         }
     }
 
@@ -334,8 +334,8 @@ impl Part {
         ensures noted { self.new ≡ after_all result self.old (retiring index) }
     {
         match self {
-            Part::Processor(part) => part.retire(index),
-            Part::Producer(_) => false,
+            SeatPart::Processor(part) => part.retire(index),
+            SeatPart::Producer(_) => false,
         }
     }
 }

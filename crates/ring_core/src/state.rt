@@ -3,7 +3,7 @@
 ghost use Rattle.std.specs.Prelude.{◌≡◌, ◌≤◌, ◌↔◌, ◌+◌, IfOk, IfErr, OnErr, Err, length, slice_index, true, false};
 ghost use Rattle.aql_packet.specs.Ring.{is_ring_size};
 ghost use Rattle.ring_core.specs.declared.access.Access.{Access};
-ghost use Rattle.ring_core.specs.Machine.{Makes, is_allowed, opened, Replays, is_producer_count, producers_of, write_index, read_index};
+ghost use Rattle.ring_core.specs.Machine.{Makes, is_allowed, opened, Replays, is_producer_count, judged_size, producers_of, write_index, read_index};
 ghost use Rattle.ring_core.specs.Rule.{IsRule, processor_of};
 ghost use Rattle.ring_core.specs.Faults.{IsReplayFault, fault_at};
 ghost use Rattle.ring_core.specs.InTurn.{Collects, Publishes, Reserves, Retires, packet_among};
@@ -12,7 +12,7 @@ ghost use Rattle.ring_core.specs.inner.Together.{packet_in, packet_put};
 
 use crate::access::{Access, READ_PLACE, Seen, Step, WRITE_PLACE, word_place};
 use crate::calls::has_room;
-use crate::part::{Part, ProcessorPart};
+use crate::part::{ProcessorPart, SeatPart};
 use aql_packet::{INVALID, PacketId, is_invalid};
 use std::alloc::{AllocError, Global};
 use std::marker::Model;
@@ -23,7 +23,7 @@ use std::marker::Model;
 pub struct RingState {
     size: u64,
     words: Vec<u64>,
-    parts: Vec<Part>,
+    parts: Vec<SeatPart>,
 }
 
 impl Model for RingState {
@@ -36,6 +36,15 @@ impl Model for RingState {
     ghost view = { λ s. machine_of s.size s.words.items s.parts.items };
 
     ghost invariant = { λ s. IsRing (machine_of s.size s.words.items s.parts.items) };
+}
+
+/// What a producer's look for room came to.
+#[derive(Clone, Copy, Debug)]
+pub enum Look {
+    /// It saw room, and the packet is published.
+    Published,
+    /// The read index that it saw shows no room: the slot is still taken, and the ticket stays open.
+    Busy(u64),
 }
 
 /// Why a step was not made. Nothing has changed.
@@ -78,11 +87,26 @@ impl From<AllocError> for StepFault {
 /// How many producers a ring has at the most.
 pub const MOST_PRODUCERS: u64 = 16;
 
+// A size that no ring has.
+const NO_RING_SIZE: u64 = 0;
+
 /// Whether a ring may have so many producers: at least one.
 pub fn is_producer_count(producers: u64) -> bool
     ensures { result ≡ is_producer_count producers }
 {
     1 <= producers && producers <= MOST_PRODUCERS
+}
+
+/// The size by which the opening of a ring of so many slots for so many producers is judged: a bad count of
+/// producers is refused as a bad size is, at the same place in the order of refusals (own).
+pub fn judged_size(size: u64, producers: u64) -> u64
+    ensures { result ≡ judged_size size producers }
+{
+    if is_producer_count(producers) {
+        size
+    } else {
+        NO_RING_SIZE
+    }
 }
 
 impl RingState {
@@ -113,7 +137,7 @@ impl RingState {
     }
 
     /// The part of each seat: the processor's, then those of the producers.
-    pub fn parts(&self) -> &[Part]
+    pub fn parts(&self) -> &[SeatPart]
         ensures { result.now ≡ self.now.parts }
     {
         self.parts.as_slice()
@@ -138,8 +162,8 @@ impl RingState {
         ensures { result.now ≡ processor_of self.now.parts }
     {
         match &self.parts[0] {
-            Part::Processor(part) => part,
-            Part::Producer(_) => unreachable!(),
+            SeatPart::Processor(part) => part,
+            SeatPart::Producer(_) => unreachable!(),
         }
     }
 
@@ -182,15 +206,15 @@ impl RingState {
         }
     }
 
-    /// A producer publishes a packet under its ticket, and tells the read index that it saw: it looks for room, and,
-    /// where that index shows room, stores the body, and the header last. Refused where the ticket is none of its
-    /// open ones: no step is made then. Behind the look no step is refused.
+    /// A producer publishes a packet under its ticket: it looks for room, and, where the read index that it saw shows
+    /// room, stores the body, and the header last. Refused where the ticket is none of its open ones: no step is made
+    /// then. After the look no step is refused.
     pub fn publish(
         &mut self,
         seat: u64,
         ticket: PacketId,
         words: &[u64; 8],
-    ) -> Result<u64, StepFault>
+    ) -> Result<Look, StepFault>
         requires { is_invalid (slice_index words.now 0) ≡ false }
         ensures { Publishes self.old seat ticket.0 words.now result self.new }
     {
@@ -198,15 +222,16 @@ impl RingState {
             return Err(StepFault::NotAStep);
         }
         let seen = self.words[READ_PLACE];
-        if !self.parts[seat as usize].publish(self.size, ticket, seen, words) {
+        let room = has_room(self.size, ticket, seen);
+        if !self.parts[seat as usize].publish(ticket, seen, room, words) {
             return Err(StepFault::NotAStep);
         }
-        if !has_room(self.size, ticket, seen) {
-            return Ok(seen);
+        if !room {
+            return Ok(Look::Busy(seen));
         }
         let slot = word_place(self.size, ticket.0, 0);
         put_packet(&mut self.words, slot, words);
-        Ok(seen)
+        Ok(Look::Published)
     }
 
     /// The processor collects the packet at the read index, header first; none where the header's type is INVALID.
@@ -375,13 +400,13 @@ fn packet_among(words: [u64; 8]) -> Option<[u64; 8]>
 
 // The parts of a ring as it opens.
 #[tactic(auto, using(std::proofs::lemmas::List::replicate_more))]
-fn opening_parts(alloc: Global, producers: u64) -> Result<Vec<Part>, AllocError>
+fn opening_parts(alloc: Global, producers: u64) -> Result<Vec<SeatPart>, AllocError>
     ensures { IfOk result (λ parts. parts.items ≡ (opened 0 producers).parts) }
 {
     let mut parts = Vec::new(alloc);
-    parts.push(Part::new_processor())?;
+    parts.push(SeatPart::new_processor())?;
     for _producer in 0..producers {
-        parts.push(Part::new_producer(alloc))?;
+        parts.push(SeatPart::new_producer(alloc))?;
     }
     Ok(parts)
 }

@@ -11,7 +11,6 @@ use ring::{
     Peeked, ProcessorPass, ProducerPass, Publication, Ring, RingFault, SettleFault, SettleRoom,
     Ticket, settle, settle_in,
 };
-use std::alloc::Global;
 use std::process::Abort;
 use std::test::Fail;
 

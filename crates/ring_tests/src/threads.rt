@@ -1,12 +1,13 @@
 //! Rings that many threads use at once: a thread for each producer, and the processor on another.
 
-ghost use Rattle.std.specs.Prelude.{◌≡◌, ◌*◌, ◌<◌, All};
+ghost use Rattle.std.specs.Prelude.{◌≡◌, ◌<◌, All};
 ghost use Rattle.std.specs.Thread.{IsSync};
 
 use crate::load::{
     Turns, packet, publish_all, publish_one, publish_under, shows_nothing, stand_whole, take_all,
     take_shown_all,
 };
+use crate::two_threads::through;
 use ring::{ProcessorPass, ProducerPass, Ring, settle};
 use std::test::Fail;
 use std::thread;
@@ -116,6 +117,18 @@ fn publish_round_a_gap<R: Threads + Sync>(
         16,
         &|_, pass| publish_or_end(ring, pass, packets),
     );
+}
+
+#[test]
+fn what_one_thread_sends_comes_out_in_the_other(rt: HostRuntime) {
+    let Ok((ring, mut producers, processor)) = Ring::new(rt.alloc(), 2, 1) else {
+        panic!(rt; "a ring opens")
+    };
+    let Some(producer) = producers.pop() else {
+        panic!(rt; "there is one")
+    };
+    let bytes = packet(1, 0);
+    assert!(rt; through(&rt, &ring, producer, processor, &bytes) == Some(bytes));
 }
 
 #[test]

@@ -9,8 +9,6 @@ use Rattle.policy.specs.declared.rights.Rights.{Rights}
 use Rattle.policy.specs.Object.{kind_of, number_of}
 use Rattle.policy.specs.KindNames.{name_of_kind}
 use Rattle.policy.specs.Policy.{Declared}
-use Rattle.queue_error.specs.declared.error.QueueError.{QueueError}
-use Rattle.queue_error.specs.Texts.{text_of_rule, text_of_end}
 use Rattle.signals.specs.declared.operation.SignalOp.{SignalOp}
 use Rattle.signals.specs.declared.operation.SignalOp.TheVariants as op
 use Rattle.core_model.specs.declared.outcome.Satisfied.{Satisfied}
@@ -33,6 +31,7 @@ use Rattle.core_model.specs.declared.entry.Entry.{Entry}
 use Rattle.words.specs.Bytes.{text_of_address, text_of_bytes}
 use Rattle.script.specs.Rights.{text_of_rights}
 use Rattle.words.specs.Names.{name_of_client}
+use Rattle.words.specs.Errors.{text_of_broken}
 use Rattle.script.specs.Lists.{with_commas}
 
 -- the word of a signal's operation
@@ -97,10 +96,6 @@ positions_seen seen = filter (seen_at seen) (1 ∷ 2 ∷ 3 ∷ 4 ∷ 5 ∷ [])
 -- ` seen K,K`
 abbrev pub text_of_seen : Satisfied → List ℕ
 text_of_seen seen = codes " seen " ++ with_commas (map decimal (positions_seen seen))
-
--- the rule of an error, and its place where there is one
-abbrev pub text_of_broken : QueueError → List ℕ
-text_of_broken error = text_of_rule error.rule ++ text_of_end error.place
 
 -- what became of a packet that was handed over
 abbrev pub text_of_take : Taken → List ℕ

@@ -1,20 +1,19 @@
 //! The audit as text.
 
 ghost use Rattle.std.specs.Prelude.{◌≡◌, ◌++◌, ◌+◌, ◌<◌, OnOk, flat_map, decimal, string_bytes};
-ghost use Rattle.script.specs.Entries.{name_of_operation, text_of_packet, text_of_rights_on, opened, text_of_call, text_of_opening, seen_at, text_of_take, text_of_work, text_of_poll, text_of_event, text_of_seen, text_of_broken, text_of_result, text_of_effect, text_of_entry, text_of_entries, text_of_audit, text_of_rotated};
+ghost use Rattle.script.specs.Entries.{name_of_operation, text_of_packet, text_of_rights_on, opened, text_of_call, text_of_opening, seen_at, text_of_take, text_of_work, text_of_poll, text_of_event, text_of_seen, text_of_result, text_of_effect, text_of_entry, text_of_entries, text_of_audit, text_of_rotated};
 ghost use Rattle.script.specs.Lists.{comma_if};
 
 use crate::rights::{write_item, write_rights};
 use aql_packet::{ClientId, PacketId, QueueId};
 use core_model::{Call, Effect, Entry, Event, Outcome, Part, Polled, Satisfied, Taken, Worked};
 use policy::{Object, Policy, Rights};
-use queue_error::QueueError;
 use signals::SignalOp;
 use std::alloc::AllocError;
-use words::{write_address, write_bytes, write_client};
+use words::{write_address, write_broken, write_bytes, write_client};
 
-// The word of a signal's operation.
-fn operation_name(operation: &SignalOp) -> &'static str
+/// The word of a signal's operation.
+pub fn operation_name(operation: &SignalOp) -> &'static str
     ensures { result.now ≡ name_of_operation operation.now }
 {
     match operation {
@@ -161,17 +160,6 @@ fn write_position(out: &mut String, behind: bool, position: u8) -> Result<(), Al
 {
     write_item(out, behind, "")?;
     write!(out, "{position}")
-}
-
-// Writes the rule of an error, and its place where there is one.
-fn write_broken(out: &mut String, error: &QueueError) -> Result<(), AllocError>
-    ensures { OnOk result (string_bytes out.new ≡ string_bytes out.old ++ text_of_broken error.now) }
-{
-    write!(out, "{}", error.rule)?;
-    match error.place {
-        Some(place) => write!(out, " {place}"),
-        None => Ok(()),
-    }
 }
 
 // Writes what became of a packet that was handed over.

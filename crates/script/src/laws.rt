@@ -26,20 +26,20 @@ ghost use Rattle.words.specs.Lines.{Word};
 
 use crate::watch::Watch;
 use policy::Policy;
-use world::{each_run_goes_on, the_headline};
+use world::{law_each_run_goes_on, law_headline};
 
 /// The lines of a text, each with a line feed behind it, are the text, with a line feed behind a last line that has
 /// none; and no line has a line feed in it.
-pub fn lines_give_their_text_back()
+pub fn law_lines_give_their_text_back()
     ensures back { (text : List ℕ) → joined (lines_of text) ≡ ended text }
     ensures lines { (text : List ℕ) → list_all is_line (lines_of text) ≡ true }
 {}
 
 /// What a line does is some requests to the world, served in turn, and hands out the part that its reply tells of, if it
 /// does. So is what a run of a script does, however it ends; so a world that was in step stays so, behind the parts that
-/// the run handed out (`each_run_goes_on`), and over a world that was just opened over a policy, with any kernels, the
+/// the run handed out (`law_each_run_goes_on`), and over a world that was just opened over a policy, with any kernels, the
 /// headline holds.
-pub fn scripts_are_requests(policy: &Policy)
+pub fn law_scripts_are_requests(policy: &Policy)
     ensures line { (later : List Declared) (asked : Command) (old : Joined) (told : Told) (new : Joined) → does later asked old told new → Reaches old (parts_told told) new }
     ensures run { (later : List Declared) (old new : Joined) (held holds had left : Option (List ℕ)) (result : Result ⊤ ScriptFault) →
         RunsScript (worlds later) old new held holds had left result → (parts : List Part) × Reaches old parts new }
@@ -47,8 +47,8 @@ pub fn scripts_are_requests(policy: &Policy)
         IsBegun opened policy.now kernels capacity → Runs (worlds later) opened lines text world →
         (parts : List Part) × Reaches opened parts world × Headline policy.now (entries_in parts) world }
 {
-    the_headline(policy);
-    each_run_goes_on();
+    law_headline(policy);
+    law_each_run_goes_on();
 }
 
 /// Whatever a watcher says, the lines that it lets go by and the one at which it ends a run do what they do unwatched, and
@@ -63,7 +63,7 @@ pub fn watched_runs_are_runs<V: Watch>()
 /// The table of forms is what lines are read by. The words of a line that asks something are those of one of its forms,
 /// the first its name and each other one of its class. The words of a form ask something, whatever the policy is; those
 /// of `reload` where there is a further policy of that number.
-pub fn lines_are_of_forms()
+pub fn law_lines_are_of_forms()
     ensures formed { (policy : Declared) (later : ℕ) (name : Word) (words : List Word) (asked : Line) →
         asked_by policy later (name ∷ words) ≡ Some asked → is_formed form_rows name words ≡ true }
     ensures read { (policy : Declared) (later : ℕ) (name : Word) (words : List Word) → is_formed form_rows name words ≡ true →
@@ -71,7 +71,7 @@ pub fn lines_are_of_forms()
 {}
 
 /// The code's limits of a line and of a run's reads are those of the rules.
-pub fn numbers_are_those_of_the_rules()
+pub fn law_numbers_are_those_of_the_rules()
     ensures line { LONGEST_LINE ≡ longest_line }
     ensures reads { MOST_READS ≡ most_reads }
 {}

@@ -24,21 +24,21 @@ mod watch;
 mod watchers;
 
 pub use command::{Command, LineAnswer, LineReply, NumberMeaning};
-pub use entries::write_entry;
+pub use entries::{operation_name, write_entry};
 pub use expansions::perform;
 pub use fault::ScriptFault;
 pub use forms::{Class, LineForm, Operand, line_forms};
 pub use io_log::{IoLog, flush_once};
 pub use laws::{
-    lines_are_of_forms, lines_give_their_text_back, numbers_are_those_of_the_rules,
-    scripts_are_requests, watched_runs_are_runs,
+    law_lines_are_of_forms, law_lines_give_their_text_back, law_numbers_are_those_of_the_rules,
+    law_scripts_are_requests, watched_runs_are_runs,
 };
 pub use lines::{LONGEST_LINE, Line, read_line};
 pub use refusals::{RefusalRow, refusal_name, refusal_number, refusal_rows};
-pub use replies::write_line;
-pub use rules::{RuleRow, rule_rows};
+pub use replies::{cause_name, write_line};
+pub use rules::{Occasion, RuleRow, rule_rows};
 pub use run::{run_script, run_watched};
 pub use streams::write_through;
 pub use watch::{Flow, Watch};
 pub use watchers::{Nobody, Strict, strictly};
-pub use words::{numbers_are_sums_of_their_digits, split_word};
+pub use words::{law_numbers_are_sums_of_their_digits, split_word};

@@ -31,8 +31,8 @@ fn write_details(out: &mut String, refusal: &Refusal) -> Result<(), AllocError>
     }
 }
 
-// Why a packet waits, as a word.
-fn cause_name(cause: &WaitCause) -> &'static str
+/// Why a packet waits, as a word.
+pub fn cause_name(cause: &WaitCause) -> &'static str
     ensures { result.now ≡ text_of_cause cause.now }
 {
     match cause {

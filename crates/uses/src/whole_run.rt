@@ -12,11 +12,11 @@ ghost use Rattle.world.specs.Headline.{Headline};
 ghost use Rattle.world.specs.InStep.{IsJoinedBehind};
 
 use aql_packet::QueueId;
-use script::{run_script, scripts_are_requests};
+use script::{law_scripts_are_requests, run_script};
 use sequences::Reserved;
 use std::alloc::Global;
 use std::io;
-use world::{Reply, Request, World, each_run_goes_on, lane_calls_are_requests};
+use world::{Reply, Request, World, law_each_run_goes_on, law_lane_calls_are_requests};
 
 /// The replies to two lists of requests.
 #[derive(Drop)]
@@ -29,7 +29,7 @@ pub struct Replies {
 fn submit(alloc: Global, world: &mut World, words: &[u64; 8])
     ensures { Reaches world.old [] world.new }
 {
-    lane_calls_are_requests();
+    law_lane_calls_are_requests();
     let _sent = world.submit(alloc, QueueId(1), 1, words);
 }
 
@@ -37,7 +37,7 @@ fn submit(alloc: Global, world: &mut World, words: &[u64; 8])
 fn run<R: io::Read, W: io::Write>(alloc: Global, world: &mut World, reader: &mut R, writer: &mut W)
     ensures { (parts : List Part) × Reaches world.old parts world.new }
 {
-    scripts_are_requests(world.policy());
+    law_scripts_are_requests(world.policy());
     let _ended = run_script(alloc, reader, writer, world, &[]);
 }
 
@@ -56,7 +56,7 @@ pub fn drive<R: io::Read, W: io::Write>(
     ensures { (policy : Declared) (prior : List Entry) → IsJoinedBehind policy prior world.old →
         IfSome result (λ replies. (parts : List Part) × Headline policy (((prior ++ handed_out replies.first.items) ++ handed_out replies.second.items) ++ entries_in parts) world.new) }
 {
-    each_run_goes_on();
+    law_each_run_goes_on();
     let first = world.run(alloc, first).ok()?;
     let second = world.run(alloc, second).ok()?;
     submit(alloc, world, words);

@@ -4,3 +4,4 @@ pub mod Bytes
 pub mod Packets
 pub mod Items
 pub mod Names
+pub mod Errors

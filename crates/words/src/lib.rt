@@ -6,6 +6,7 @@
 
 mod addresses;
 mod digits;
+mod errors;
 mod hexadecimal;
 mod items;
 mod laws;
@@ -15,9 +16,10 @@ mod numbers;
 mod packets;
 
 pub use addresses::{address, put_address, write_address};
+pub use errors::write_broken;
 pub use hexadecimal::{are_bytes, bytes, put_bytes, write_bytes};
 pub use items::split_item;
-pub use laws::numbers_are_sums_of_their_digits;
+pub use laws::law_numbers_are_sums_of_their_digits;
 pub use lines::{
     five_words, four_words, is_blank, is_word, no_words, one_word, skip_blanks, split_word,
     three_words, two_words,

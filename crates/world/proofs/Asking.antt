@@ -14,14 +14,14 @@ use Rattle.core_model.specs.Owed.{Owed, answers, enters, refuses}
 use Rattle.core_model.specs.Legal.{due, entry_of, history_after}
 use Rattle.core_model.specs.Rotation.{Rotates}
 use Rattle.ring_core.specs.declared.access.Step.{Step}
-use Rattle.ring_core.specs.Machine.{Machine, read_index}
+use Rattle.ring_core.specs.Machine.{Machine, read_index, judged_size}
 use Rattle.ring_core.specs.Parts.{collected_packet}
 use Rattle.ring_core.specs.Rule.{processor_of}
 use Rattle.world.specs.declared.request.Request.{Request}
 use Rattle.world.specs.declared.request.Request.TheVariants as request
 use Rattle.world.specs.declared.reply.Refusal.{Refusal}
 use Rattle.world.specs.Asked.{AreOf, IsAsAsked, IsOf}
-use Rattle.world.specs.Dues.{AreReplies, Due, IsServed, Meets, Reply, asked_size, due_collected, due_opening, due_query, due_step, due_take, due_where, handed, handed_out, hindrance, is_decided, rotated_reply, taking}
+use Rattle.world.specs.Dues.{AreReplies, Due, IsServed, Meets, Reply, due_collected, due_opening, due_query, due_step, due_take, due_where, handed, handed_out, hindrance, is_decided, rotated_reply, taking}
 use Rattle.world.specs.Headline.{IsBegun}
 use Rattle.world.specs.States.{Joined, ring_of}
 use Rattle.world.proofs.GoingOn.{kernels-stay}
@@ -107,7 +107,7 @@ enters-one old new (request.Take queue) reply is =
     by-due old new (request.Take queue) (due_take old queue (ring_of old queue)) reply (unparted_at_take old queue (ring_of old queue)) (after-take old queue (ring_of old queue)) is
 enters-one old new (request.OpenQueue client agent size producers) reply is =
     let asked : Request = request.OpenQueue client agent size producers in
-    let opening : Event = event.Open client agent (asked_size size producers) in
+    let opening : Event = event.Open client agent (judged_size size producers) in
     by-due old new asked (due_opening old size producers opening (due old.core opening)) reply (unparted_opening old size producers opening (due old.core opening)) (after-event old asked opening (due old.core opening) refl) is
 enters-one old new (request.Call asked) reply is =
     by-due old new (request.Call asked) _ reply (unparted_event old (event.Call asked) (due old.core (event.Call asked))) (after-event old (request.Call asked) (event.Call asked) (due old.core (event.Call asked)) refl) is

@@ -1,6 +1,6 @@
 -- What the code of a call on a queue's ring did is requests made in turn, and what is kept beside each ring stays true.
-use Rattle.std.proofs.Common.{◌≡◌, ◌≢◌, ℕ, ◌+◌, ◌-◌, ◌≤◌, Bool, true, false, List, [], ◌∷◌, ◌++◌, length, refl, sym, ap, ◌∙◌, subst, Option, Some, None, Result, Ok, Err, inl, inr, arith}
-use Rattle.std.specs.Prelude.{⊤, ◌&&◌, nat_lt, not, option_map, slice_get, slice_set, if◌then◌else◌}
+use Rattle.std.proofs.Common.{◌≡◌, ℕ, ◌+◌, ◌-◌, ◌≤◌, Bool, true, false, List, [], ◌∷◌, ◌++◌, length, refl, sym, ap, ◌∙◌, subst, Option, Some, None, Result, Ok, Err, inl, inr, arith}
+use Rattle.std.specs.Prelude.{nat_lt, not, if◌then◌else◌}
 use Rattle.std.specs.List.{list_all}
 use Rattle.std.proofs.lemmas.Bool.Decides.{nat_tests}
 use Rattle.aql_packet.specs.declared.ids.PacketId.{PacketId}
@@ -29,9 +29,9 @@ use Rattle.world.specs.Actions.{Action, Reaches, asks, makes, reads, step}
 use Rattle.world.specs.Dues.{handed_out, hindrance, is_decided}
 use Rattle.world.specs.InStep.{IsJoined, Stands}
 use Rattle.world.specs.Lanes.{peek, publish_where, retire}
-use Rattle.world.specs.Making.{AreDecided, rings_of, with_queue_ring}
+use Rattle.world.specs.Making.{AreDecided, with_queue_ring}
 use Rattle.world.specs.States.{Joined, joined, ring_of}
-use Rattle.world.specs.inner.Calling.{CallsAt, CollectsOn, PublishesOn, RefusesOn, RetiresOn, sent_as}
+use Rattle.world.specs.inner.Calling.{CallsAt, CollectsOn, PublishesOn, RetiresOn}
 use Rattle.world.proofs.Acting.{stopped}
 use Rattle.world.proofs.Calling.{Over, asks_nowhere, asks_refused, peeked, published, retired}
 use Rattle.world.proofs.Deciding.{decided_put}

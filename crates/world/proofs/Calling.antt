@@ -1,32 +1,28 @@
 -- The steps of a call on a queue's ring are requests, made in turn.
-use Rattle.std.proofs.Common.{◌≡◌, ◌≢◌, ℕ, zero, suc, ◌+◌, ◌-◌, Bool, true, false, List, [], ◌∷◌, ◌++◌, length, refl, sym, ap, ◌∙◌, subst, Option, Some, None, Result, Ok, Err, inl, inr, arith}
-use Rattle.std.specs.Prelude.{⊤, ◌&&◌, get_or, drop, not, option_map, replicate, slice_get, slice_index, slice_set, if◌then◌else◌}
+use Rattle.std.proofs.Common.{◌≡◌, ℕ, ◌+◌, ◌-◌, Bool, true, false, List, [], ◌∷◌, ◌++◌, length, refl, sym, ap, ◌∙◌, subst, Option, Some, None, Result, Ok, Err, inl}
+use Rattle.std.specs.Prelude.{◌&&◌, get_or, option_map, replicate, slice_get, slice_index, slice_set, if◌then◌else◌}
 use Rattle.std.specs.Option.{option_map_or}
 use Rattle.aql_packet.specs.declared.ids.PacketId.{PacketId}
 use Rattle.aql_packet.specs.declared.ids.QueueId.{QueueId}
 use Rattle.core_model.specs.declared.refusal.Refusal.TheVariants as why
 use Rattle.ring_core.specs.declared.access.Access.{Access}
-use Rattle.ring_core.specs.declared.access.Access.TheVariants.{Reserve, LoadReadIndex, StoreBody, StoreHeader, LoadHeader, LoadBody, ClearHeader, RaiseReadIndex}
+use Rattle.ring_core.specs.declared.access.Access.TheVariants.{LoadReadIndex, StoreBody, StoreHeader, LoadHeader, LoadBody, ClearHeader, RaiseReadIndex}
 use Rattle.ring_core.specs.declared.access.Made.{Made}
-use Rattle.ring_core.specs.declared.access.Seen.{Seen}
 use Rattle.ring_core.specs.declared.access.Seen.TheVariants as seen
 use Rattle.ring_core.specs.declared.access.Step.{Step}
 use Rattle.ring_core.specs.Calls.{has_room, made_of, publication, retiring, showing}
-use Rattle.ring_core.specs.InTurn.{MadeInTurn, collecting, packet_among, publishing, step_by}
+use Rattle.ring_core.specs.InTurn.{MadeInTurn, collecting, look_if, packet_among, publishing, step_by}
 use Rattle.ring_core.specs.Machine.{Machine, Makes, found, is_allowed, made, read_index}
 use Rattle.ring_core.specs.Words.{is_invalid}
 use Rattle.ring_core.proofs.Gathering.{eight}
 use Rattle.ring_core.proofs.Turning.{set_twice}
-use Rattle.world.specs.declared.lane.Sent.{Sent}
 use Rattle.world.specs.declared.lane.Sent.TheVariants as sent
-use Rattle.world.specs.declared.lane.Shown.{Shown}
 use Rattle.world.specs.declared.reply.Answer.{Answer}
-use Rattle.world.specs.declared.reply.Answer.TheVariants as answer
 use Rattle.world.specs.declared.reply.Refusal.{Refusal}
 use Rattle.world.specs.declared.reply.Refusal.TheVariants as refusal
-use Rattle.world.specs.Actions.{Action, and_then, asks, if_else, makes, number_read, packet_read, reads, returns, step}
+use Rattle.world.specs.Actions.{Action, and_then, asks, if_else, makes, number_read, reads, returns, step}
 use Rattle.world.specs.Dues.{Meets, answer_to, due_step, due_where, has_spent, hindrance, is_decided, may_follow, reserves}
-use Rattle.world.specs.Lanes.{collects, peek, publish, publish_room, publish_where, retire, shown_as, shows, stores, stores_body}
+use Rattle.world.specs.Lanes.{collects, peek, publish_where, retire, shown_as, shows, stores, stores_body}
 use Rattle.world.specs.States.{Joined, joined, ring_of, slots_of, with_ring}
 use Rattle.world.specs.inner.Calling.{sent_as}
 use Rattle.world.proofs.Numbering.{numbered_same, numbered_set}
@@ -37,11 +33,6 @@ use Rattle.world.proofs.Numbering.{numbered_same, numbered_set}
 pub unhindering : (decided : Bool) (ring : Machine) (step : Step) → reserves step.access ≡ false → may_follow decided step.access ≡ true → is_allowed ring step ≡ true → hindrance decided ring step ≡ None
 unhindering decided ring step none follows allowed =
     λ i. if none i && has_spent (slice_get ring.parts step.seat) then Some refusal.Spent else if allowed i && follows i then None else Some refusal.NotAStep
-
--- one that isn't allowed, and reserves nothing
-pub hindering : (decided : Bool) (ring : Machine) (step : Step) → reserves step.access ≡ false → is_allowed ring step ≡ false → hindrance decided ring step ≡ Some refusal.NotAStep
-hindering decided ring step none allowed =
-    λ i. if none i && has_spent (slice_get ring.parts step.seat) then Some refusal.Spent else if allowed i && may_follow decided step.access then None else Some refusal.NotAStep
 
 -- a header that would be cleared too early
 pub undecided : (decided : Bool) (ring : Machine) → decided ≡ false → hindrance decided ring (step_by 0 ClearHeader) ≡ Some refusal.NotAStep
@@ -251,7 +242,7 @@ module _ (world : Joined) (queue : QueueId) (start : Machine) (has : ring_of wor
 
     publishes_by : (words : List ℕ) (last : Machine) (b : Bool) → has_room start.size ticket.0 read ≡ b → length words ≡ 8
         → MadeInTurn start producer (if b then publication ticket.0 read words else made_of (LoadReadIndex ticket) read ∷ []) last
-        → publish_where queue producer ticket words (Over start) (Ok (if b then sent.Published ticket else sent.Busy ticket read)) (Over last)
+        → publish_where queue producer ticket words (Over start) (Ok (sent_as ticket (look_if b read))) (Over last)
     publishes_by words last false full n turn = publishes_busy words last full turn
     publishes_by words last true room n turn =
         subst (λ (ws : List ℕ). publish_where queue producer ticket ws (Over start) (Ok (sent.Published ticket)) (Over last)) (sym (eight 0 words n))
@@ -259,7 +250,7 @@ module _ (world : Joined) (queue : QueueId) (start : Machine) (has : ring_of wor
         (subst (λ (ws : List ℕ). MadeInTurn start producer (publication ticket.0 read ws) last) (eight 0 words n) turn))
 
     pub published : (words : List ℕ) (last : Machine) → length words ≡ 8 → MadeInTurn start producer (publishing start.size ticket.0 read words) last
-        → publish_where queue producer ticket words world (Ok (sent_as start.size ticket read)) (Over last)
+        → publish_where queue producer ticket words world (Ok (sent_as ticket (look_if (has_room start.size ticket.0 read) read))) (Over last)
     published words last n turn =
-        subst (λ (w : Joined). publish_where queue producer ticket words w (Ok (sent_as start.size ticket read)) (Over last)) over_start
+        subst (λ (w : Joined). publish_where queue producer ticket words w (Ok (sent_as ticket (look_if (has_room start.size ticket.0 read) read))) (Over last)) over_start
         (publishes_by words last (has_room start.size ticket.0 read) refl n turn)

@@ -13,7 +13,7 @@ use Rattle.policy.specs.Policy.{Declared, numbered}
 use Rattle.core_model.specs.declared.event.Event.{Event}
 use Rattle.core_model.specs.declared.event.Event.TheVariants.{Open, Reload, Take}
 use Rattle.core_model.specs.declared.event.Query.{Query}
-use Rattle.core_model.specs.declared.event.Request.TheVariants as asked
+use Rattle.core_model.specs.declared.event.CoreRequest.TheVariants as asked
 use Rattle.core_model.specs.declared.entry.Entry.{Entry}
 use Rattle.core_model.specs.declared.outcome.WaitCause.{WaitCause}
 use Rattle.core_model.specs.declared.outcome.Outcome.{Outcome}
@@ -40,7 +40,7 @@ use Rattle.ring_core.specs.declared.access.Access.{Access}
 use Rattle.ring_core.specs.declared.access.Access.TheVariants.{Reserve, LoadReadIndex, StoreBody, StoreHeader, LoadHeader, LoadBody, ClearHeader, RaiseReadIndex}
 use Rattle.ring_core.specs.declared.access.Step.{Step}
 use Rattle.ring_core.specs.Parts.{collected_packet}
-use Rattle.ring_core.specs.Machine.{made, producers_of, read_index}
+use Rattle.ring_core.specs.Machine.{made, producers_of, read_index, judged_size}
 use Rattle.ring_core.specs.Rule.{processor_of}
 use Rattle.ring_core.proofs.Publication.{Moved, index_moves}
 use Rattle.world.specs.declared.queue_ring.QueueRing.{QueueRing}
@@ -50,7 +50,7 @@ use Rattle.world.specs.declared.request.Request.TheVariants as request
 use Rattle.world.specs.declared.reply.Refusal.{Refusal}
 use Rattle.aql_packet.specs.Words.{bytes_of}
 use Rattle.core_model.specs.declared.event.Event.TheVariants as event
-use Rattle.world.specs.Dues.{Reply, asked_size, hindrance, is_decided, taking}
+use Rattle.world.specs.Dues.{Reply, hindrance, is_decided, taking}
 use Rattle.world.specs.InStep.{IsInStep, IsJoinedBehind, IsUntouched, Stands}
 use Rattle.world.specs.Making.{AreDecided, MakesAt, MakesWhere, decided_after, ring_made, rings_of, with_queue_ring}
 use Rattle.world.specs.Obeying.{Asks, HandsOut, HandsOver, Obeys, Opens, TakesAt, new_ring, ring_taken, rings_opened}
@@ -261,8 +261,8 @@ module _ (core core' : History) (rings new : List QueueRing) (first : Declared) 
   opening_decided : (client : ClientId) (agent : AgentHandle) (size producers : ℕ) → Opens client agent size producers core rings reply core' new → AreDecided core' new
   opening_decided client agent size producers (made, meets, told, put) = subst (AreDecided core') (sym put) (opened_decided size producers made (by_due meets))
     where
-      by_due : MeetsOrLacks (Open client agent (asked_size size producers)) core core' (map_ok outcome.Opened made) → (queue : QueueId) → next_id (beginning core') core'.entries queue ≡ next_id (beginning core) core.entries queue
-      by_due (inl m) queue = ap (λ (x : History). next_id (beginning x) x.entries queue) m.history_is ∙ opening_next core client agent (asked_size size producers) (due core (Open client agent (asked_size size producers))) queue
+      by_due : MeetsOrLacks (Open client agent (judged_size size producers)) core core' (map_ok outcome.Opened made) → (queue : QueueId) → next_id (beginning core') core'.entries queue ≡ next_id (beginning core) core.entries queue
+      by_due (inl m) queue = ap (λ (x : History). next_id (beginning x) x.entries queue) m.history_is ∙ opening_next core client agent (judged_size size producers) (due core (Open client agent (judged_size size producers))) queue
       by_due (inr l) queue = ap (λ (x : History). next_id (beginning x) x.entries queue) l.history_is
 
   call_decided : (call : Call) → Asks (asked.Call call) core reply core' × (new ≡ rings) → AreDecided core' new

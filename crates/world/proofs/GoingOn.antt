@@ -1,25 +1,24 @@
 -- What a list of requests does goes on from where the audit began: the entries that are handed out, those of the audit, and the parts.
 use Rattle.std.proofs.Common.{◌≡◌, List, [], ◌∷◌, ◌++◌, append_assoc, refl, sym, ◌∙◌, ap, subst, Option, Some, None, Result, Ok, Err, inl, inr}
-use Rattle.std.specs.List.{cons_option, filter_map}
+use Rattle.std.specs.List.{cons_option}
 use Rattle.kernel_check.specs.Programs.{Program}
 use Rattle.policy.specs.Policy.{Declared}
 use Rattle.core_model.specs.declared.entry.Entry.{Entry}
 use Rattle.core_model.specs.declared.event.Event.{Event}
 use Rattle.core_model.specs.declared.event.Event.TheVariants as event
 use Rattle.core_model.specs.declared.refusal.Refusal as cores
-use Rattle.core_model.specs.declared.refusal.Refusal.TheVariants as core_refusal
 use Rattle.core_model.specs.declared.origin.Origin.{Origin}
 use Rattle.core_model.specs.History.{History, Start, beginning, opening_state}
 use Rattle.core_model.specs.History.{Part as Handed}
 use Rattle.core_model.specs.Legal.{IsLegal, IsWhole, SameOrigin, due}
 use Rattle.core_model.specs.Rotation.{GoOn, Rotates, entries_in}
-use Rattle.core_model.specs.States.{state_after}
 use Rattle.core_model.proofs.States.{part-legal, whole-legal}
+use Rattle.ring_core.specs.Machine.{judged_size}
 use Rattle.world.specs.declared.request.Request.{Request}
 use Rattle.world.specs.declared.request.Request.TheVariants as request
-use Rattle.world.specs.Dues.{AreReplies, Due, IsServed, Meets, Reply, asked_size, handed_out, part_of, parts_out, rotated_reply}
+use Rattle.world.specs.Dues.{AreReplies, Due, IsServed, Meets, Reply, handed_out, part_of, parts_out, rotated_reply}
 use Rattle.world.specs.InStep.{IsJoinedBehind}
-use Rattle.world.specs.States.{Joined, joined, ring_of}
+use Rattle.world.specs.States.{Joined, ring_of}
 use Rattle.world.proofs.Kept.{BeginsAlike, IsUnparted, replies_kept, unparted_at_step, unparted_at_take, unparted_event, unparted_opening, unparted_query, unrotated}
 
 -- ---- the same to begin from
@@ -70,7 +69,7 @@ hands-on : (old new : Joined) (asked : Request) (reply : Reply) → IsServed old
 hands-on old new (request.Step queue step) reply is = by-due old new _ reply (unparted_at_step old queue step (ring_of old queue)) is
 hands-on old new (request.Take queue) reply is = by-due old new _ reply (unparted_at_take old queue (ring_of old queue)) is
 hands-on old new (request.OpenQueue client agent size producers) reply is =
-    let opening : Event = event.Open client agent (asked_size size producers) in
+    let opening : Event = event.Open client agent (judged_size size producers) in
     by-due old new _ reply (unparted_opening old size producers opening (due old.core opening)) is
 hands-on old new (request.Call asked) reply is = by-due old new _ reply (unparted_event old (event.Call asked) (due old.core (event.Call asked))) is
 hands-on old new (request.Query asked) reply is = by-due old new _ reply (unparted_query old asked) is

@@ -1,6 +1,5 @@
 -- What the code knows where the core refuses, and of a world that begins.
-use Rattle.std.proofs.Common.{◌≡◌, ℕ, List, [], length, refl, sym, ap, ◌∙◌, subst, true, false, Option, Some, None, Ok, Err, inl, inr}
-use Rattle.std.specs.Prelude.{◌&&◌}
+use Rattle.std.proofs.Common.{◌≡◌, ℕ, List, [], length, refl, sym, ap, ◌∙◌, subst, true, Option, Some, None, Err}
 use Rattle.aql_packet.specs.declared.ids.AgentHandle.{AgentHandle}
 use Rattle.aql_packet.specs.declared.ids.ClientId.{ClientId}
 use Rattle.aql_packet.specs.declared.ids.QueueId.{QueueId}
@@ -10,22 +9,21 @@ use Rattle.core_model.specs.declared.event.Event.TheVariants.{Open, Take}
 use Rattle.core_model.specs.declared.outcome.Outcome.TheVariants as outcome
 use Rattle.core_model.specs.declared.refusal.Refusal as cores
 use Rattle.core_model.specs.History.{beginning, History}
-use Rattle.core_model.specs.Owed.{Owed, refuses, answers, enters}
-use Rattle.core_model.specs.Legal.{IsOpening, MeetsOrLacks, due, reply_of}
+use Rattle.core_model.specs.Owed.{enters}
+use Rattle.core_model.specs.Legal.{IsOpening, MeetsOrLacks}
 use Rattle.ring_core.specs.Parts.{collected_packet}
 use Rattle.aql_packet.specs.Ring.{is_ring_size}
-use Rattle.ring_core.specs.Machine.{is_producer_count, read_index}
+use Rattle.ring_core.specs.Machine.{is_producer_count, read_index, judged_size}
 use Rattle.ring_core.specs.Rule.{processor_of}
 use Rattle.world.specs.declared.queue_ring.Next.{Next}
 use Rattle.world.specs.declared.queue_ring.QueueRing.{QueueRing}
 use Rattle.world.specs.declared.reply.Refusal.TheVariants as refusal
 use Rattle.aql_packet.specs.Words.{bytes_of}
-use Rattle.world.specs.Dues.{asked_size}
 use Rattle.world.specs.InStep.{IsJoined, IsJoinedBehind}
 use Rattle.world.specs.Making.{AreDecided}
 use Rattle.world.specs.Obeying.{HandsOver, MayOpen, TakesAt, next_of, next_where}
 use Rattle.world.proofs.Numbering.{numbered_none, numbered_set}
-use Rattle.world.proofs.Entering.{due_answers, due_enters}
+use Rattle.world.proofs.Entering.{due_enters}
 use Rattle.world.proofs.OpeningKept.{opening_owed, size_asked}
 use Rattle.world.proofs.Kept.{begins}
 use Rattle.world.proofs.Obeyed.{World}
@@ -50,7 +48,7 @@ handed_refused core core' rings queue r next bytes why found is filled meets =
 pub allowed_fits : (core : History) (client : ClientId) (agent : AgentHandle) (size producers : ℕ) (queue : QueueId) → MayOpen core client agent size producers queue
     → (is_ring_size size ≡ true) × (is_producer_count producers ≡ true)
 allowed_fits core client agent size producers queue may =
-    let asked : ℕ = asked_size size producers in
+    let asked : ℕ = judged_size size producers in
     let owing = due_enters core (Open client agent asked) (outcome.Opened queue) [] may in
     let fits : is_ring_size asked ≡ true = (opening_owed (beginning core) core.entries client agent asked (enters (outcome.Opened queue) []) (λ w x. cc) owing).0 in
     let good = size_asked size producers fits in

@@ -16,7 +16,7 @@ use Rattle.core_model.specs.declared.entry.Entry.{Entry}
 use Rattle.core_model.proofs.States.{begin-opening, rotated-start, state-join, state-now}
 use Rattle.ring_core.specs.declared.access.Step.{Step}
 use Rattle.ring_core.specs.Parts.{collected_packet}
-use Rattle.ring_core.specs.Machine.{Machine, found, is_allowed, made, read_index}
+use Rattle.ring_core.specs.Machine.{Machine, found, is_allowed, made, read_index, judged_size}
 use Rattle.ring_core.specs.Rule.{processor_of}
 use Rattle.ring_core.proofs.Kept.{both}
 use Rattle.ring_core.proofs.States.{ring_steps}
@@ -28,7 +28,7 @@ use Rattle.world.specs.declared.reply.Refusal.{Refusal}
 use Rattle.world.specs.declared.reply.Refusal.TheVariants as refusal
 use Rattle.world.specs.States.{Joined, joined, ring_of}
 use Rattle.core_model.specs.declared.event.Event.TheVariants as event
-use Rattle.world.specs.Dues.{AreReplies, Due, IsServed, Meets, Reply, answer_to, asked_size, due_collected, due_event, due_opening, due_query, due_step, due_take, due_where, handed, handed_out, has_spent, hindrance, is_decided, may_follow, of_core, part_of, reserves, rotated_reply, taken_reply, taking}
+use Rattle.world.specs.Dues.{AreReplies, Due, IsServed, Meets, Reply, answer_to, due_collected, due_event, due_opening, due_query, due_step, due_take, due_where, handed, handed_out, has_spent, hindrance, is_decided, may_follow, of_core, part_of, reserves, rotated_reply, taken_reply, taking}
 use Rattle.world.specs.Headline.{IsBegun}
 use Rattle.world.specs.InStep.{IsJoinedBehind, Stands, sizes, takes}
 use Rattle.world.proofs.Numbering.{numbered_none}
@@ -223,7 +223,7 @@ module _ (first : Declared) (prior : List Entry) (world : Joined) (h : IsJoinedB
   served_kept (request.Take queue) reply new is =
       meets_kept (due_take world queue (ring_of world queue)) reply new (unparted_at_take world queue (ring_of world queue)) (taking_kept queue (ring_of world queue) refl) is
   served_kept (request.OpenQueue client agent size producers) reply new is =
-      let event : Event = Open client agent (asked_size size producers) in
+      let event : Event = Open client agent (judged_size size producers) in
       meets_kept (due_opening world size producers event (due world.core event)) reply new (unparted_opening world size producers event (due world.core event)) (opening_kept first prior world h client agent size producers) is
   served_kept (request.Call asked) reply new is =
       meets_kept (due_event world (event.Call asked) (due world.core (event.Call asked))) reply new (unparted_event world (event.Call asked) (due world.core (event.Call asked)))

@@ -8,7 +8,7 @@ use Rattle.policy.specs.Policy.{Declared, numbered}
 use Rattle.core_model.specs.declared.event.Event.{Event}
 use Rattle.core_model.specs.declared.event.Event.TheVariants.{Open}
 use Rattle.core_model.specs.declared.event.Query.{Query}
-use Rattle.core_model.specs.declared.event.Request.TheVariants as asked
+use Rattle.core_model.specs.declared.event.CoreRequest.TheVariants as asked
 use Rattle.core_model.specs.declared.outcome.Outcome.{Outcome}
 use Rattle.core_model.specs.declared.outcome.Outcome.TheVariants as outcome
 use Rattle.core_model.specs.declared.outcome.Taken.{Taken}
@@ -20,7 +20,7 @@ use Rattle.policy.specs.Results.{map_ok}
 use Rattle.core_model.specs.Legal.{LacksMemory, MeetsOrLacks, as_reply, due, reply_of}
 use Rattle.ring_core.specs.declared.access.Step.{Step}
 use Rattle.ring_core.specs.Parts.{collected_packet}
-use Rattle.ring_core.specs.Machine.{made, read_index}
+use Rattle.ring_core.specs.Machine.{made, read_index, judged_size}
 use Rattle.ring_core.specs.Rule.{processor_of}
 use Rattle.world.specs.declared.queue_ring.QueueRing.{QueueRing}
 use Rattle.core_model.specs.declared.call.Call.{Call}
@@ -29,7 +29,7 @@ use Rattle.world.specs.declared.request.Request.TheVariants as request
 use Rattle.world.specs.declared.reply.Refusal.{Refusal}
 use Rattle.world.specs.States.{Joined, joined, ring_of}
 use Rattle.core_model.specs.declared.event.Event.TheVariants as event
-use Rattle.world.specs.Dues.{IsServed, Meets, Reply, asked_size, due_collected, due_step, due_take, due_where, hindrance, is_decided, lacks_memory, of_core, rings_after, taken_reply, taking}
+use Rattle.world.specs.Dues.{IsServed, Meets, Reply, due_collected, due_step, due_take, due_where, hindrance, is_decided, lacks_memory, of_core, rings_after, taken_reply, taking}
 use Rattle.world.specs.Making.{AreDecided, MakesAt, MakesWhere, rings_of, with_queue_ring}
 use Rattle.world.specs.Obeying.{Asks, HandsOut, HandsOver, Obeys, Opens, TakesAt, new_ring, ring_taken, rings_opened, told_opened, told_taken}
 use Rattle.policy.proofs.NameLemmas.{numbered-map}
@@ -126,15 +126,15 @@ module _ (core core' : History) (old new : List QueueRing) (decided : AreDecided
       → IsServed (World core old) (request.OpenQueue client agent size producers) reply (World core' new)
   opening_served client agent size producers (made, meets, told, put) = by_due meets
     where
-      by_due : MeetsOrLacks (Open client agent (asked_size size producers)) core core' (map_ok outcome.Opened made)
+      by_due : MeetsOrLacks (Open client agent (judged_size size producers)) core core' (map_ok outcome.Opened made)
           → IsServed (World core old) (request.OpenQueue client agent size producers) reply (World core' new)
       by_due (inl m) =
-          let rings : rings_of new ≡ rings_after (rings_of old) size producers (reply_of (due core (Open client agent (asked_size size producers)))) =
+          let rings : rings_of new ≡ rings_after (rings_of old) size producers (reply_of (due core (Open client agent (judged_size size producers)))) =
           ap rings_of put ∙ rings_as size producers made ∙ ap (rings_after (rings_of old) size producers) m.reply_is in
           inl (told ∙ opened_as made ∙ ap (λ x. of_core (as_reply x)) m.reply_is, λ i. joined (m.history_is i) (rings i))
       by_due (inr l) =
           let rings : rings_of new ≡ rings_of old = ap rings_of put ∙ rings_as size producers made ∙ ap (rings_after (rings_of old) size producers) l.reply_is in
-          inr (both (Open client agent (asked_size size producers)) l, told ∙ opened_as made ∙ ap (λ x. of_core (as_reply x)) l.reply_is, λ i. joined (l.history_is i) (rings i))
+          inr (both (Open client agent (judged_size size producers)) l, told ∙ opened_as made ∙ ap (λ x. of_core (as_reply x)) l.reply_is, λ i. joined (l.history_is i) (rings i))
 
   -- ---- calls and queries
 

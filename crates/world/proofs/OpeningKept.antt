@@ -26,11 +26,11 @@ use Rattle.core_model.specs.Legal.{due, entry_of, history_after, reply_of}
 use Rattle.core_model.proofs.More.{next_id-more, openings-more}
 use Rattle.ring_core.specs.Machine as machine
 use Rattle.aql_packet.specs.Ring.{is_ring_size}
-use Rattle.ring_core.specs.Machine.{Machine, is_producer_count}
+use Rattle.ring_core.specs.Machine.{Machine, is_producer_count, judged_size}
 use Rattle.ring_core.proofs.Sizes.{producer_bounds}
 use Rattle.ring_core.proofs.States.{ring_opens}
 use Rattle.world.specs.States.{Joined, joined, ring_of}
-use Rattle.world.specs.Dues.{asked_size, rings_after}
+use Rattle.world.specs.Dues.{rings_after}
 use Rattle.world.specs.InStep as InStep
 use Rattle.world.specs.InStep.{IsInStep, IsJoinedBehind, IsUntouched, Stands}
 use Rattle.core_model.proofs.Turns.{numbered-new, numbered-end}
@@ -59,7 +59,7 @@ opening_owed start es client agent size owing some is =
     (three.0, through_if (nat_le QUEUES (length (openings start es))) _ _ owing some three.1)
 
 -- a size that was asked for and is a ring's comes with good producers
-pub size_asked : (size producers : ℕ) → is_ring_size (asked_size size producers) ≡ true → (asked_size size producers ≡ size) × (is_producer_count producers ≡ true)
+pub size_asked : (size producers : ℕ) → is_ring_size (judged_size size producers) ≡ true → (judged_size size producers ≡ size) × (is_producer_count producers ≡ true)
 size_asked size producers fits = by_test (is_producer_count producers) refl fits
   where
     by_test : (b : Bool) → is_producer_count producers ≡ b → is_ring_size (if b then size else 0) ≡ true → ((if b then size else 0) ≡ size) × (is_producer_count producers ≡ true)
@@ -79,7 +79,7 @@ opens_in_step core all queue size producers h = record {
 
 module _ (first : Declared) (prior : List Entry) (world : Joined) (h : IsJoinedBehind first prior world) (client : ClientId) (agent : AgentHandle) (size producers : ℕ) where
   abbrev Opening : Event
-  Opening = Open client agent (asked_size size producers)
+  Opening = Open client agent (judged_size size producers)
 
   abbrev After : Owed → Joined
   After owing = joined (history_after world.core Opening owing) (rings_after world.rings size producers (reply_of owing))
@@ -100,10 +100,10 @@ module _ (first : Declared) (prior : List Entry) (world : Joined) (h : IsJoinedB
     abbrev NewRing : Machine
     NewRing = machine.opened size producers
 
-    good : (is_ring_size (asked_size size producers) ≡ true) × (enters (outcome.Opened (record { 0 = length (openings (beginning world.core) world.core.entries) + 1 })) [] ≡ enters told effects)
-    good = opening_owed (beginning world.core) world.core.entries client agent (asked_size size producers) (enters told effects) (λ w e. cc) (due_enters world.core Opening told effects owing)
+    good : (is_ring_size (judged_size size producers) ≡ true) × (enters (outcome.Opened (record { 0 = length (openings (beginning world.core) world.core.entries) + 1 })) [] ≡ enters told effects)
+    good = opening_owed (beginning world.core) world.core.entries client agent (judged_size size producers) (enters told effects) (λ w e. cc) (due_enters world.core Opening told effects owing)
 
-    asked : (asked_size size producers ≡ size) × (is_producer_count producers ≡ true)
+    asked : (judged_size size producers ≡ size) × (is_producer_count producers ≡ true)
     asked = size_asked size producers good.0
 
     fits : is_ring_size size ≡ true
@@ -145,7 +145,7 @@ module _ (first : Declared) (prior : List Entry) (world : Joined) (h : IsJoinedB
   opened_by : (owing : Owed) → due world.core Opening ≡ owing → IsJoinedBehind first prior (After owing)
   opened_by (refuses why) is = h
   opened_by (answers told) is =
-      let owed_is = opening_owed (beginning world.core) world.core.entries client agent (asked_size size producers) (answers told) (λ w e. cc) (due_answers world.core Opening told is) in
+      let owed_is = opening_owed (beginning world.core) world.core.entries client agent (judged_size size producers) (answers told) (λ w e. cc) (due_answers world.core Opening told is) in
       absurd (let never : enters (outcome.Opened (record { 0 = length (openings (beginning world.core) world.core.entries) + 1 })) [] ≡ answers told = owed_is.1 in cc)
   opened_by (enters told effects) is = made told effects is
 

@@ -7,7 +7,7 @@ use Rattle.core_model.specs.declared.outcome.Outcome.TheVariants as outcome
 use Rattle.core_model.specs.Owed.{Owed, refuses, answers, enters}
 use Rattle.core_model.specs.Legal.{due}
 use Rattle.ring_core.specs.declared.access.Step.{Step}
-use Rattle.ring_core.specs.Machine.{Machine, read_index}
+use Rattle.ring_core.specs.Machine.{Machine, read_index, judged_size}
 use Rattle.ring_core.specs.Parts.{collected_packet}
 use Rattle.ring_core.specs.Rule.{processor_of}
 use Rattle.world.specs.declared.request.Request.{Request}
@@ -19,7 +19,7 @@ use Rattle.core_model.specs.declared.refusal.Refusal as cores
 use Rattle.world.proofs.Kept.{unrotated}
 use Rattle.world.specs.States.{Joined, joined, ring_of}
 use Rattle.core_model.specs.declared.event.Event.TheVariants as event
-use Rattle.world.specs.Dues.{Due, IsServed, Meets, asked_size, due_collected, due_event, due_opening, due_query, due_step, due_take, due_taken, due_where, hindrance, is_decided, rotated_reply}
+use Rattle.world.specs.Dues.{Due, IsServed, Meets, due_collected, due_event, due_opening, due_query, due_step, due_take, due_taken, due_where, hindrance, is_decided, rotated_reply}
 
 -- a reply that is a refusal leaves the world
 abbrev Refuses : Joined → Due → Type 0
@@ -70,7 +70,7 @@ pub refused_stays : (old new : Joined) (asked : Request) (why : Refusal) → IsS
 refused_stays old new (request.Step queue step) why is = meets_refused old new (due_step old queue step (ring_of old queue)) why (step_refused old queue step (ring_of old queue)) is
 refused_stays old new (request.Take queue) why is = meets_refused old new (due_take old queue (ring_of old queue)) why (take_refused old queue (ring_of old queue)) is
 refused_stays old new (request.OpenQueue client agent size producers) why is =
-    let event : Event = Open client agent (asked_size size producers) in
+    let event : Event = Open client agent (judged_size size producers) in
     meets_refused old new (due_opening old size producers event (due old.core event)) why (opening_refused old size producers event (due old.core event)) is
 refused_stays old new (request.Call call) why is =
     meets_refused old new (due_event old (event.Call call) (due old.core (event.Call call))) why (event_refused old (event.Call call) (due old.core (event.Call call))) is

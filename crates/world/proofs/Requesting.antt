@@ -2,13 +2,13 @@
 use Rattle.std.proofs.Common.{◌≡◌, ℕ, zero, suc, ◌+◌, Bool, true, false, List, [], ◌∷◌, ◌++◌, drop, replicate, slice_index, slice_set, Option, Some, None, Result, Ok, Err, refl, subst, ap, ◌∙◌, inl, inr}
 use Rattle.aql_packet.specs.declared.ids.PacketId.{PacketId}
 use Rattle.aql_packet.specs.declared.ids.QueueId.{QueueId}
-use Rattle.std.specs.List.{cons_option, filter_map}
+use Rattle.std.specs.List.{cons_option}
 use Rattle.policy.specs.Results.{map_ok}
 use Rattle.core_model.specs.History.{Part as Handed}
 use Rattle.ring_core.specs.InTurn.{step_by}
 use Rattle.ring_core.specs.declared.access.Access.{Access}
 use Rattle.ring_core.specs.declared.access.Access.TheVariants.{Reserve, LoadReadIndex, StoreBody, StoreHeader, LoadHeader, LoadBody, ClearHeader, RaiseReadIndex}
-use Rattle.ring_core.specs.Tickets.{shows_room}
+use Rattle.ring_core.specs.Calls.{has_room}
 use Rattle.ring_core.specs.Words.{is_invalid}
 use Rattle.world.specs.declared.lane.Sent.TheVariants as sent
 use Rattle.world.specs.declared.lane.Served.{Served}
@@ -119,7 +119,7 @@ keeps_stores queue producer ticket words =
 keeps_room : (queue : QueueId) (producer : ℕ) (ticket : PacketId) (words : List ℕ) (index : ℕ) → Keeps (publish_room queue producer ticket words index)
 unfolding Keeps
 keeps_room queue producer ticket words index old result new done =
-    keeps_if (shows_room (slots_of old queue) ticket.0 (Some index)) (stores queue producer ticket words) (returns (sent.Busy ticket index))
+    keeps_if (has_room (slots_of old queue) ticket.0 index) (stores queue producer ticket words) (returns (sent.Busy ticket index))
     (keeps_stores queue producer ticket words) (keeps_returns (sent.Busy ticket index)) old result new done
 
 pub keeps_where : (queue : QueueId) (producer : ℕ) (ticket : PacketId) (words : List ℕ) → Keeps (publish_where queue producer ticket words)

@@ -1,5 +1,5 @@
 -- A reservation, made on its ring at once, is the request for its step.
-use Rattle.std.proofs.Common.{◌≡◌, ℕ, List, refl, ap, Option, Some, None, Result, Ok, Err, inl, inr}
+use Rattle.std.proofs.Common.{ℕ, List, refl, ap, Option, Some, None, Result, Ok, Err, inl, inr}
 use Rattle.aql_packet.specs.declared.ids.QueueId.{QueueId}
 use Rattle.policy.specs.Policy.{numbered}
 use Rattle.core_model.specs.History.{History}
@@ -12,11 +12,10 @@ use Rattle.world.specs.declared.reply.Refusal.{Refusal}
 use Rattle.world.specs.declared.request.Request.TheVariants as request
 use Rattle.world.specs.Actions.{asks, reads}
 use Rattle.world.specs.Dues.{IsServed, Reply, hindrance}
-use Rattle.world.specs.Making.{AreDecided, MakesAt, MakesWhere}
+use Rattle.world.specs.Making.{MakesAt, MakesWhere}
 use Rattle.world.specs.Obeying.{Obeys}
 use Rattle.world.specs.States.{Joined}
 use Rattle.world.specs.inner.Calling.{CallsAt, ReservesOn, ReservesWhere}
-use Rattle.world.proofs.Obeyed.{World, obeyed_served}
 
 -- what the request for the step is told
 abbrev pub as_step : Result ℕ Refusal → Reply

@@ -4,16 +4,17 @@ use Rattle.kernel_check.specs.Programs.{Program}
 use Rattle.core_model.specs.declared.entry.Entry.{Entry}
 use Rattle.core_model.specs.declared.event.Event.{Event}
 use Rattle.core_model.specs.declared.event.Event.TheVariants.{Call, Open, Reload}
+use Rattle.ring_core.specs.Machine.{judged_size}
 use Rattle.world.specs.declared.request.Request.{Request}
 use Rattle.world.specs.declared.request.Request.TheVariants as request
-use Rattle.world.specs.Dues.{asked_size, taking}
+use Rattle.world.specs.Dues.{taking}
 use Rattle.world.specs.States.{Joined}
 
 -- an event is what a request asks of the core: a take hands over some words of the queue, under some id; a step of a ring, a query and
 -- a rotation are no events (own)
 abbrev pub IsOf : Request → Event → Type 0
 IsOf (request.Take queue) event = (id : ℕ) × (words : List ℕ) × (event ≡ taking queue id words)
-IsOf (request.OpenQueue client agent size producers) event = event ≡ Open client agent (asked_size size producers)
+IsOf (request.OpenQueue client agent size producers) event = event ≡ Open client agent (judged_size size producers)
 IsOf (request.Call asked) event = event ≡ Call asked
 IsOf (request.Reload policy) event = event ≡ Reload policy.rows
 IsOf _ event = ⊥

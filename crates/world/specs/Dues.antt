@@ -23,10 +23,10 @@ use Rattle.core_model.specs.Queries.{AnswerOrRefusal, query_answer}
 use Rattle.ring_core.specs.declared.access.Access.{Access}
 use Rattle.ring_core.specs.declared.access.Access.TheVariants.{Reserve, LoadHeader, ClearHeader}
 use Rattle.ring_core.specs.declared.access.Step.{Step}
-use Rattle.ring_core.specs.declared.part.Part.{Part}
-use Rattle.ring_core.specs.declared.part.Part.TheVariants.{Producer, Processor}
+use Rattle.ring_core.specs.declared.part.SeatPart.{SeatPart}
+use Rattle.ring_core.specs.declared.part.SeatPart.TheVariants.{Producer, Processor}
 use Rattle.ring_core.specs.Parts.{collected_packet, seen_by}
-use Rattle.ring_core.specs.Machine.{Machine, found, is_allowed, is_producer_count, made, opened, read_index}
+use Rattle.ring_core.specs.Machine.{Machine, found, is_allowed, judged_size, made, opened, read_index}
 use Rattle.ring_core.specs.Rule.{processor_of}
 use Rattle.world.specs.declared.request.Request.{Request}
 use Rattle.world.specs.declared.request.Request.TheVariants as request
@@ -59,7 +59,7 @@ reserves Reserve = true
 reserves _ = false
 
 -- whether a seat is a producer that has reserved all that it may
-abbrev pub has_spent : Option Part → Bool
+abbrev pub has_spent : Option SeatPart → Bool
 has_spent None = false
 has_spent (Some (Processor p)) = false
 has_spent (Some (Producer p)) = p.allowance == 0
@@ -156,10 +156,6 @@ due_take world queue (Some ring) = due_collected world queue (read_index ring) (
 
 -- ---- openings
 
--- the size that the core is asked for: wrong producers are refused as a wrong size is, in its place among the refusals (own)
-abbrev pub asked_size : ℕ → ℕ → ℕ
-asked_size size producers = if is_producer_count producers then size else 0
-
 -- the rings after an opening that came to this: an opened queue has a ring of its size and producers, in which nothing happened
 abbrev pub rings_after : List Machine → ℕ → ℕ → Result Outcome cores.Refusal → List Machine
 rings_after rings size producers (Ok made) = rings ++ opened size producers ∷ []
@@ -206,7 +202,7 @@ abbrev pub IsServed : Joined → Request → Reply → Joined → Type 0
 IsServed old (request.Step queue step) reply new = Meets old (due_step old queue step (ring_of old queue)) reply new
 IsServed old (request.Take queue) reply new = Meets old (due_take old queue (ring_of old queue)) reply new
 IsServed old (request.OpenQueue client agent size producers) reply new =
-    Meets old (due_opening old size producers (Open client agent (asked_size size producers)) (due old.core (Open client agent (asked_size size producers)))) reply new
+    Meets old (due_opening old size producers (Open client agent (judged_size size producers)) (due old.core (Open client agent (judged_size size producers)))) reply new
 IsServed old (request.Call call) reply new = Meets old (due_event old (event.Call call) (due old.core (event.Call call))) reply new
 IsServed old (request.Query query) reply new = Meets old (due_query old query) reply new
 IsServed old (request.Reload policy) reply new = Reloads old policy reply new

@@ -8,7 +8,7 @@ use Rattle.policy.specs.Results.{map_ok}
 use Rattle.core_model.specs.declared.outcome.Taken.{Taken}
 use Rattle.core_model.specs.declared.outcome.Taken.TheVariants as taken
 use Rattle.ring_core.specs.declared.access.Access.TheVariants.{Reserve, LoadReadIndex, StoreBody, StoreHeader, LoadHeader, LoadBody, ClearHeader, RaiseReadIndex}
-use Rattle.ring_core.specs.Tickets.{shows_room}
+use Rattle.ring_core.specs.Calls.{has_room}
 use Rattle.ring_core.specs.Words.{is_invalid}
 use Rattle.world.specs.declared.lane.Sent.{Sent}
 use Rattle.world.specs.declared.lane.Sent.TheVariants as sent
@@ -37,7 +37,7 @@ stores queue producer ticket words =
 -- where the read index shows room for the ticket, the packet is stored
 abbrev pub publish_room : QueueId → ℕ → PacketId → List ℕ → ℕ → Action Sent
 publish_room queue producer ticket words index old result new =
-    if_else (shows_room (slots_of old queue) ticket.0 (Some index)) (stores queue producer ticket words) (returns (sent.Busy ticket index)) old result new
+    if_else (has_room (slots_of old queue) ticket.0 index) (stores queue producer ticket words) (returns (sent.Busy ticket index)) old result new
 
 -- s2, and where it saw room s3 seven times, s4
 abbrev pub publish_where : QueueId → ℕ → PacketId → List ℕ → Action Sent

@@ -6,8 +6,8 @@ use Rattle.aql_packet.specs.declared.ids.QueueId.{QueueId}
 use Rattle.policy.specs.Policy.{numbered}
 use Rattle.core_model.specs.declared.answer.Answer.TheVariants as told
 use Rattle.core_model.specs.declared.event.Event.TheVariants.{Open}
-use Rattle.core_model.specs.declared.event.Request.{Request as Asked}
-use Rattle.core_model.specs.declared.event.Request.TheVariants as asked
+use Rattle.core_model.specs.declared.event.CoreRequest.{CoreRequest as Asked}
+use Rattle.core_model.specs.declared.event.CoreRequest.TheVariants as asked
 use Rattle.core_model.specs.declared.outcome.Outcome.TheVariants as outcome
 use Rattle.core_model.specs.declared.outcome.Taken.{Taken}
 use Rattle.core_model.specs.declared.outcome.Taken.TheVariants as taken
@@ -22,7 +22,7 @@ use Rattle.core_model.specs.Owed.{enters}
 use Rattle.core_model.specs.Queries.{AnswerOrRefusal}
 use Rattle.core_model.specs.Legal as cores_law
 use Rattle.ring_core.specs.Parts.{collected_packet}
-use Rattle.ring_core.specs.Machine.{opened, read_index}
+use Rattle.ring_core.specs.Machine.{opened, read_index, judged_size}
 use Rattle.ring_core.specs.Rule.{processor_of}
 use Rattle.world.specs.declared.queue_ring.QueueRing.{QueueRing}
 use Rattle.world.specs.declared.request.Request.{Request}
@@ -30,8 +30,7 @@ use Rattle.world.specs.declared.request.Request.TheVariants as request
 use Rattle.world.specs.declared.reply.Answer.TheVariants as answer
 use Rattle.world.specs.declared.reply.Refusal.TheVariants as refusal
 use Rattle.world.specs.declared.queue_ring.Next.{Next}
-use Rattle.core_model.specs.declared.event.Event.TheVariants as event
-use Rattle.world.specs.Dues.{Reply, asked_size, of_core, rotated_reply, taking}
+use Rattle.world.specs.Dues.{Reply, of_core, rotated_reply, taking}
 use Rattle.world.specs.Making.{MakesAt, with_queue_ring}
 
 -- a queue has a ring
@@ -95,12 +94,12 @@ rings_opened rings size producers (Err why) = rings
 
 -- the core allows a queue to be opened, under this number
 abbrev pub MayOpen : History → ClientId → AgentHandle → ℕ → ℕ → QueueId → Type 0
-MayOpen core client agent size producers queue = due core (Open client agent (asked_size size producers)) ≡ enters (outcome.Opened queue) []
+MayOpen core client agent size producers queue = due core (Open client agent (judged_size size producers)) ≡ enters (outcome.Opened queue) []
 
 -- a queue was opened with its ring, or refused by the core
 abbrev pub Opens : ClientId → AgentHandle → ℕ → ℕ → History → List QueueRing → Reply → History → List QueueRing → Type 0
 Opens client agent size producers core old reply core' new =
-    (made : Result QueueId cores.Refusal) × MeetsOrLacks (Open client agent (asked_size size producers)) core core' (map_ok outcome.Opened made)
+    (made : Result QueueId cores.Refusal) × MeetsOrLacks (Open client agent (judged_size size producers)) core core' (map_ok outcome.Opened made)
     × (reply ≡ told_opened made) × (new ≡ rings_opened old size producers made)
 
 -- the core served a request, and told this

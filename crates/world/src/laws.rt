@@ -23,11 +23,11 @@ ghost use Rattle.world.specs.InStep.{IsJoinedBehind};
 ghost use Rattle.world.specs.States.{Joined};
 
 use core_model::{
-    calls_without_their_right_are_denied, denials_name_the_first_rule, each_launch_was_granted,
-    each_listed_right_is_in_force, each_look_at_a_signal_is_granted,
-    each_read_of_a_client_is_granted, each_read_of_a_group_was_granted,
-    each_signal_change_was_granted, each_write_was_granted, faults_release_alone,
-    groups_depend_on_what_they_read,
+    law_calls_without_their_right_are_denied, law_denials_name_the_first_rule,
+    law_each_launch_was_granted, law_each_listed_right_is_in_force,
+    law_each_look_at_a_signal_is_granted, law_each_read_of_a_client_is_granted,
+    law_each_read_of_a_group_was_granted, law_each_signal_change_was_granted,
+    law_each_write_was_granted, law_faults_release_alone, law_groups_depend_on_what_they_read,
 };
 use policy::{Kind, Policy};
 
@@ -39,7 +39,7 @@ use policy::{Kind, Policy};
 /// its ring, whole, each once, in order. The history is that of all parts that replies handed out, in order, and
 /// then of the audit. The world has the kernels and the audit's room that it was opened with, and each entry is of one
 /// of the requests, in their order, with one entry a request at most.
-pub fn the_headline(policy: &Policy)
+pub fn law_headline(policy: &Policy)
     ensures headline { (kernels : List Program) (capacity : ℕ) (requests : List Request) (replies : List Reply) (opened world : Joined) →
         IsBegun opened policy.now kernels capacity → AreReplies opened requests replies world → Headline policy.now (handed_out replies) world }
     ensures asked { (kernels : List Program) (capacity : ℕ) (requests : List Request) (replies : List Reply) (opened world : Joined) →
@@ -53,17 +53,17 @@ pub(crate) fn headline_of(policy: &Policy)
     ensures { (first : Declared) (prior : List Entry) (world : Joined) → region_lengths first ≡ region_lengths policy.now → IsJoinedBehind first prior world → Headline first prior world }
 {
     policy.object_count(Kind::Region);
-    each_launch_was_granted();
-    denials_name_the_first_rule();
-    faults_release_alone();
-    each_write_was_granted();
-    each_signal_change_was_granted();
-    each_read_of_a_group_was_granted();
-    groups_depend_on_what_they_read();
-    each_read_of_a_client_is_granted();
-    each_look_at_a_signal_is_granted();
-    each_listed_right_is_in_force();
-    calls_without_their_right_are_denied();
+    law_each_launch_was_granted();
+    law_denials_name_the_first_rule();
+    law_faults_release_alone();
+    law_each_write_was_granted();
+    law_each_signal_change_was_granted();
+    law_each_read_of_a_group_was_granted();
+    law_groups_depend_on_what_they_read();
+    law_each_read_of_a_client_is_granted();
+    law_each_look_at_a_signal_is_granted();
+    law_each_listed_right_is_in_force();
+    law_calls_without_their_right_are_denied();
 }
 
 /// Whatever came before, a list of requests goes on from it. The entries that its replies hand out, in order, and
@@ -73,7 +73,7 @@ pub(crate) fn headline_of(policy: &Policy)
 /// (`World::open`) is in step, with no entry before. So it is with whatever is some requests in turn, as the calls of a lane
 /// and the lines of a script are, behind the parts that they hand out. Over the list the kernels and the audit's room stay, and each entry
 /// more is of one of the requests, in their order.
-pub fn each_run_goes_on()
+pub fn law_each_run_goes_on()
     ensures opening { (policy : Declared) (kernels : List Program) (capacity : ℕ) (opened : Joined) →
         IsBegun opened policy kernels capacity → IsJoinedBehind policy [] opened }
     ensures asked { (requests : List Request) (replies : List Reply) (old new : Joined) →
@@ -90,14 +90,14 @@ pub fn each_run_goes_on()
 {}
 
 /// What is refused, for whatever cause, leaves the world as it was.
-pub fn refusals_change_nothing()
+pub fn law_refusals_change_nothing()
     ensures { (old new : Joined) (asked : Request) (why : Refusal) → IsServed old asked (Err why) new → new ≡ old }
 {}
 
 /// What `publish`, `submit`, `peek`, `retire` and `serve_next` of a world do is some requests, served in turn, and they hand
 /// out no part of the audit. So what holds after any list of requests holds after each of them, behind what was handed out
 /// before them.
-pub fn lane_calls_are_requests()
+pub fn law_lane_calls_are_requests()
     ensures publish { (queue : QueueId) (producer : ℕ) (ticket : PacketId) (words : List ℕ) (old : Joined) (told : Result Sent Refusal) (new : Joined) →
         publish queue producer ticket words old told new → Reaches old [] new }
     ensures submit { (queue : QueueId) (producer : ℕ) (words : List ℕ) (old : Joined) (told : Result Sent Refusal) (new : Joined) →

@@ -14,7 +14,9 @@ mod serving;
 mod world;
 
 pub use lane::{Sent, Served, Shown};
-pub use laws::{each_run_goes_on, lane_calls_are_requests, refusals_change_nothing, the_headline};
+pub use laws::{
+    law_each_run_goes_on, law_headline, law_lane_calls_are_requests, law_refusals_change_nothing,
+};
 pub use reply::{Answer, Refusal, Reply};
 pub use request::Request;
 pub use world::World;

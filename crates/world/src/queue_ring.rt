@@ -2,7 +2,6 @@
 
 ghost use Rattle.std.specs.Prelude.{◌≡◌, ◌&&◌, ℕ, false, option_map, slice_get, slice_index};
 ghost use Rattle.std.specs.Option.{option_copied};
-ghost use Rattle.ring_core.specs.Machine.{is_allowed};
 ghost use Rattle.ring_core.specs.Parts.{seen_by};
 ghost use Rattle.world.specs.Dues.{answer_to, has_spent, may_follow, reserves};
 ghost use Rattle.world.specs.Making.{MakesOn, decided_after};
@@ -14,7 +13,7 @@ ghost use Rattle.world.specs.inner.Calling.{CollectsOn, PublishesOn, ReservesOn,
 use crate::lane::{Sent, Shown};
 use crate::reply::{Answer, Refusal, Reply};
 use aql_packet::PacketId;
-use ring_core::{Access, Part, RingState, Seen, Step, StepFault, has_room};
+use ring_core::{Access, Look, RingState, SeatPart, Seen, Step, StepFault};
 
 /// A queue's ring.
 #[derive(Drop)]
@@ -50,7 +49,7 @@ impl QueueRing {
         if self.is_spent(step) {
             return Err(Refusal::Spent);
         }
-        if !self.may_make(step) {
+        if !may_follow(self.decided, step.access) {
             return Err(Refusal::NotAStep);
         }
         let index = PacketId(self.ring.read_index());
@@ -116,9 +115,8 @@ impl QueueRing {
         requires { is_invalid (slice_index words.now 0) ≡ false }
         ensures { PublishesOn producer ticket words.now self.old result self.new }
     {
-        let size = self.ring.size();
         match self.ring.publish(producer, ticket, words) {
-            Ok(read) => Ok(sent(size, ticket, read)),
+            Ok(look) => Ok(sent(ticket, look)),
             Err(_) => Err(Refusal::NotAStep),
         }
     }
@@ -128,13 +126,6 @@ impl QueueRing {
         ensures { result ≡ (reserves step.access && has_spent (slice_get self.now.ring.parts step.seat)) }
     {
         reserves(step.access) & has_spent(self.ring.parts().get(step.seat as usize))
-    }
-
-    // Whether a step is allowed, and clears no header before its packet was decided.
-    fn may_make(&self, step: Step) -> bool
-        ensures { result ≡ (is_allowed self.now.ring step && may_follow self.now.decided step.access) }
-    {
-        self.ring.allows(step) & may_follow(self.decided, step.access)
     }
 }
 
@@ -148,14 +139,13 @@ fn shown(packet: PacketId, words: Option<[u64; 8]>) -> Option<Shown>
     }
 }
 
-// What became of a packet that was to be published, in a ring of so many slots, where its look saw this read index.
-fn sent(slots: u64, ticket: PacketId, read: u64) -> Sent
-    ensures { result ≡ sent_as slots ticket read }
+// What became of a packet that was to be published under a ticket, whose look came to this.
+fn sent(ticket: PacketId, look: Look) -> Sent
+    ensures { result ≡ sent_as ticket look }
 {
-    if has_room(slots, ticket, read) {
-        Sent::Published(ticket)
-    } else {
-        Sent::Busy { ticket, read }
+    match look {
+        Look::Published => Sent::Published(ticket),
+        Look::Busy(read) => Sent::Busy { ticket, read },
     }
 }
 
@@ -170,11 +160,11 @@ fn reserves(access: Access) -> bool
 }
 
 // Whether a seat is a producer that has reserved all that it may.
-fn has_spent(part: Option<&Part>) -> bool
+fn has_spent(part: Option<&SeatPart>) -> bool
     ensures { result ≡ has_spent (option_copied part.entry) }
 {
     match part {
-        Some(Part::Producer(part)) => part.allowance == 0,
+        Some(SeatPart::Producer(part)) => part.allowance == 0,
         _ => false,
     }
 }

@@ -7,7 +7,6 @@ ghost use Rattle.core_model.specs.declared.outcome.Outcome.TheVariants as outcom
 ghost use Rattle.aql_packet.specs.Ring.{is_ring_size};
 ghost use Rattle.ring_core.specs.Machine.{is_producer_count, opened};
 ghost use Rattle.world.specs.declared.reply.Answer.TheVariants as answer;
-ghost use Rattle.world.specs.Dues.{asked_size};
 ghost use Rattle.world.specs.Obeying.{Asks, HandsOut, IsNext, MayOpen, Obeys, Opens, TakesAt};
 
 use crate::queue_ring::{Next, QueueRing};
@@ -17,12 +16,12 @@ use crate::rings::{make_step, next_packet, note_taken};
 use access_core::AccessCore;
 use aql_packet::{AgentHandle, ClientId, QueueId, bytes_of};
 use core_model::Outcome;
-use ring_core::{RingState, is_producer_count};
+use ring_core::{RingState, judged_size};
 use std::alloc::{AllocError, Global};
 
 /// Who opens a queue, on which agent, and with which ring.
 #[derive(Clone, Copy)]
-struct Opening {
+struct RingOpening {
     client: ClientId,
     agent: AgentHandle,
     size: u64,
@@ -47,7 +46,7 @@ pub(crate) fn serve_request(
             size,
             producers,
         } => {
-            let opening = Opening {
+            let opening = RingOpening {
                 client,
                 agent,
                 size,
@@ -55,9 +54,9 @@ pub(crate) fn serve_request(
             };
             open(alloc, core, rings, opening)
         }
-        Request::Call(call) => ask(alloc, core, core_model::Request::Call(call)),
-        Request::Query(query) => ask(alloc, core, core_model::Request::Query(query)),
-        Request::Reload(policy) => ask(alloc, core, core_model::Request::Reload(policy)),
+        Request::Call(call) => ask(alloc, core, core_model::CoreRequest::Call(call)),
+        Request::Query(query) => ask(alloc, core, core_model::CoreRequest::Query(query)),
+        Request::Reload(policy) => ask(alloc, core, core_model::CoreRequest::Reload(policy)),
         Request::Rotate => rotate(alloc, core),
     }
 }
@@ -73,7 +72,7 @@ fn rotate(alloc: Global, core: &mut AccessCore) -> Reply
 }
 
 // Has the core serve a request.
-fn ask(alloc: Global, core: &mut AccessCore, request: core_model::Request) -> Reply
+fn ask(alloc: Global, core: &mut AccessCore, request: core_model::CoreRequest) -> Reply
     ensures { Asks request core.old.history result core.new.history }
 {
     match core.serve(alloc, request) {
@@ -120,22 +119,16 @@ fn hand_over(
     }
 }
 
-// The size that the core is asked for: none, where the number of producers is wrong.
-fn asked_size(size: u64, producers: u64) -> u64
-    ensures { result ≡ asked_size size producers }
-{
-    if is_producer_count(producers) {
-        size
-    } else {
-        0
-    }
-}
-
 // Opens a queue, with its ring. Whether it opens is decided once, by the core.
-fn open(alloc: Global, core: &mut AccessCore, rings: &mut Vec<QueueRing>, opening: Opening) -> Reply
+fn open(
+    alloc: Global,
+    core: &mut AccessCore,
+    rings: &mut Vec<QueueRing>,
+    opening: RingOpening,
+) -> Reply
     ensures { Opens opening.client opening.agent opening.size opening.producers core.old.history rings.old.items result core.new.history rings.new.items }
 {
-    let size = asked_size(opening.size, opening.producers);
+    let size = judged_size(opening.size, opening.producers);
     match core.may_open(opening.client, opening.agent, size) {
         Ok(queue) => open_allowed(alloc, core, rings, opening, queue),
         Err(why) => Err(Refusal::Core(why)),
@@ -148,7 +141,7 @@ fn open_allowed(
     alloc: Global,
     core: &mut AccessCore,
     rings: &mut Vec<QueueRing>,
-    opening: Opening,
+    opening: RingOpening,
     queue: QueueId,
 ) -> Reply
     requires { MayOpen core.old.history opening.client opening.agent opening.size opening.producers queue }
@@ -158,7 +151,7 @@ fn open_allowed(
         Ok(ring) => ring,
         Err(_) => return Err(Refusal::Core(core_model::Refusal::OutOfMemory)),
     };
-    let size = asked_size(opening.size, opening.producers);
+    let size = judged_size(opening.size, opening.producers);
     match core.open_allowed(alloc, opening.client, opening.agent, size, queue) {
         Ok(queue) => {
             rings.push_reserved(QueueRing {

@@ -105,8 +105,8 @@ impl World {
     }
 
     /// Does nothing but say to callers what holds of each world, at any moment: it is in step behind what was handed
-    /// out before; and behind whatever it is in step, the headline holds, as `the_headline` tells it. What is handed
-    /// out by more requests goes on from that (`each_run_goes_on`).
+    /// out before; and behind whatever it is in step, the headline holds, as `law_headline` tells it. What is handed
+    /// out by more requests goes on from that (`law_each_run_goes_on`).
     pub fn headline(&self)
         ensures joined { IsJoined self.now }
         ensures headline { (first : Declared) (prior : List Entry) → IsJoinedBehind first prior self.now → Headline first prior self.now }

@@ -1,5 +1,5 @@
 -- Argument blocks of packets in flight, found by queue and id, with the rights that their packets hold.
-use Rattle.std.specs.Prelude.{ℕ, ◌≡◌, ◌==◌, ◌&&◌, Bool, List, [], find, fold, map, not, Option, Some, None, if◌then◌else◌}
+use Rattle.std.specs.Prelude.{ℕ, ◌≡◌, ◌==◌, ◌&&◌, ◌<◌, ◌∷◌, Bool, false, List, [], find, fold, length, map, not, slice_get, Option, Some, None, if◌then◌else◌}
 use Rattle.std.specs.List.{list_any}
 use Rattle.aql_packet.specs.declared.ids.ClientId.{ClientId}
 use Rattle.aql_packet.specs.declared.ids.QueueId.{QueueId}
@@ -38,6 +38,16 @@ name_of f = (f.queue, f.id)
 -- these are the blocks of these packets in flight: one of each, in their order, and no other
 abbrev pub AreBlocksOf : List InFlight → List ArgumentBlock → Type 0
 AreBlocksOf flying blocks = map packet_of blocks ≡ map name_of flying
+
+-- no two blocks are of one packet
+abbrev pub AreNamedOnce : List ArgumentBlock → Type 0
+AreNamedOnce [] = Unit {0}
+AreNamedOnce (first ∷ later) = (list_any (is_block first.queue first.packet) later ≡ false) × AreNamedOnce later
+
+-- the index of the first block that passes a test; none where none does
+abbrev pub IsIndexOf : (ArgumentBlock → Bool) → List ArgumentBlock → Option ℕ → Type 0
+IsIndexOf test blocks None = find test blocks ≡ None
+IsIndexOf test blocks (Some index) = (index < length blocks) × (find test blocks ≡ slice_get blocks index)
 
 -- whether a block is that of a packet, and lists a client's right on an object
 abbrev pub lists_right : QueueId → PacketId → ClientId → Object → Right → ArgumentBlock → Bool

@@ -14,7 +14,7 @@ ghost use Rattle.access_core.specs.inner.Laying.{LiesWithin};
 use crate::access::running::{advance, one_more};
 use crate::access::{AccessCore, enter};
 use aql_packet::{Address, QueueId};
-use core_model::{Call, Effect, Effects, Event, Outcome, Refusal, Worked};
+use core_model::{Bytes, Call, Effect, Effects, Event, Outcome, Refusal, Worked};
 use executor::WrittenRange;
 use packet_processor::{FoundPacket, Place};
 use regions::Regions;
@@ -77,7 +77,7 @@ fn change_of(run: WrittenRange) -> Effect
     let WrittenRange { address, bytes } = run;
     Effect::Write {
         address: Address(address),
-        bytes,
+        bytes: Bytes::of(bytes),
     }
 }
 

@@ -12,7 +12,7 @@ ghost use Rattle.core_model.specs.Memory.{signals};
 
 use crate::access::{AccessCore, enter};
 use aql_packet::{Address, ClientId, SignalHandle};
-use core_model::{Call, Effect, Effects, Event, MOST_HOST_BYTES, Outcome, Refusal};
+use core_model::{Bytes, Call, Effect, Effects, Event, MOST_HOST_BYTES, Outcome, Refusal};
 use policy::{Object, Right};
 use regions::region_of;
 use sequences::Sequence;
@@ -57,7 +57,7 @@ impl AccessCore {
         ensures places { self.new.places ≡ self.old.places }
     {
         self.may_write(client, address, &bytes)?;
-        let written = bytes.copy(alloc)?;
+        let written = Bytes::copied(alloc, bytes.as_slice())?;
         self.memory.lay(address, bytes.as_slice());
         let event = Event::Call(Call::HostWrite {
             client,

@@ -3,7 +3,7 @@
 ghost use Rattle.std.specs.Prelude.{◌≡◌, ◌-◌, ◌≤◌, IfNone, IfSome, filter, not, vec_capacity};
 ghost use Rattle.packet_processor.specs.Queueing.{IsFoundIn};
 ghost use Rattle.access_core.specs.Cores.{places_of};
-ghost use Rattle.access_core.specs.inner.ArgumentBlocks.{is_block};
+ghost use Rattle.access_core.specs.inner.ArgumentBlocks.{AreNamedOnce, is_block};
 ghost use Rattle.access_core.specs.inner.QueueChanges.{CanLeave, IsFoundOf, freed_by, packet_in, places_freed, with_leaving, with_queue, without_one};
 
 use crate::argument_blocks::ArgumentBlocks;
@@ -74,6 +74,7 @@ pub(crate) fn leave_flight(
     requires there { CanLeave queues.old.items queue leaving }
     requires found { IsFoundOf queues.old.items queue found }
     requires counted { freed_by (packet_in found) queues.old.items queue ≤ in_flight_count.old }
+    requires once { AreNamedOnce blocks.old.items }
     ensures queues { queues.new.items ≡ with_queue queues.old.items queue (with_leaving (packet_in found) leaving) }
     ensures capacity { vec_capacity queues.new ≡ vec_capacity queues.old }
     ensures in_flight_count { in_flight_count.new ≡ in_flight_count.old - freed_by (packet_in found) queues.old.items queue }

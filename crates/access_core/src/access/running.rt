@@ -1,7 +1,7 @@
 //! The groups of dispatches in flight are run: those of agent dispatches here.
 
 ghost use Rattle.core_model.specs.History.{beginning};
-ghost use Rattle.std.specs.Prelude.{Some, ◌≡◌, ◌++◌, ◌+◌, ◌-◌, ◌<◌, ◌^◌, Err, IfOk, List, OnErr, length, option_to_list, replicate, true, vec_capacity};
+ghost use Rattle.std.specs.Prelude.{Some, ◌≡◌, ◌++◌, ◌+◌, ◌-◌, ◌<◌, ◌^◌, Err, IfOk, List, OnErr, length, option_to_list, true, vec_capacity};
 ghost use Rattle.std.specs.Int.{w64, to_le_bytes};
 ghost use Rattle.aql_packet.specs.declared.packet.Packet.TheVariants as kind;
 ghost use Rattle.regions.specs.Memory.{is_within, lengths_of};
@@ -23,7 +23,7 @@ use crate::lists::copied;
 use crate::queue::Queue;
 use aql_packet::{Address, AgentDispatch, Packet, PacketId, QueueId};
 use core_model::{
-    AgentFunction, Call, Effect, Effects, Event, Outcome, Progress, Range, Refusal, Worked,
+    AgentFunction, Bytes, Call, Effect, Effects, Event, Outcome, Progress, Range, Refusal, Worked,
 };
 use packet_processor::{FoundPacket, Place, function_of};
 use regions::Regions;
@@ -34,7 +34,7 @@ use std::alloc::{AllocError, Global};
 #[derive(Drop)]
 struct Piece {
     address: Address,
-    bytes: Sequence<u8>,
+    bytes: Bytes,
 }
 
 impl AccessCore {
@@ -109,11 +109,11 @@ impl AccessCore {
         match function_of(dispatch) {
             Some(AgentFunction::Fill { target, byte }) => Ok(Piece {
                 address: target.address,
-                bytes: fill(alloc, target.size, byte)?,
+                bytes: Bytes::repeated(alloc, byte, target.size as usize)?,
             }),
             Some(AgentFunction::Copy { source, target }) => Ok(Piece {
                 address: target.address,
-                bytes: self.copy_range(alloc, source)?,
+                bytes: self.written_of(alloc, source)?,
             }),
             Some(AgentFunction::Add64 { number, addend }) => Ok(Piece {
                 address: number.address,
@@ -121,7 +121,7 @@ impl AccessCore {
             }),
             None => Ok(Piece {
                 address: Address(0),
-                bytes: Sequence::new(alloc),
+                bytes: Bytes::none(),
             }),
         }
     }
@@ -138,7 +138,7 @@ impl AccessCore {
         if address.0 == 0 {
             return Ok(Piece {
                 address,
-                bytes: Sequence::new(alloc),
+                bytes: Bytes::none(),
             });
         }
         Ok(Piece {
@@ -169,6 +169,19 @@ impl AccessCore {
             return Ok(Sequence::new(alloc));
         }
         copied(alloc, self.memory.bytes(range.address, range.size))
+    }
+
+    // The bytes of a range, as they are written elsewhere.
+    fn written_of(&self, alloc: Global, range: Range) -> Result<Bytes, AllocError>
+        requires { IsPlaced self.now.history range.address.0 range.size }
+        ensures bytes { IfOk result (λ bytes.
+            bytes ≡ memory_from (beginning self.now.history) self.now.history.entries range.address.0 range.size) }
+        ensures lacks { OnErr result (0 < range.size) }
+    {
+        if range.size == 0 {
+            return Ok(Bytes::none());
+        }
+        Bytes::copied(alloc, self.memory.bytes(range.address, range.size))
     }
 
     // The 64-bit number at an address.
@@ -208,22 +221,11 @@ pub(crate) fn advance(
     queues[queue.0 as usize - 1].places.advance(found, progress);
 }
 
-// The same byte again and again.
-fn fill(alloc: Global, size: u64, byte: u8) -> Result<Sequence<u8>, AllocError>
-    ensures bytes { IfOk result (λ bytes. bytes ≡ replicate size byte) }
-    ensures lacks { OnErr result (0 < size) }
-{
-    if size == 0 {
-        return Ok(Sequence::new(alloc));
-    }
-    Ok(Sequence::from_vec(vec![in alloc; byte; size as usize]?))
-}
-
 // The 8 bytes of a number, the lowest first.
-fn number_bytes(alloc: Global, number: u64) -> Result<Sequence<u8>, AllocError>
+fn number_bytes(alloc: Global, number: u64) -> Result<Bytes, AllocError>
     ensures { IfOk result (λ bytes. bytes ≡ to_le_bytes w64 number) }
 {
-    Ok(Sequence::from_vec(Vec::from_slice(alloc, &number.to_le_bytes())?))
+    Bytes::copied(alloc, &number.to_le_bytes())
 }
 
 // Lays one piece and then another over memory, and tells the changes.

@@ -8,7 +8,7 @@ ghost use Rattle.access_core.specs.Keeping.{ServedInPlace};
 ghost use Rattle.access_core.specs.Reloads.{as_reloaded};
 
 use crate::access::AccessCore;
-use core_model::{Answer, Call, Entry, Outcome, Query, Refusal, Reply, Request};
+use core_model::{Answer, Call, CoreRequest, Entry, Outcome, Query, Refusal, Reply};
 use policy::Policy;
 use sequences::Sequence;
 use std::alloc::{AllocError, Global};
@@ -16,7 +16,7 @@ use std::alloc::{AllocError, Global};
 impl AccessCore {
     /// Serves a request: makes the call that it names. None makes a table longer but the opening of a
     /// queue.
-    pub fn serve(&mut self, alloc: Global, request: Request) -> Reply
+    pub fn serve(&mut self, alloc: Global, request: CoreRequest) -> Reply
         ensures served { IsServed self.old.history request result self.new.history }
         ensures legal { IsLegal (beginning self.new.history) self.new.history.entries }
         ensures places { ServedInPlace request self.old self.new }
@@ -34,12 +34,12 @@ impl AccessCore {
     }
 
     // Makes the call that a request names.
-    fn dispatch(&mut self, alloc: Global, request: Request) -> Reply
+    fn dispatch(&mut self, alloc: Global, request: CoreRequest) -> Reply
         ensures served { IsServed self.old.history request result self.new.history }
         ensures places { ServedInPlace request self.old self.new }
     {
         match request {
-            Request::Open {
+            CoreRequest::Open {
                 client,
                 agent,
                 size,
@@ -47,14 +47,14 @@ impl AccessCore {
                 self.open_queue(alloc, client, agent, size)
                     .map(Outcome::Opened),
             ),
-            Request::Take {
+            CoreRequest::Take {
                 queue,
                 packet,
                 bytes,
             } => as_reply(self.take(alloc, queue, packet, &bytes).map(Outcome::Taken)),
-            Request::Call(call) => as_reply(self.make_call(alloc, call)),
-            Request::Query(query) => self.answer(alloc, query),
-            Request::Reload(policy) => as_reply(as_reloaded(self.reload(
+            CoreRequest::Call(call) => as_reply(self.make_call(alloc, call)),
+            CoreRequest::Query(query) => self.answer(alloc, query),
+            CoreRequest::Reload(policy) => as_reply(as_reloaded(self.reload(
                 alloc,
                 policy.into_inner(),
             ))),

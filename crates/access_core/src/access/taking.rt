@@ -1,7 +1,7 @@
 //! Packets are handed over: they wait, are launched, or denied.
 
 ghost use Rattle.core_model.specs.History.{beginning};
-ghost use Rattle.std.specs.Prelude.{◌≡◌, ◌++◌, IfErr, IfOk, Ok, OnOk, map, vec_capacity};
+ghost use Rattle.std.specs.Prelude.{◌≡◌, ◌++◌, [], IfErr, IfOk, Ok, OnOk, map, vec_capacity};
 ghost use Rattle.aql_packet.specs.Reading.{barrier_bit};
 ghost use Rattle.core_model.specs.Holds.{arguments_of, rights_at_launch};
 ghost use Rattle.core_model.specs.Owed.{facts_of, refuses};
@@ -17,12 +17,12 @@ use crate::access::{AccessCore, enter};
 use crate::argument_blocks::ArgumentBlock;
 use crate::queue::Queue;
 use aql_packet::{
-    AgentHandle, ClientId, Packet, PacketId, QueueId, RawHeader, header_in_first_word, header_of,
-    words_of,
+    AgentHandle, ClientId, Packet, PacketId, QueueId, RawHeader, header_of,
+    law_header_in_first_word, words_of,
 };
 use core_model::{Effects, Event, Outcome, Range, Refusal, Taken, WaitCause};
 use packet_processor::{
-    Facts, MayLaunch, PacketNeeds, QueueState, Verdict, held_by_arguments, held_by_needs, verdict,
+    Facts, MayLaunch, PacketNeeds, QueueState, Verdict, held_by_arguments, hold_needs, verdict,
 };
 use policy::{Object, Rights, TAKES_NOTHING};
 use queue_error::{QueueError, Rule};
@@ -33,7 +33,7 @@ use std::alloc::{AllocError, Global};
 fn header(bytes: &[u8; 64]) -> RawHeader
     ensures { result.barrier ≡ barrier_bit bytes.now }
 {
-    header_in_first_word();
+    law_header_in_first_word();
     header_of(words_of(bytes)[0])
 }
 
@@ -225,28 +225,38 @@ impl AccessCore {
         }
     }
 
-    // What a packet holds that is launched now with this argument block.
-    fn rights_at_launch(
+    // Lists what a packet holds that is launched now with this argument block.
+    fn list_rights(
         &self,
         alloc: Global,
         launching: &Launching,
         block: &[u8],
-    ) -> Result<Sequence<(Object, Rights)>, AllocError>
-        requires { block.now ≡ arguments_of (beginning self.now.history) self.now.history.entries launching.now.asked.packet }
-        ensures { IfOk result (λ rights. rights
+        rights: &mut Sequence<(Object, Rights)>,
+    ) -> Result<(), AllocError>
+        requires empty { rights.old ≡ [] }
+        requires block { block.now ≡ arguments_of (beginning self.now.history) self.now.history.entries launching.now.asked.packet }
+        ensures { OnOk result (rights.new
             ≡ map as_rights (rights_at_launch (beginning self.now.history) self.now.history.entries (opening_of launching.now) launching.now.asked.packet)) }
     {
-        let mut rights = held_by_needs(alloc, &launching.asked)?;
+        hold_needs(rights, &launching.asked)?;
         let Packet::Kernel(dispatch) = launching.asked.packet() else {
-            return Ok(rights);
+            return Ok(());
         };
         let Some(program) = self.kernel(dispatch) else {
-            return Ok(rights);
+            return Ok(());
         };
         let facts = self.facts(launching.client, launching.asked.agent());
         let pointed = held_by_arguments(alloc, &facts, program.wide_arguments(), block)?;
-        append(&mut rights, pointed.as_slice())?;
-        Ok(rights)
+        append(rights, pointed.as_slice())?;
+        Ok(())
+    }
+
+    // An empty list for the rights of a packet that is launched.
+    fn empty_list(&mut self, alloc: Global) -> Sequence<(Object, Rights)>
+        ensures empty { result ≡ [] }
+        ensures same { self.new ≡ self.old }
+    {
+        self.blocks.empty_list(alloc)
     }
 
     // Launches the next packet of a queue: it holds its rights from then on.
@@ -262,8 +272,27 @@ impl AccessCore {
         ensures met { MeetsOrLacks (Event.Take queue packet bytes.now) self.old.history self.new.history (map_ok Outcome.Taken result) }
         ensures places { self.new.places ≡ self.old.places }
     {
+        let rights = self.empty_list(alloc);
+        self.launch_with(alloc, queue, packet, bytes, launching, rights)
+    }
+
+    // Launches it with its rights in this list, which is empty yet.
+    fn launch_with(
+        &mut self,
+        alloc: Global,
+        queue: QueueId,
+        packet: PacketId,
+        bytes: &[u8; 64],
+        launching: Launching,
+        mut rights: Sequence<(Object, Rights)>,
+    ) -> Result<Taken, Refusal>
+        requires decided { Decides self.old.history queue packet bytes.now (Decision.Launch launching) }
+        requires empty { rights ≡ [] }
+        ensures met { MeetsOrLacks (Event.Take queue packet bytes.now) self.old.history self.new.history (map_ok Outcome.Taken result) }
+        ensures places { self.new.places ≡ self.old.places }
+    {
         let block = self.argument_block(alloc, launching.asked.packet())?;
-        let rights = self.rights_at_launch(alloc, &launching, block.as_slice())?;
+        self.list_rights(alloc, &launching, block.as_slice(), &mut rights)?;
         let client = launching.client;
         self.blocks.push(ArgumentBlock {
             queue,

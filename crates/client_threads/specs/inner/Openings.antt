@@ -1,5 +1,5 @@
 -- What the steps of an opening say.
-use Rattle.std.specs.Prelude.{◌≡◌, ◌≤◌, ℕ, true, List, [], ◌∷◌, ◌++◌, map, None}
+use Rattle.std.specs.Prelude.{◌≡◌, ◌≤◌, ℕ, true, List, [], ◌∷◌, ◌++◌, map}
 use Rattle.aql_packet.specs.declared.ids.QueueId.{QueueId}
 use Rattle.core_model.specs.declared.event.Event.{Event}
 use Rattle.core_model.specs.declared.limits.TheConstants.{QUEUES}
@@ -15,14 +15,13 @@ use Rattle.client_threads.specs.Boards.{PassSeen}
 use Rattle.client_threads.specs.Desks.{seen}
 use Rattle.client_threads.specs.Lanes.{LaneSeen}
 use Rattle.client_threads.specs.Opening.{as_end, next_queue}
-use Rattle.client_threads.specs.Rings.{QueueRing, ring_of}
+use Rattle.client_threads.specs.Rings.{QueueRing}
 
--- an opening makes this queue, which is the next and has no ring
-pub record IsOpenable (rings : List QueueRing) (history : History) (event : Event) (queue : QueueId) : Type 0 where
+-- an opening makes this queue, which is the next
+pub record IsOpenable (history : History) (event : Event) (queue : QueueId) : Type 0 where
   pub due_is : due history event ≡ enters (outcome.Opened queue) []
   pub next : queue.0 ≡ next_queue history
   pub few : queue.0 ≤ QUEUES
-  pub fresh : ring_of queue.0 rings ≡ None
 
 -- this was made for a queue: a ring of this size, its ends and its lane
 pub record IsBeside (queue : QueueId) (size producers : ℕ) (front : PassSeen) (made : Beside) : Type 0 where

@@ -1,5 +1,6 @@
 -- Places in the order of their packets' ids (own).
-use Rattle.std.specs.Prelude.{ℕ, ◌<◌, List, [], ◌∷◌}
+use Rattle.std.specs.Prelude.{ℕ, ◌<◌, ◌≤◌, List, [], ◌∷◌, drop, length}
+use Rattle.packet_processor.specs.declared.places.TheConstants.{PLACES}
 use Rattle.packet_processor.specs.declared.places.Place.{Place}
 
 -- the packets of these places have ids above this one
@@ -11,3 +12,7 @@ Above id (first ∷ later) = (id < first.id.0) × Above id later
 abbrev pub Ascends : List Place → Type 0
 Ascends [] = Unit {0}
 Ascends (first ∷ later) = Above first.id.0 later × Ascends later
+
+-- so many places in front were left behind, and the packets in those behind them ascend
+abbrev pub AreBehind : ℕ → List Place → Type 0
+AreBehind left places = (left ≤ length places) × (length places ≤ PLACES) × Ascends (drop left places)

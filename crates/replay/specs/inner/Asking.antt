@@ -6,8 +6,8 @@ use Rattle.core_model.specs.declared.answer.Answer.TheVariants as answer
 use Rattle.core_model.specs.declared.entry.Entry.{Entry}
 use Rattle.core_model.specs.declared.event.Event.{Event}
 use Rattle.core_model.specs.declared.event.Event.TheVariants.{Call, Open, Reload, Take}
-use Rattle.core_model.specs.declared.event.Request.{Request}
-use Rattle.core_model.specs.declared.event.Request.TheVariants as request
+use Rattle.core_model.specs.declared.event.CoreRequest.{CoreRequest}
+use Rattle.core_model.specs.declared.event.CoreRequest.TheVariants as request
 use Rattle.core_model.specs.declared.refusal.Refusal.TheVariants as refusal
 use Rattle.core_model.specs.History.{History}
 use Rattle.core_model.specs.Legal.{IsServed}
@@ -18,7 +18,7 @@ use Rattle.replay.specs.declared.stop.Stop.TheVariants as stop
 use Rattle.replay.specs.Replays.{GoesOn, HasRows, IsFull, IsOther, IsOwed, IsUnknown, Replayed, TellsTheSame}
 
 -- a request asks for an event: a reload by a further policy that has its rows
-abbrev pub Asks : Replayed → Event → Request → Type 0
+abbrev pub Asks : Replayed → Event → CoreRequest → Type 0
 Asks replay (Open client agent size) asked = asked ≡ request.Open client agent size
 Asks replay (Take queue packet bytes) asked = asked ≡ request.Take queue packet bytes
 Asks replay (Call call) asked = asked ≡ request.Call call
@@ -26,12 +26,12 @@ Asks replay (Reload rows) asked =
     (policy : Declared) × Contains replay.further policy × HasRows replay.history.origin.policy rows policy × (asked ≡ request.Reload policy)
 
 -- a request isn't a query
-abbrev pub IsCall : Request → Type 0
+abbrev pub IsCall : CoreRequest → Type 0
 IsCall (request.Query asked) = ⊥
 IsCall _ = Unit {0}
 
 -- the request of an event, unless memory is wanted; there is none where no further policy has the rows
-abbrev pub AsksOrNot : Replayed → Event → Result Request Stop → Type 0
+abbrev pub AsksOrNot : Replayed → Event → Result CoreRequest Stop → Type 0
 AsksOrNot replay event (Ok asked) = Asks replay event asked
 AsksOrNot replay event (Err stop.OutOfMemory) = Unit {0}
 AsksOrNot replay event (Err stop.UnknownRows) = IsUnknown replay.history.origin.policy replay.further event
@@ -61,7 +61,7 @@ IsJudged (Some made) told reply result = IsHeld made told result
 IsJudged None told reply result = result ≡ Err (told_in reply)
 
 -- a request was served, and what came was held against the entry
-abbrev pub HasMade : History → Request → Entry → Result (Unit {0}) Stop → History → Type 0
+abbrev pub HasMade : History → CoreRequest → Entry → Result (Unit {0}) Stop → History → Type 0
 HasMade old asked entry result new = (reply : AnswerOrRefusal) × IsServed old asked reply new × IsJudged (slice_get new.entries (length old.entries)) entry reply result
 
 -- what making the call of an entry comes to, where there is a place for it

@@ -3,7 +3,7 @@ use Rattle.std.specs.Prelude.{◌≡◌, ℕ, ◌+◌, Bool, List, [], ◌∷◌
 use Rattle.std.specs.List.{fold}
 use Rattle.aql_packet.specs.declared.ids.PacketId.{PacketId}
 use Rattle.ring_core.specs.declared.access.Made.{Made}
-use Rattle.ring_core.specs.declared.part.Part.{Part}
+use Rattle.ring_core.specs.declared.part.SeatPart.{SeatPart}
 use Rattle.ring_core.specs.declared.ticket.HeldTicket.{HeldTicket}
 use Rattle.ring_core.specs.declared.ticket.TicketChange.{TicketChange}
 use Rattle.ring_core.specs.declared.ticket.TicketChange.TheVariants.{Saw, Wrote}
@@ -12,7 +12,7 @@ use Rattle.ring_core.specs.Runs.{after_own}
 use Rattle.ring_core.specs.Tickets.{after_change, open_ticket}
 
 -- a seat makes accesses in turn, if it makes them
-abbrev pub after_all : Bool → Part → List Made → Part
+abbrev pub after_all : Bool → SeatPart → List Made → SeatPart
 after_all makes part mades = if makes then fold after_own part mades else part
 
 -- the changes of a ticket that is published: it saw the read index, and its words were written, the header last

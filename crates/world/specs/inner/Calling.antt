@@ -1,13 +1,15 @@
 -- The calls on a queue's ring, as the code makes them: their steps in turn, or the refusal of the first.
-use Rattle.std.specs.Prelude.{◌≡◌, ◌⊎◌, ℕ, Bool, true, false, List, length, option_map, Option, Some, None, Result, Ok, Err, if◌then◌else◌}
+use Rattle.std.specs.Prelude.{◌≡◌, ◌⊎◌, ℕ, Bool, true, false, List, length, option_map, Option, Some, None, Result, Ok, Err}
 use Rattle.aql_packet.specs.declared.ids.PacketId.{PacketId}
 use Rattle.aql_packet.specs.declared.ids.QueueId.{QueueId}
 use Rattle.core_model.specs.declared.refusal.Refusal.TheVariants as why
 use Rattle.ring_core.specs.declared.access.Access.{Access}
 use Rattle.ring_core.specs.declared.access.Access.TheVariants.{Reserve, LoadReadIndex, LoadHeader, ClearHeader}
 use Rattle.ring_core.specs.declared.access.Made.{Made}
+use Rattle.ring_core.specs.declared.state.Look.{Look}
+use Rattle.ring_core.specs.declared.state.Look.TheVariants.{Published, Busy}
 use Rattle.ring_core.specs.Calls.{has_room, retiring}
-use Rattle.ring_core.specs.InTurn.{MadeInTurn, collecting, packet_among, publishing, step_by}
+use Rattle.ring_core.specs.InTurn.{MadeInTurn, collecting, look_if, packet_among, publishing, step_by}
 use Rattle.ring_core.specs.Machine.{found, read_index}
 use Rattle.world.specs.declared.lane.Sent.{Sent}
 use Rattle.world.specs.declared.lane.Sent.TheVariants as sent
@@ -39,13 +41,14 @@ abbrev pub RetiresOn : QueueRing → Result ℕ Refusal → QueueRing → Type 0
 RetiresOn old (Ok index) new = (old.decided ≡ true) × MakesInTurn old 0 (retiring index) false new
 RetiresOn old (Err why) new = RefusesOn old 0 ClearHeader why new
 
--- a packet is published, or its slot is still taken: so the read index says
-abbrev pub sent_as : ℕ → PacketId → ℕ → Sent
-sent_as size ticket seen = if has_room size ticket.0 seen then sent.Published ticket else sent.Busy ticket seen
+-- a packet is published, or its slot is still taken: so the look for room says
+abbrev pub sent_as : PacketId → Look → Sent
+sent_as ticket Published = sent.Published ticket
+sent_as ticket (Busy seen) = sent.Busy ticket seen
 
 abbrev pub PublishesOn : ℕ → PacketId → List ℕ → QueueRing → Result Sent Refusal → QueueRing → Type 0
 PublishesOn producer ticket words old (Ok told) new =
-    (seen : ℕ) × (told ≡ sent_as old.ring.size ticket seen) × MakesInTurn old producer (publishing old.ring.size ticket.0 seen words) old.decided new
+    (seen : ℕ) × (told ≡ sent_as ticket (look_if (has_room old.ring.size ticket.0 seen) seen)) × MakesInTurn old producer (publishing old.ring.size ticket.0 seen words) old.decided new
 PublishesOn producer ticket words old (Err why) new = RefusesOn old producer (LoadReadIndex ticket) why new
 
 -- a ticket is reserved: one step, which read it, unless it is hindered or memory was wanted

@@ -10,4 +10,4 @@ pub returns-in-Ok-clause-apart : goal.returns-in-Ok-clause-apart
 returns-in-Ok-clause-apart c =
     let old = map seen c.args.desks.now.items in
     let items : map seen c.push_reserved.new.self.items ≡ old ++ seen c.args.made.desk ∷ [] = ap (λ (ds : List Desk). map seen ds) c.push_reserved.ensures.items ∙ map_push seen c.args.desks.now.items c.args.made.desk in
-    subst AreApart (sym items) (entered_apart old c.args.core.now.history c.args.client c.args.agent c.args.size c.args.made c.requires.openable c.requires.apart)
+    subst AreApart (sym items) (entered_apart c.args.core.now.history c.args.client c.args.agent c.args.size old c.args.made c.requires.openable c.requires.fresh c.requires.apart)

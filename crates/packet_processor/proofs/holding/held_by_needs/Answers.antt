@@ -1,13 +1,5 @@
--- What the five rules that ask for rights need is put behind each other.
-use Rattle.packet_processor.proofs.HeldByRule.{held_by_rule}
+-- They are put behind nothing.
 use Rattle.packet_processor.proofs.holding.held_by_needs.Goals as goal
 
 pub returns : goal.returns
-returns c = λ client.
-    held_by_rule (record { client = client; agent = c.args.asked.now.agent }) c.args.asked.now.packet _ _ _ _ _ _
-    c.new-held.ensures
-    (rw c.agent.ensures at (rw c.agent_needs.ensures at c.in_ok-hold_all.ensures))
-    (rw c.packet-packet.ensures at (rw c.kernel_needs.ensures at c.in_ok-hold_all-2.ensures))
-    (rw c.packet-packet.ensures at (rw c.memory_needs.ensures at c.in_ok-hold_all-3.ensures))
-    (rw c.packet-packet.ensures at (rw c.wait_needs.ensures at c.in_ok-hold_all-4.ensures))
-    (rw c.packet-packet.ensures at (rw c.completion_needs.ensures at c.in_ok-hold_all-5.ensures))
+returns c = λ client. rw c.new-held.ensures at (c.in_ok-hold_needs.ensures client)

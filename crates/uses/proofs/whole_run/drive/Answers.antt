@@ -9,7 +9,7 @@ use Rattle.uses.proofs.whole_run.drive.Goals as goal
 
 pub returns : goal.returns
 returns g c = λ policy prior h.
-    let go = c.each_run_goes_on.ensures in
+    let go = c.law_each_run_goes_on.ensures in
     let one : AreReplies c.args.world.now c.args.first.items c.in_ok-first.first.items c.run.new.self = search rules in
     let two : AreReplies c.run.new.self c.args.second.items c.in_ok-second.second.items c.run-2.new.self = search rules in
     let behind : List Entry = (prior ++ handed_out c.in_ok-first.first.items) ++ handed_out c.in_ok-second.second.items in

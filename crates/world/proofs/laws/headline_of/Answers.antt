@@ -18,28 +18,28 @@ returns c = λ first prior world over h.
     record {
       legal = legal;
       start_is = h.start_is;
-      launches = λ before queue id bytes effects place. c.each_launch_was_granted.ensures start all before queue id bytes effects legal place;
-      denials = λ before queue id bytes error effects place. c.denials_name_the_first_rule.ensures start all before queue id bytes error effects legal place;
+      launches = λ before queue id bytes effects place. c.law_each_launch_was_granted.ensures start all before queue id bytes effects legal place;
+      denials = λ before queue id bytes error effects place. c.law_denials_name_the_first_rule.ensures start all before queue id bytes error effects legal place;
       faults = λ before entry error place told. (
-        c.faults_release_alone.ensures.names start all before entry error legal place (elim told [ inl e ↦ ap error_of e | inr e ↦ ap error_of e ]),
-        c.faults_release_alone.ensures.releases start all before entry error legal place told,
+        c.law_faults_release_alone.ensures.names start all before entry error legal place (elim told [ inl e ↦ ap error_of e | inr e ↦ ap error_of e ]),
+        c.law_faults_release_alone.ensures.releases start all before entry error legal place told,
       );
-      writes = λ before entry place. c.each_write_was_granted.ensures start all before entry lengths legal place;
-      changes = λ before entry place. c.each_signal_change_was_granted.ensures start all before entry legal place;
-      group_reads = λ before queue id told effects place. c.each_read_of_a_group_was_granted.ensures.reads start all before queue id told effects legal place;
-      group_means = λ before queue id told effects flying place found. c.each_read_of_a_group_was_granted.ensures.means start all before queue id told effects flying legal place found;
-      group_depends = λ one other queue id own p so_far same. c.groups_depend_on_what_they_read.ensures start one other queue id own p so_far same;
-      reads = λ client address size told is. c.each_read_of_a_client_is_granted.ensures (beginning world.core) world.core.entries client address size told is;
-      looks = λ client signal told is. c.each_look_at_a_signal_is_granted.ensures.load (beginning world.core) world.core.entries client signal told is;
-      tests = λ client signal condition value told is. c.each_look_at_a_signal_is_granted.ensures.test (beginning world.core) world.core.entries client signal condition value told is;
-      listed = λ client told is. c.each_listed_right_is_in_force.ensures (beginning world.core) world.core.entries client told is;
+      writes = λ before entry place. c.law_each_write_was_granted.ensures start all before entry lengths legal place;
+      changes = λ before entry place. c.law_each_signal_change_was_granted.ensures start all before entry legal place;
+      group_reads = λ before queue id told effects place. c.law_each_read_of_a_group_was_granted.ensures.reads start all before queue id told effects legal place;
+      group_means = λ before queue id told effects flying place found. c.law_each_read_of_a_group_was_granted.ensures.means start all before queue id told effects flying legal place found;
+      group_depends = λ one other queue id own p so_far same. c.law_groups_depend_on_what_they_read.ensures start one other queue id own p so_far same;
+      reads = λ client address size told is. c.law_each_read_of_a_client_is_granted.ensures (beginning world.core) world.core.entries client address size told is;
+      looks = λ client signal told is. c.law_each_look_at_a_signal_is_granted.ensures.load (beginning world.core) world.core.entries client signal told is;
+      tests = λ client signal condition value told is. c.law_each_look_at_a_signal_is_granted.ensures.test (beginning world.core) world.core.entries client signal condition value told is;
+      listed = λ client told is. c.law_each_listed_right_is_in_force.ensures (beginning world.core) world.core.entries client told is;
       denied = record {
-        write = λ client address bytes known good none. c.calls_without_their_right_are_denied.ensures.write (beginning world.core) world.core.entries client address bytes known good none;
-        change = λ client signal operation known none. c.calls_without_their_right_are_denied.ensures.change (beginning world.core) world.core.entries client signal operation known none;
-        opening = λ client agent size known none. c.calls_without_their_right_are_denied.ensures.opening (beginning world.core) world.core.entries client agent size known none;
-        read = λ client address size known good none. c.calls_without_their_right_are_denied.ensures.read (beginning world.core) world.core.entries client address size known good none;
-        load = λ client signal known none. c.calls_without_their_right_are_denied.ensures.load (beginning world.core) world.core.entries client signal known none;
-        test = λ client signal condition value known none. c.calls_without_their_right_are_denied.ensures.test (beginning world.core) world.core.entries client signal condition value known none;
+        write = λ client address bytes known good none. c.law_calls_without_their_right_are_denied.ensures.write (beginning world.core) world.core.entries client address bytes known good none;
+        change = λ client signal operation known none. c.law_calls_without_their_right_are_denied.ensures.change (beginning world.core) world.core.entries client signal operation known none;
+        opening = λ client agent size known none. c.law_calls_without_their_right_are_denied.ensures.opening (beginning world.core) world.core.entries client agent size known none;
+        read = λ client address size known good none. c.law_calls_without_their_right_are_denied.ensures.read (beginning world.core) world.core.entries client address size known good none;
+        load = λ client signal known none. c.law_calls_without_their_right_are_denied.ensures.load (beginning world.core) world.core.entries client signal known none;
+        test = λ client signal condition value known none. c.law_calls_without_their_right_are_denied.ensures.test (beginning world.core) world.core.entries client signal condition value known none;
       };
       ring_count = h.count;
       ring_sizes = h.sizes;

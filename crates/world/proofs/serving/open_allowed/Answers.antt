@@ -4,7 +4,7 @@ use Rattle.core_model.specs.declared.event.Event.TheVariants.{Open}
 use Rattle.core_model.specs.declared.refusal.Refusal.TheVariants as refusal
 use Rattle.core_model.specs.Legal.{may_lack_memory}
 use Rattle.core_model.specs.Owed.{Owed}
-use Rattle.world.specs.Dues.{asked_size}
+use Rattle.ring_core.specs.Machine.{judged_size}
 use Rattle.world.proofs.Handing.{allowed_fits}
 use Rattle.world.proofs.serving.open_allowed.Goals as goal
 
@@ -18,5 +18,5 @@ make_ring-requires-clause-producers c =
 
 pub returns-in-Err : goal.returns-in-Err
 returns-in-Err c =
-    let may = ap (λ (owing : Owed). may_lack_memory (Open c.args.opening.client c.args.opening.agent (asked_size c.args.opening.size c.args.opening.producers)) owing) c.requires in
+    let may = ap (λ (owing : Owed). may_lack_memory (Open c.args.opening.client c.args.opening.agent (judged_size c.args.opening.size c.args.opening.producers)) owing) c.requires in
     (Err refusal.OutOfMemory, inr (record { may = may; asks = refl; reply_is = refl; history_is = refl }), refl, c.in-Err.ensures.rings)

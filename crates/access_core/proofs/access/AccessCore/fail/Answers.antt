@@ -13,6 +13,7 @@ use Rattle.access_core.proofs.TakeLemmas.{found-of, is-open, open-of}
 use Rattle.access_core.proofs.WorkLemmas.{failure-releases, can-fail, freed-below, place-inside, queues-released, sound-failed}
 use Rattle.core_model.specs.declared.entry.Effect.TheVariants as effect
 use Rattle.core_model.specs.declared.outcome.Outcome.TheVariants as outcome
+use Rattle.access_core.proofs.NamedOnce.{named-once}
 use Rattle.access_core.proofs.access.AccessCore.fail.Goals as goal
 
 abbrev failed : QueueId → PacketId → QueueView → QueueView
@@ -23,6 +24,9 @@ leave_flight-requires-clause-there = grind (arith, can-fail, is-open)
 
 pub leave_flight-requires-clause-found : goal.leave_flight-requires-clause-found
 leave_flight-requires-clause-found c = found-of c.self.inside c.self.invariant _ (seen c.self.view_is) c.args.queue c.args.found c.requires.at
+
+pub leave_flight-requires-clause-once : goal.leave_flight-requires-clause-once
+leave_flight-requires-clause-once c = named-once c.self.inside c.self.invariant
 
 pub leave_flight-requires-clause-counted : goal.leave_flight-requires-clause-counted
 leave_flight-requires-clause-counted c =

@@ -12,6 +12,7 @@ use Rattle.access_core.proofs.QueueAt.{flight-released}
 use Rattle.access_core.proofs.TakeLemmas.{found-of, open-of}
 use Rattle.access_core.proofs.WorkLemmas.{finish-releases, freed-below, memory-completed, finish-due, queues-released, sound-released}
 use Rattle.core_model.specs.declared.outcome.Outcome.TheVariants as outcome
+use Rattle.access_core.proofs.NamedOnce.{named-once}
 use Rattle.access_core.proofs.access.AccessCore.finish.Goals as goal
 
 pub leave_flight-requires-clause-there : goal.leave_flight-requires-clause-there
@@ -22,6 +23,9 @@ leave_flight-requires-clause-there c =
 
 pub leave_flight-requires-clause-found : goal.leave_flight-requires-clause-found
 leave_flight-requires-clause-found c = found-of c.self.inside c.self.invariant _ (seen c.self.view_is) c.args.queue (record { packet = c.args.packet; index = c.in_ok-found.found.index }) c.in_ok-found.ensures.at
+
+pub leave_flight-requires-clause-once : goal.leave_flight-requires-clause-once
+leave_flight-requires-clause-once c = named-once c.self.inside c.self.invariant
 
 pub leave_flight-requires-clause-counted : goal.leave_flight-requires-clause-counted
 leave_flight-requires-clause-counted c =

@@ -19,11 +19,11 @@ invariant_of-self c =
     IsCached-more a _ (Call (HostWrite c.args.client c.args.address c.args.bytes)) outcome.Accepted (Write c.args.address c.args.bytes ∷ []) c.self.invariant
     (record {
       same = ((refl, refl, refl), refl);
-      audit = rw (c.one-effects.ensures, c.in_ok-written.ensures) at c.enter.ensures;
+      audit = rw (c.one-effects.ensures, c.in_ok-written.ensures.copy, c.as_slice.ensures) at c.enter.ensures;
       grants = grants-still a c.self.invariant _ _ _ refl calm.stays (λ client on right b. refl) (λ rows. refl) (flight-quiet (start_of a) a.audit.items _ _ _ calm);
       memory = record {
         lengths = c.lay.ensures.lengths;
-        memory = λ x byte before. byte_at-written _ _ c.args.address c.args.bytes x byte (rw c.as_slice.ensures at c.lay.ensures.bytes) before;
+        memory = λ x byte before. byte_at-written _ _ c.args.address c.args.bytes x byte (rw c.as_slice-2.ensures at c.lay.ensures.bytes) before;
       };
       values = refl;
       queues = queues-still a c.self.invariant _ _ _ calm refl;

@@ -10,6 +10,7 @@ use Rattle.access_core.proofs.CachedMore.{IsCached-more, memory-still, owed-insi
 use Rattle.access_core.proofs.StopLemmas.{freed-stopped, grants-stopped, memory-released, queues-stopped, stop-open, values-released}
 use Rattle.access_core.proofs.TakeLemmas.{all-found-of}
 use Rattle.core_model.specs.declared.outcome.Outcome.TheVariants as outcome
+use Rattle.access_core.proofs.NamedOnce.{named-once}
 use Rattle.access_core.proofs.access.AccessCore.stop.Goals as goal
 
 pub leave_flight-requires-clause-there : goal.leave_flight-requires-clause-there
@@ -17,6 +18,9 @@ leave_flight-requires-clause-there = grind (arith, stop-open)
 
 pub leave_flight-requires-clause-found : goal.leave_flight-requires-clause-found
 leave_flight-requires-clause-found c = all-found-of c.self.inside c.self.invariant _ (seen c.self.view_is) c.args.queue c.in_ok-barrier.barrier c.in_ok-barrier.ensures.found
+
+pub leave_flight-requires-clause-once : goal.leave_flight-requires-clause-once
+leave_flight-requires-clause-once c = named-once c.self.inside c.self.invariant
 
 pub leave_flight-requires-clause-counted : goal.leave_flight-requires-clause-counted
 leave_flight-requires-clause-counted c =

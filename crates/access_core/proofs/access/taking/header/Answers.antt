@@ -7,4 +7,4 @@ pub returns : goal.returns
 returns c =
     c.header_of.ensures.barrier
     ∙ ap (λ (words : List ℕ). bits (get_or words 0 0) 8 8 == 1) c.words_of.ensures
-    ∙ c.header_in_first_word.ensures.barrier c.args.bytes.now (record { count = search rules; below = λ place. search rules })
+    ∙ c.law_header_in_first_word.ensures.barrier c.args.bytes.now (record { count = search rules; below = λ place. search rules })

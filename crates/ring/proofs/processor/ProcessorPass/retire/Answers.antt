@@ -1,6 +1,6 @@
 use Rattle.std.proofs.Common.{◌≡◌, ◌+◌, ◌^◌, ◌<◌, ◌∙◌, ℕ, true, List, [], ◌∷◌, ◌++◌, arith, sym, ap, subst}
 use Rattle.std.specs.Prelude.{length, Some}
-use Rattle.ring_core.specs.declared.part.Part.TheVariants.{Processor}
+use Rattle.ring_core.specs.declared.part.SeatPart.TheVariants.{Processor}
 use Rattle.ring_core.specs.Parts.{collected_packet}
 use Rattle.ring.specs.Bytes.{words_of}
 use Rattle.aql_packet.specs.Ring.{is_ring_size}

@@ -1,6 +1,6 @@
 use Rattle.std.proofs.Common.{rules, ◌≡◌, ◌+◌, ◌<◌, ◌∙◌, ℕ, List, [], ◌∷◌, true, false, refl, sym, ap, subst}
 use Rattle.std.specs.Prelude.{is_some, nat_lt, get_or}
-use Rattle.ring_core.specs.declared.part.Part.TheVariants.{Producer}
+use Rattle.ring_core.specs.declared.part.SeatPart.TheVariants.{Producer}
 use Rattle.ring_core.specs.Words.{is_invalid}
 use Rattle.aql_packet.specs.Ring.{is_ring_size}
 use Rattle.ring_core.specs.Tickets.{open_ticket, has_room}

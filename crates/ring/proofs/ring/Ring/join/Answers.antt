@@ -1,7 +1,7 @@
 use Rattle.std.proofs.Common.{◌≡◌, ◌∙◌, ◌++◌, suc, List, [], map, arith, sym, ap, subst}
 use Rattle.std.specs.Prelude.{All}
 use Rattle.ring.specs.Passes.{ProducerSeen}
-use Rattle.ring_core.specs.declared.part.Part.TheVariants.{Producer}
+use Rattle.ring_core.specs.declared.part.SeatPart.TheVariants.{Producer}
 use Rattle.ring.specs.Shares.{alone}
 use Rattle.ring.specs.Settling.{share_of}
 use Rattle.ring.proofs.Settling.{share_more}

@@ -2,7 +2,7 @@
 use Rattle.std.proofs.Common.{◌≡◌, List, sym, ap, subst, ◌∙◌}
 use Rattle.policy.specs.Policy.{Declared, region_lengths}
 use Rattle.core_model.specs.declared.entry.Entry.{Entry}
-use Rattle.core_model.specs.History.{Start, beginning}
+use Rattle.core_model.specs.History.{Start}
 use Rattle.world.specs.States.{Joined}
 use Rattle.world.specs.Headline.{Headline}
 use Rattle.world.specs.InStep.{IsJoined, IsJoinedBehind}

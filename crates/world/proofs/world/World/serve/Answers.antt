@@ -2,7 +2,6 @@
 use Rattle.std.proofs.Common.{◌++◌, subst}
 use Rattle.world.specs.States.{Joined}
 use Rattle.world.specs.Dues.{IsServed, handed}
-use Rattle.world.specs.InStep.{IsJoined}
 use Rattle.world.proofs.Kept.{served_kept}
 use Rattle.world.proofs.Obeyed.{World, obeyed_served}
 use Rattle.world.proofs.Deciding.{obeyed_decided}

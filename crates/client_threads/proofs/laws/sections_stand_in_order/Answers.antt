@@ -1,5 +1,0 @@
-use Rattle.client_threads.proofs.Sections.{in_order}
-use Rattle.client_threads.proofs.laws.sections_stand_in_order.Goals as goal
-
-pub returns : goal.returns
-returns c = in_order

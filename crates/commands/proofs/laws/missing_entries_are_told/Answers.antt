@@ -1,5 +1,0 @@
-use Rattle.commands.proofs.Entries.{opening-fault}
-use Rattle.commands.proofs.laws.missing_entries_are_told.Goals as goal
-
-pub returns : goal.returns
-returns c = λ policy capacity. opening-fault policy capacity

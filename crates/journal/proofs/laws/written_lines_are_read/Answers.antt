@@ -1,5 +1,0 @@
-use Rattle.journal.proofs.LineLaws.{line_read}
-use Rattle.journal.proofs.laws.written_lines_are_read.Goals as goal
-
-pub returns : goal.returns
-returns c chain entry small f = line_read chain entry small f
