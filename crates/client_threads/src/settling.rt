@@ -4,6 +4,7 @@
 ghost use Rattle.std.specs.Prelude.{◌≡◌, ◌≢◌, ◌↔◌, ◌==◌, ◌&&◌, ℕ, ◌+◌, ◌<◌, ◌≤◌, [], ◌++◌, IfOk, IfErr, All, Some, None, true, false, length, map, is_some, slice_index_or, vec_capacity};
 ghost use Rattle.ring.specs.Settling.{has_pass, has_passes};
 ghost use Rattle.client_threads.specs.Desks.{seen};
+ghost use Rattle.client_threads.specs.HandedOver.{AreSettledWith};
 ghost use Rattle.client_threads.specs.Rings.{AreApart};
 ghost use Rattle.client_threads.specs.Running.{IsEndOf, IsLaneOf};
 ghost use Rattle.client_threads.specs.Lanes.{LaneSeen};
@@ -23,9 +24,10 @@ use crate::client_end::ClientEnd;
 use crate::lane::Lane;
 use crate::mismatch::{find_lane, find_mismatch};
 use crate::room::{Held, Room};
+use crate::settled_parts::SettledParts;
 use access_core::AccessCore;
 use aql_packet::{PacketId, QueueId};
-use core_model::{Part, lead_to};
+use core_model::Part;
 use ring::{ProducerPass, Ring, SettleRoom, settle_in};
 use std::alloc::{AllocError, Global};
 use std::sync::Mutex;
@@ -442,19 +444,21 @@ fn settle_in_rooms(
 }
 
 /// Settles a broker once its threads have ended, all its ends and lanes have come back, and with all parts that
-/// were handed out of its core, in order. The core is the one that the broker was opened with, as the last section
-/// left it: what the front has seen stands before, and what each lane served stands, in order, among all that it took. Where these parts and the audit have
-/// of each queue just the packets that its lane served, ids and bytes, in order, each ring is settled: they are the
-/// packets that were published under the ids below its read index, and every other published packet stands whole in
-/// its slot. Else it names the least queue and the least id at which they differ. Refused in this order: a pass is
-/// missing; the first part doesn't begin with nothing before it, a later one doesn't begin where the one before it
-/// ends, or the audit doesn't begin where the last ends (without parts: the audit has entries before it); memory
-/// isn't to be had. All then comes back as it was.
+/// were handed out of its core, in order: those that were settled as they came, and then these. The core is the one that
+/// the broker was opened with, as the last section left it: what the front has seen stands before, and what each lane
+/// served stands, in order, among all that it took. Where all parts and the audit have of each queue just the packets
+/// that its lane served, ids and bytes, in order, each ring is settled: they are the packets that were published under
+/// the ids below its read index, and every other published packet stands whole in its slot. Else it names the least
+/// queue and the least id at which they differ. Refused in this order: a pass is missing; the first of all parts doesn't
+/// begin with nothing before it, a later one doesn't begin where the one before it ends, or the audit doesn't begin
+/// where the last ends (without parts: the audit has entries before it); memory isn't to be had. All then comes back as
+/// it was.
 #[tactic(auto, using(crate::proofs::Readiness::all_ready))]
 pub fn settle_all<B: Room>(
     alloc: Global,
     broker: Broker<B>,
     front: &mut Front,
+    settled: &SettledParts,
     parts: &[Part],
     ends: Vec<ClientEnd>,
     lanes: Vec<Lane>,
@@ -462,11 +466,12 @@ pub fn settle_all<B: Room>(
     requires front { front.old.board ≡ B.board }
     requires ends { All (λ end. IsEndOf broker end) ends.items }
     requires lanes { All (λ lane. IsLaneOf B.board broker lane) lanes.items }
+    requires settled { AreSettledWith settled.now lanes.items }
     ensures front { front.new ≡ front.old }
     ensures end { IfOk result (λ settlement. IsEnd B.opened front.old.left lanes.items (core_of settlement)) }
-    ensures settled { IfOk result (IsSettlement broker parts.now ends.items lanes.items) }
+    ensures settled { IfOk result (IsSettlement broker (settled.now ++ parts.now) ends.items lanes.items) }
     ensures all { IfOk result (λ _. has_all_passes broker ends.items lanes.items ≡ true) }
-    ensures fault { IfErr result (λ u. IsUnsettledFor B.opened front.old.left broker parts.now ends.items lanes.items u.fault) }
+    ensures fault { IfErr result (λ u. IsUnsettledFor B.opened front.old.left broker (settled.now ++ parts.now) ends.items lanes.items u.fault) }
     ensures back { IfErr result (λ u. (u.broker ≡ broker) × (u.ends.items ≡ ends.items) × (u.lanes.items ≡ lanes.items)) }
 {
     let Broker {
