@@ -5,6 +5,7 @@ pub mod Calls
 pub mod OtherTypes
 pub mod Handing
 pub mod GoingOn
+pub mod HandingOver
 pub mod Settled
 pub mod Belonging
 pub mod Differences

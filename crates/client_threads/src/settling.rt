@@ -146,13 +146,13 @@ fn has_all_passes(desks: &[Desk], ends: &[ClientEnd], lanes: &[Lane]) -> bool
     true
 }
 
-// Whether parts lead to a core's audit, which is legal.
-fn leads(parts: &[Part], core: &AccessCore) -> bool
+// Whether settled parts and then others lead to a core's audit, which is legal.
+fn leads(settled: &SettledParts, parts: &[Part], core: &AccessCore) -> bool
     ensures legal { IsLegal (beginning core.now.history) core.now.history.entries }
-    ensures lead { result ≡ true ↔ LeadTo parts.now core.now.history.origin }
+    ensures lead { result ≡ true ↔ LeadTo (settled.now ++ parts.now) core.now.history.origin }
 {
     core.audit();
-    lead_to(parts, core.start())
+    settled.lead_to(parts, core.start())
 }
 
 // Room to settle the ring of a queue: for the words of its slots, and for its producers' passes.
@@ -421,21 +421,23 @@ impl<B: Room> Held<B> {
 // Settles a broker whose passes are all there, and to whose core the parts lead, in rooms that were got for it.
 fn settle_in_rooms(
     core: AccessCore,
+    settled: &SettledParts,
     parts: &[Part],
     desks: Vec<Desk>,
     rooms: (Vec<QueueRoom>, Vec<SettledQueue>),
     ends: Vec<ClientEnd>,
     lanes: Vec<Lane>,
 ) -> Settlement
-    requires led { IsLedTo parts.now core }
+    requires led { IsLedTo (settled.now ++ parts.now) core }
+    requires settled { AreSettledWith settled.now lanes.items }
     requires apart { AreApart (map seen desks.items) }
     requires ready { AreReady ends.items lanes.items (map seen desks.items) rooms.0.items ends.items lanes.items }
     requires none { rooms.1.items ≡ [] }
     requires room { length desks.items ≤ vec_capacity rooms.1 }
-    ensures settled { IsSettlement (map seen desks.items) parts.now ends.items lanes.items result }
+    ensures settled { IsSettlement (map seen desks.items) (settled.now ++ parts.now) ends.items lanes.items result }
     ensures core { core_of result ≡ core }
 {
-    if let Some((queue, id)) = find_mismatch(parts, core.audit(), lanes.as_slice()) {
+    if let Some((queue, id)) = find_mismatch(settled, parts, core.audit(), lanes.as_slice()) {
         return Settlement::Mismatch { core, queue, id };
     }
     let (rooms, room) = rooms;
@@ -487,7 +489,7 @@ pub fn settle_all<B: Room>(
         let why = SettleAllFault::MissingPass;
         return Err(unsettled(why, held, board, desks, openings, ends, lanes));
     }
-    if !leads(parts, held.core()) {
+    if !leads(settled, parts, held.core()) {
         let why = SettleAllFault::NotNext;
         return Err(unsettled(why, held, board, desks, openings, ends, lanes));
     }
@@ -498,7 +500,7 @@ pub fn settle_all<B: Room>(
         }
         Ok(rooms) => {
             let core = held.into_core();
-            Ok(settle_in_rooms(core, parts, desks, rooms, ends, lanes))
+            Ok(settle_in_rooms(core, settled, parts, desks, rooms, ends, lanes))
         }
     }
 }
