@@ -1,6 +1,6 @@
 -- What is handed out in a section.
 use Rattle.std.proofs.Common.{◌≡◌, ℕ, zero, suc, ◌<◌, ◌∙◌, ap, refl, List, [], ◌∷◌, ◌++◌, length, map, sym, subst, inr, arith}
-use Rattle.std.specs.Prelude.{All, MatchOption, Option, None, Some, Result, Ok, Err, IfOk, option_to_list, slice_index_or}
+use Rattle.std.specs.Prelude.{All, MatchOption, Option, None, Some, Result, Ok, Err, IfErr, IfOk, option_to_list, slice_index_or}
 use Rattle.std.proofs.lemmas.List.{append-nil}
 use Rattle.std.proofs.lemmas.List.Elements.{All-push}
 use Rattle.aql_packet.specs.declared.ids.QueueId.{QueueId}
@@ -62,6 +62,21 @@ with_none P settled h = subst P (sym (none_left settled)) h
 
 pub none_was : {E : Type 0} (P : List Part → Type 0) (settled : List Part) (handed_out : Result (Option Part) E) → handed_out ≡ Ok None → IfOk handed_out (λ left. P (settled ++ option_to_list left)) → P settled
 none_was P settled handed_out is h = subst P (none_left settled) (subst (λ (r : Result (Option Part) _). IfOk r (λ left. P (settled ++ option_to_list left))) is h)
+
+-- what is true of all parts of a run, whether it went well or not
+pub all_handed : {X E F : Type 0} (P : List Part → Type 0) (settled own : List Part) (handed_out : Result (Option Part) E) (left : Option Part) (run : Result X F)
+    → own ≡ settled → IfOk run (λ _. handed_out ≡ Ok left) → IfErr run (λ _. left ≡ None) → P settled → IfOk handed_out (λ l. P (settled ++ option_to_list l)) → P (own ++ option_to_list left)
+all_handed P settled own handed_out left (Ok x) same ok err none h =
+    subst (λ (ps : List Part). P (ps ++ option_to_list left)) (sym same) (subst (λ (r : Result (Option Part) _). IfOk r (λ l. P (settled ++ option_to_list l))) ok h)
+all_handed P settled own handed_out left (Err e) same ok err none h =
+    subst (λ (l : Option Part). P (own ++ option_to_list l)) (sym err) (with_none P own (subst P (sym same) none))
+
+-- or where it did
+pub told_handed : {X E F : Type 0} (P : List Part → Type 0) (settled own : List Part) (handed_out : Result (Option Part) E) (left : Option Part) (run : Result X F)
+    → own ≡ settled → IfOk run (λ _. handed_out ≡ Ok left) → IfOk handed_out (λ l. P (settled ++ option_to_list l)) → IfOk run (λ _. P (own ++ option_to_list left))
+told_handed P settled own handed_out left (Ok x) same ok h =
+    subst (λ (ps : List Part). P (ps ++ option_to_list left)) (sym same) (subst (λ (r : Result (Option Part) _). IfOk r (λ l. P (settled ++ option_to_list l))) ok h)
+told_handed P settled own handed_out left (Err e) same ok h = tt
 
 all_first : {X : Type 0} (P : X → Type 0) (xs ys : List X) → All P (xs ++ ys) → All P xs
 all_first P [] ys all = λ k d lt. absurd (omega (arith, lt))

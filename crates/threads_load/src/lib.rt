@@ -17,9 +17,7 @@ mod report;
 mod running;
 mod watch;
 
-pub use counting::{
-    PacketCounts, are_finished, count_none, count_on, count_packets, counts_at,
-};
+pub use counting::{PacketCounts, are_finished, count_none, count_on, count_packets, counts_at};
 pub use fault::LoadFault;
 pub use gate::LoadGate;
 pub use granting::grant_all;

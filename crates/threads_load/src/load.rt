@@ -297,9 +297,7 @@ fn run_named<B: Room + Send + Sync, R: Threads + Wait + Sync, W: Watch>(
     let counts = count_none(alloc, plan.len())?;
     let (broker, front) = name_broker::<B>(unnamed)?;
     let stage = open_stage(alloc, broker, front, plan, terms.producers)?;
-    run_over(
-        rt, alloc, stage, plan, share, gate, counts, wanted, watch,
-    )
+    run_over(rt, alloc, stage, plan, share, gate, counts, wanted, watch)
 }
 
 // A load with its report, if there is one.

@@ -204,11 +204,7 @@ fn show_and_count<W: Watch>(
 }
 
 // Settles a part with what the lanes hand over. One that doesn't settle comes back.
-fn settle_part(
-    part: Part,
-    settled: &mut SettledParts,
-    lanes: &mut Vec<Lane>,
-) -> Option<Part>
+fn settle_part(part: Part, settled: &mut SettledParts, lanes: &mut Vec<Lane>) -> Option<Part>
     requires { AreSettledWith settled.old lanes.old.items }
     ensures settled { AreSettledWith settled.new lanes.new.items }
     ensures parts { settled.new ++ option_to_list result ≡ settled.old ++ part ∷ [] }
@@ -322,9 +318,7 @@ fn run_rounds<B: Room + Send + Sync, R: Threads + Wait + Sync, W: Watch>(
         if !gate.begin_next() {
             return (lanes, Ok(None));
         }
-        let handed_out = hand_out(
-            rt, alloc, broker, front, &mut lanes, settled, counts, watch,
-        );
+        let handed_out = hand_out(rt, alloc, broker, front, &mut lanes, settled, counts, watch);
         if !goes_on(&handed_out) {
             return (lanes, handed_out);
         }
@@ -392,7 +386,15 @@ fn run_along<B: Room + Send + Sync, R: Threads + Wait + Sync, W: Watch>(
     let mut counts = counts;
     let mut settled = SettledParts::none();
     let (lanes, handed_out) = run_rounds(
-        rt, alloc, broker, &mut front, lanes, &mut settled, &mut counts, gate, watch,
+        rt,
+        alloc,
+        broker,
+        &mut front,
+        lanes,
+        &mut settled,
+        &mut counts,
+        gate,
+        watch,
     );
     let (out, run) = end_rounds(settled, counts, handed_out, gate);
     (front, lanes, out, run)
@@ -440,7 +442,6 @@ fn run_beside<B: Room + Send + Sync, R: Threads + Wait + Sync, W: Watch>(
         { run_along(rt, alloc, broker, front, lanes, counts, gate, watch) },
     )
 }
-
 
 /// Runs the producers and the lanes of a broker, each on a thread of its own where one can be made, until all have
 /// ended. Each producer publishes so many packets, and tries again 10,000,000 times at the most.

@@ -9,8 +9,8 @@ use crate::stages::{packet, publish_last, run_with, split_last_end, stage, unnam
 use access_core::AccessCore;
 use aql_packet::{AgentHandle, ClientId, PacketId, QueueId, RegionHandle};
 use client_threads::{
-    Broker, ClientEnd, Gate, LaneAnswer, Room, SettleAllFault, SettledParts, SettledQueue, Settlement,
-    UnnamedBroker, settle_all,
+    Broker, ClientEnd, Gate, LaneAnswer, Room, SettleAllFault, SettledParts, SettledQueue,
+    Settlement, UnnamedBroker, settle_all,
 };
 use core_model::Part;
 use std::alloc::Global;

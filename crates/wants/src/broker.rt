@@ -9,8 +9,8 @@ use crate::telling::{tell_one, tell_two, tell_want};
 use access_core::Kernel;
 use aql_packet::{AgentHandle, ClientId, QueueId, RegionHandle};
 use client_threads::{
-    Broker, Front, Opened, Room, SettleAllFault, SettledParts, SettledQueue, Settlement, UnnamedBroker,
-    run_lanes, settle_all,
+    Broker, Front, Opened, Room, SettleAllFault, SettledParts, SettledQueue, Settlement,
+    UnnamedBroker, run_lanes, settle_all,
 };
 use core_model::Refusal;
 use policy::{Policy, ReadPolicyError, read_policy};

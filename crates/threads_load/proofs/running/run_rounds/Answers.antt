@@ -20,7 +20,7 @@ loop-round-preserved g c = (
   c.hand_out.ensures.settled,
   c.hand_out.ensures.parts,
   λ queues are. none_was (λ (ps : List Part). AreCounts (entries_in ps) queues c.hand_out.new.counts.items) c.hand_out.new.settled c.hand_out.result (c.goes_on.ensures ?)
-  (c.hand_out.ensures.counts queues (c.loop-round.invariant.6 queues are)),
+      (c.hand_out.ensures.counts queues (c.loop-round.invariant.6 queues are)),
 )
 
 pub returns-then-not-begin_next-clause-left : goal.returns-then-not-begin_next-clause-left
