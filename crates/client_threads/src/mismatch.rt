@@ -162,6 +162,7 @@ fn kept_by(lanes: &[Lane], queue: QueueId) -> &[Served]
 }
 
 // How many packets the lane of a queue handed over; of a queue without a lane, none.
+#[tactic(auto, using(crate::proofs::HandingOver::handed_none, crate::proofs::HandingOver::handed_some))]
 fn handed_by(lanes: &[Lane], queue: QueueId) -> u64
     ensures { HandedBy lanes.now queue.0 result }
 {
