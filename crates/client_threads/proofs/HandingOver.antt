@@ -194,12 +194,13 @@ leads_first settled parts start goes none is = subst (λ (ps : List Part). goes 
 
 -- no other part stands between
 pub is_next : (settled : List Part) (start origin : Origin) (told : Bool) → told ≡ true → (told ≡ true ↔ LeadTo (settled ++ []) start) → start ≡ origin → LeadTo settled origin
-is_next settled start origin told yes is same = subst (LeadTo settled) same (subst (λ (ps : List Part). LeadTo ps start) (append-nil settled) (is.0 yes))
+is_next settled start origin told said is same = subst (LeadTo settled) same (subst (λ (ps : List Part). LeadTo ps start) (append-nil settled) (is.0 said))
 
 pub not_next : (settled : List Part) (start origin : Origin) (told : Bool) → told ≡ false → (told ≡ true ↔ LeadTo (settled ++ []) start) → start ≡ origin → LeadTo settled origin → ⊥
-not_next settled start origin told no is same lead =
-    let yes : told ≡ true = is.1 (subst (λ (ps : List Part). LeadTo ps start) (sym (append-nil settled)) (subst (LeadTo settled) (sym same) lead)) in
-    cc (no, yes)
+not_next settled start origin told said is same lead =
+    let leads : told ≡ true = is.1 (subst (λ (ps : List Part). LeadTo ps start) (sym (append-nil settled)) (subst (LeadTo settled) (sym same) lead)) in
+    let never : true ≡ false = sym leads ∙ said in
+    cc
 
 pub ends_in_more : (parts new : List Part) (part : Part) → LeadTo parts part.start → new ≡ parts ++ part ∷ [] → EndIn new (Some part)
 ends_in_more parts new part lead is = (parts, is, lead)

@@ -93,3 +93,27 @@ advances old before (advanced.Polled p found) new after id reply is h = h
 advances old before (advanced.Finished p) new after id reply is h = h
 advances old before (advanced.Faulted error) new after id reply is h = h
 advances old before (advanced.Refused p why) new after id reply is h = h
+
+-- ---- by the steps of the code
+
+module _ (queue : QueueId) (pass : ProcessorSeen) (kept : List Served) (handed : ℕ) (front : PassSeen) (old removed : List PendingPacket) (p : PendingPacket)
+    (keeps : Keeps queue pass kept handed old front) (some : 0 < length old) (first : p ≡ slice_index_or old 0 p) (are : removed ≡ remove old 0) where
+  parted : old ≡ p ∷ removed
+  parted = first_removed old p some first ∙ ap (λ (ps : List PendingPacket). p ∷ ps) (sym are)
+
+  keeps_first : Keeps queue pass kept handed (p ∷ removed) front
+  keeps_first = subst (λ (ps : List PendingPacket). Keeps queue pass kept handed ps front) parted keeps
+
+  pub left_so : Keeps queue pass kept handed removed front
+  left_so = left_keeps queue pass kept handed front p removed keeps_first
+
+  pub turned_so : (new : List PendingPacket) → new ≡ removed ++ p ∷ [] → Keeps queue pass kept handed new front
+  turned_so new is = subst (λ (ps : List PendingPacket). Keeps queue pass kept handed ps front) (sym is) (turned_keeps queue pass kept handed front p removed keeps_first)
+
+  pub advances_so : (before after : History) (event : Event) (reply : Result Outcome Refusal) (result : Advanced) (more : List PendingPacket)
+      → IsLastCall before queue p.id p.is_barrier event reply → MeetsOrLacks event before after reply → result ≡ told p.id reply → more ≡ (if leaves reply then removed else removed ++ p ∷ [])
+      → AdvancesTo (seen_as queue pass kept old front) before result (seen_as queue pass kept more front) after
+  advances_so before after event reply result more last met told_is is =
+      subst (λ (ps : List PendingPacket). AdvancesTo (seen_as queue pass kept ps front) before result (seen_as queue pass kept more front) after) (sym parted)
+      (advances (seen_as queue pass kept (p ∷ removed) front) before result (seen_as queue pass kept more front) after p.id reply told_is
+      (is_advanced queue pass kept handed front p removed before after event reply result more keeps_first last met told_is is))
