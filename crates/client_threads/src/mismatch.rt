@@ -4,7 +4,6 @@ ghost use Rattle.std.specs.Prelude.{◌≡◌, ◌≢◌, ℕ, ◌<◌, ◌≤�
 ghost use Rattle.std.specs.Option.{IfSome, IfNone, option_copied};
 ghost use Rattle.core_model.specs.Rotation.{entries_in};
 ghost use Rattle.client_threads.specs.HandedOver.{AreSettledWith, kept_by};
-
 ghost use Rattle.client_threads.specs.inner.Partings.{HandedBy, PartsBefore};
 ghost use Rattle.client_threads.specs.Takes.{AllAgree, DiffersAt, IsLeastMismatch, lane_at, served_by, taken_by, takes};
 

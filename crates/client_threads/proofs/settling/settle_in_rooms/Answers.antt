@@ -13,7 +13,7 @@ returns-clause-settled c =
     let all = all_of c.args.settled.now c.args.parts.now c.args.core.history.entries c.audit.result.now c.audit.ensures.entries in (
       c.requires.led,
       subst (λ (ls : List LaneSeen). AllAgree (all_entries (c.args.settled.now ++ c.args.parts.now) c.args.core) ls) c.as_slice.ensures.value
-      (subst (λ (es : List Entry). AllAgree es c.as_slice.result.now) all c.in_default.ensures.same),
+          (subst (λ (es : List Entry). AllAgree es c.as_slice.result.now) all c.in_default.ensures.same),
       c.settle_rings-rings.ensures,
     )
 
@@ -25,5 +25,5 @@ returns-in-Some-clause-settled c =
     let least : IsLeastMismatch (entries_in c.args.settled.now ++ (entries_in c.args.parts.now ++ c.audit.result.now)) c.as_slice.result.now queue id = search rules in (
       c.requires.led,
       subst (λ (ls : List LaneSeen). IsLeastMismatch (all_entries (c.args.settled.now ++ c.args.parts.now) c.args.core) ls queue id) c.as_slice.ensures.value
-      (subst (λ (es : List Entry). IsLeastMismatch es c.as_slice.result.now queue id) all least),
+          (subst (λ (es : List Entry). IsLeastMismatch es c.as_slice.result.now queue id) all least),
     )
