@@ -1,19 +1,20 @@
 -- What lanes handed over, and what parts took of it.
 use Rattle.std.proofs.Common.{◌≡◌, ℕ, suc, zero, ◌+◌, ◌<◌, ◌≤◌, ◌^◌, true, false, Bool, List, [], ◌∷◌, ◌++◌, length, map, take, refl, ap, ◌∙◌, sym, subst, arith, append_assoc}
 use Rattle.std.proofs.lemmas.List.{append-nil, length-append}
-use Rattle.std.specs.Prelude.{◌↔◌, ◌≢◌, ◌==◌, All, Option, Some, None, cond, option_map, slice_get, slice_index_or, ⊤}
+use Rattle.std.proofs.Math.Numerals.{add-one}
+use Rattle.std.specs.Prelude.{◌↔◌, ◌≢◌, ◌==◌, All, Option, Some, None, cond, option_map, slice_get, slice_index_or, slice_set, ⊤}
 use Rattle.atomic_table.specs.Seated.{TableId}
 use Rattle.aql_packet.specs.declared.ids.QueueId.{QueueId}
-use Rattle.core_model.specs.History.{Origin, Part}
-use Rattle.core_model.specs.Legal.{SameOrigin}
+use Rattle.core_model.specs.History.{Part}
 use Rattle.core_model.specs.Rotation.{GoOn, LeadTo, entries_in}
 use Rattle.core_model.specs.declared.entry.Entry.{Entry}
+use Rattle.core_model.specs.declared.origin.Origin.{Origin}
 use Rattle.core_model.specs.declared.served.Served.{Served}
 use Rattle.client_threads.specs.HandedOver.{AreSettledWith, KeepsAll, handed_over, kept_by, kept_in}
 use Rattle.client_threads.specs.Lanes.{LaneSeen}
 use Rattle.client_threads.specs.Rings.{QueueRing}
 use Rattle.client_threads.specs.Running.{EachGoesOn, GoesOn, IsLaneOf}
-use Rattle.client_threads.specs.Takes.{AllAgree, DiffersAt, lane_at, served_by, served_in, takes}
+use Rattle.client_threads.specs.Takes.{AllAgree, DiffersAt, IsLeastMismatch, lane_at, served_by, served_in, takes}
 use Rattle.client_threads.specs.inner.Partings.{HandedBy}
 use Rattle.client_threads.specs.inner.SettledEnds.{EndIn}
 use Rattle.client_threads.proofs.Differences.{takes-append}
@@ -106,6 +107,28 @@ still_of board rings [] h k d lt = absurd (omega (arith, lt))
 still_of board rings (l ∷ ls) h zero d lt = let one : IsLaneOf board rings l = h zero l (omega arith) in record { is = one.is; board_is = one.board_is; stands = one.stands }
 still_of board rings (l ∷ ls) h (suc k) d lt = still_of board rings ls (λ j e i. h (suc j) e (omega (arith, i))) k d (omega (arith, lt))
 
+-- lanes of which the first so many have handed over
+abbrev pub handed_until : ℕ → List LaneSeen → List LaneSeen
+handed_until zero lanes = lanes
+handed_until (suc n) [] = []
+handed_until (suc n) (l ∷ ls) = handed_over l ∷ handed_until n ls
+
+set_here : (n : ℕ) (lanes : List LaneSeen) (lane : LaneSeen) → n < length lanes → lane ≡ slice_index_or (handed_until n lanes) n lane → slice_set (handed_until n lanes) n (handed_over lane) ≡ handed_until (suc n) lanes
+set_here n [] lane lt is = absurd (omega (arith, lt))
+set_here zero (l ∷ ls) lane lt is = ap (λ (x : LaneSeen). handed_over x ∷ ls) is
+set_here (suc n) (l ∷ ls) lane lt is = ap (λ (xs : List LaneSeen). handed_over l ∷ xs) (set_here n ls lane (omega (arith, lt)) is)
+
+pub handed_next : (all lanes : List LaneSeen) (n : ℕ) (lane new : LaneSeen) → n < length all → lanes ≡ handed_until n all → lane ≡ slice_index_or lanes n lane → new ≡ handed_over lane → slice_set lanes n new ≡ handed_until (n + 1) all
+handed_next all lanes n lane new lt are is handed =
+    let at : lane ≡ slice_index_or (handed_until n all) n lane = is ∙ ap (λ (xs : List LaneSeen). slice_index_or xs n lane) are in
+    ap (λ (xs : List LaneSeen). slice_set xs n new) are ∙ ap (slice_set (handed_until n all) n) handed ∙ set_here n all lane lt at ∙ ap (λ k. handed_until k all) (sym (add-one n))
+
+pub all_handed : (n : ℕ) (lanes : List LaneSeen) → length lanes < suc n → handed_until n lanes ≡ map handed_over lanes
+all_handed zero [] lt = refl
+all_handed zero (l ∷ ls) lt = absurd (omega (arith, lt))
+all_handed (suc n) [] lt = refl
+all_handed (suc n) (l ∷ ls) lt = ap (λ (xs : List LaneSeen). handed_over l ∷ xs) (all_handed n ls (omega (arith, lt)))
+
 -- ---- where all that was taken and all that was served differ
 
 pub handed_none : (lanes : List LaneSeen) (queue : ℕ) → lane_at queue lanes ≡ None → HandedBy lanes queue 0
@@ -126,9 +149,10 @@ id_fits lanes queue count place h within =
     let few = h.1 in
     omega (arith, all, few, within)
 
-shifted : (before us vs : List Served) (place : ℕ) → DiffersAt us vs place → DiffersAt (before ++ us) (before ++ vs) (length before + place)
-shifted [] us vs place h = record { below = h.below; there = h.there }
-shifted (b ∷ bs) us vs place h = let r = shifted bs us vs place h in record { below = ap (λ xs. b ∷ xs) r.below; there = r.there }
+shifted : (before us vs : List Served) (n place : ℕ) → n ≡ length before + place → DiffersAt us vs place → DiffersAt (before ++ us) (before ++ vs) n
+shifted [] us vs n place is h = let e : place ≡ n = omega (arith, is) in subst (DiffersAt us vs) e h
+shifted (b ∷ bs) us vs zero place is h = absurd (omega (arith, is))
+shifted (b ∷ bs) us vs (suc n) place is h = let r = shifted bs us vs n place (omega (arith, is)) h in record { below = ap (λ xs. b ∷ xs) r.below; there = r.there }
 
 pub same_in_all : (parts : List Part) (rest : List Entry) (lanes : List LaneSeen) (queue : ℕ) → AreSettledWith parts lanes → takes rest queue ≡ kept_by lanes queue → takes (entries_in parts ++ rest) queue ≡ served_by lanes queue
 same_in_all parts rest lanes queue settled same =
@@ -144,10 +168,9 @@ differs_in_all parts rest lanes queue count place settled handed differs =
     let kept = kept_by lanes queue in
     let whole : length (served_by lanes queue) ≡ length before + length kept = ap length (settled queue) ∙ length-append before kept in
     let all = handed.0 in
-    let is : length before ≡ count = omega (arith, whole, all) in
-    subst (λ (n : ℕ). DiffersAt (takes (entries_in parts ++ rest) queue) (served_by lanes queue) (n + place)) is
-    (subst (λ (xs : List Served). DiffersAt xs (served_by lanes queue) (length before + place)) (sym (takes-append (entries_in parts) rest queue))
-    (subst (λ (ys : List Served). DiffersAt (before ++ takes rest queue) ys (length before + place)) (sym (settled queue)) (shifted before (takes rest queue) kept place differs)))
+    let is : count + place ≡ length before + place = omega (arith, whole, all) in
+    subst (λ (xs : List Served). DiffersAt xs (served_by lanes queue) (count + place)) (sym (takes-append (entries_in parts) rest queue))
+    (subst (λ (ys : List Served). DiffersAt (before ++ takes rest queue) ys (count + place)) (sym (settled queue)) (shifted before (takes rest queue) kept (count + place) place is differs))
 
 -- ---- where settled parts end
 
@@ -169,5 +192,34 @@ leads_on settled last parts start goes ended is =
 pub leads_first : (settled parts : List Part) (start : Origin) (goes : Bool) → EndIn settled None → goes ≡ true ↔ LeadTo parts start → goes ≡ true ↔ LeadTo (settled ++ parts) start
 leads_first settled parts start goes none is = subst (λ (ps : List Part). goes ≡ true ↔ LeadTo (ps ++ parts) start) (sym none) is
 
+-- no other part stands between
+pub is_next : (settled : List Part) (start origin : Origin) (told : Bool) → told ≡ true → (told ≡ true ↔ LeadTo (settled ++ []) start) → start ≡ origin → LeadTo settled origin
+is_next settled start origin told said is same = subst (LeadTo settled) same (subst (λ (ps : List Part). LeadTo ps start) (append-nil settled) (is.0 said))
+
+pub not_next : (settled : List Part) (start origin : Origin) (told : Bool) → told ≡ false → (told ≡ true ↔ LeadTo (settled ++ []) start) → start ≡ origin → LeadTo settled origin → ⊥
+not_next settled start origin told said is same lead =
+    let leads : told ≡ true = is.1 (subst (λ (ps : List Part). LeadTo ps start) (sym (append-nil settled)) (subst (LeadTo settled) (sym same) lead)) in
+    let never : true ≡ false = sym leads ∙ said in
+    cc
+
 pub ends_in_more : (parts new : List Part) (part : Part) → LeadTo parts part.start → new ≡ parts ++ part ∷ [] → EndIn new (Some part)
 ends_in_more parts new part lead is = (parts, is, lead)
+
+-- ---- a part that is settled
+
+-- it has all that lanes keep
+pub settled_so : (settled new : List Part) (part : Part) (entries : List Entry) (lanes seen handed : List LaneSeen) → AllAgree (entries_in settled ++ (entries_in [] ++ entries)) seen → entries ≡ part.entries → seen ≡ lanes
+    → new ≡ settled ++ part ∷ [] → handed ≡ map handed_over lanes → AreSettledWith new handed
+settled_so settled new part entries lanes seen handed agree are same parts left =
+    subst (λ (ps : List Part). AreSettledWith ps handed) (sym parts)
+    (subst (AreSettledWith (settled ++ part ∷ [])) (sym left)
+    (settled_more settled part lanes (subst (AllAgree (entries_in settled ++ part.entries)) same (subst (λ (es : List Entry). AllAgree (entries_in settled ++ es) seen) are agree))))
+
+-- or it differs
+pub least_so : (settled : List Part) (part : Part) (entries : List Entry) (lanes seen : List LaneSeen) (queue id : ℕ) → IsLeastMismatch (entries_in settled ++ (entries_in [] ++ entries)) seen queue id → entries ≡ part.entries → seen ≡ lanes
+    → IsLeastMismatch (entries_in settled ++ part.entries) lanes queue id
+least_so settled part entries lanes seen queue id least are same =
+    subst (λ (ls : List LaneSeen). IsLeastMismatch (entries_in settled ++ part.entries) ls queue id) same (subst (λ (es : List Entry). IsLeastMismatch (entries_in settled ++ es) seen queue id) are least)
+
+pub of_so : (lanes handed : List LaneSeen) → handed ≡ map handed_over lanes → (board : TableId) (rings : List QueueRing) → All (IsLaneOf board rings) lanes → All (IsLaneOf board rings) handed
+of_so lanes handed is board rings h = subst (All (IsLaneOf board rings)) (sym is) (still_of board rings lanes h)

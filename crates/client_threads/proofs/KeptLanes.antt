@@ -1,5 +1,5 @@
 -- What serving does to what a lane keeps.
-use Rattle.std.proofs.Common.{◌≡◌, ℕ, suc, zero, ◌+◌, ◌<◌, ◌≤◌, ◌^◌, List, [], ◌∷◌, ◌++◌, length, map, refl, ap, ◌∙◌, sym, subst, arith, append_assoc}
+use Rattle.std.proofs.Common.{◌≡◌, ℕ, suc, zero, false, ◌+◌, ◌<◌, ◌≤◌, ◌^◌, List, [], ◌∷◌, ◌++◌, length, map, refl, ap, ◌∙◌, sym, subst, arith, append_assoc}
 use Rattle.std.specs.Prelude.{Ok, Some, All, slice_get}
 use Rattle.std.proofs.lemmas.List.{append-nil, length_push, map_push}
 use Rattle.std.proofs.lemmas.List.Elements.{All-push}
@@ -60,7 +60,8 @@ pub retired_more : (pass new : ProcessorSeen) (shown : Shown) → Are64Bytes sho
     → served_of_pass new ≡ served_of_pass pass ++ served_of shown ∷ []
 retired_more pass new shown bytes id adds =
     let back = bytes_back shown.bytes bytes in
-    let same : served_as (length pass.part.retired) (words_of shown.bytes) ≡ served_of shown = λ i. record { id = record { 0 = sym id i }; bytes = back i } in
+    let at : 0 + length pass.part.retired ≡ shown.id.0 = omega (arith, id) in
+    let same : served_as (0 + length pass.part.retired) (words_of shown.bytes) ≡ served_of shown = λ i. record { id = record { 0 = at i }; bytes = back i } in
     ap (served_from 0) adds ∙ served_from_more 0 pass.part.retired (words_of shown.bytes) ∙ ap (λ s. served_of_pass pass ++ s ∷ []) same
 
 -- ---- what is pending

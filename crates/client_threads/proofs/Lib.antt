@@ -11,6 +11,7 @@ pub mod Belonging
 pub mod Differences
 pub mod Lasts
 pub mod Opened
+pub mod Pendings
 pub mod Ends
 pub mod Readiness
 pub mod EndsOf

@@ -4,7 +4,6 @@ ghost use Rattle.std.specs.Prelude.{◌≡◌, ◌≢◌, ℕ, ◌<◌, ◌≤�
 ghost use Rattle.std.specs.Option.{IfSome, IfNone, option_copied};
 ghost use Rattle.core_model.specs.Rotation.{entries_in};
 ghost use Rattle.client_threads.specs.HandedOver.{AreSettledWith, kept_by};
-
 ghost use Rattle.client_threads.specs.inner.Partings.{HandedBy, PartsBefore};
 ghost use Rattle.client_threads.specs.Takes.{AllAgree, DiffersAt, IsLeastMismatch, lane_at, served_by, taken_by, takes};
 
@@ -162,6 +161,7 @@ fn kept_by(lanes: &[Lane], queue: QueueId) -> &[Served]
 }
 
 // How many packets the lane of a queue handed over; of a queue without a lane, none.
+#[tactic(auto, using(crate::proofs::HandingOver::handed_none, crate::proofs::HandingOver::handed_some))]
 fn handed_by(lanes: &[Lane], queue: QueueId) -> u64
     ensures { HandedBy lanes.now queue.0 result }
 {

@@ -170,6 +170,7 @@ fn ends_of(
 }
 
 // A lane of a queue that opens.
+#[tactic(auto, using(crate::proofs::KeptLanes::opened_keeps, crate::proofs::KeptLanes::opened_as))]
 fn lane_of(alloc: Global, queue: QueueId, pass: ProcessorPass, front: Front) -> Lane
     requires pass { (pass.part.retired ≡ []) × (pass.part.raising ≡ false) }
     requires few { queue.0 ≤ QUEUES }

@@ -66,13 +66,13 @@ pub(crate) fn serve_shown(
         Ok(Taken::Waiting(cause)) => ServeAnswer::Waiting(id, cause),
         Ok(Taken::Launched) => {
             lane.pass.retire(ring, shown);
-            lane.kept.push_reserved(served(shown));
+            lane.kept.push_reserved(served(&shown));
             lane.pending.push_reserved(pending(&shown));
             ServeAnswer::Launched(id)
         }
         Ok(Taken::Denied(error)) => {
             lane.pass.retire(ring, shown);
-            lane.kept.push_reserved(served(shown));
+            lane.kept.push_reserved(served(&shown));
             ServeAnswer::Denied(error)
         }
     }
@@ -89,8 +89,8 @@ fn pending(shown: &Shown) -> PendingPacket
 }
 
 // A packet that was shown, as one that is served.
-fn served(shown: Shown) -> Served
-    ensures { result ≡ served_of shown }
+fn served(shown: &Shown) -> Served
+    ensures { result ≡ served_of shown.now }
 {
     let bytes = shown.bytes;
     Served {

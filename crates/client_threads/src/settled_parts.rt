@@ -65,6 +65,7 @@ impl SettledParts {
     /// hands it over then: it keeps none of it, and its room for packets stays. It takes no memory, and lets go of the
     /// part before. Refused in this order: the parts before don't lead to where it begins; it has of a queue something
     /// else than its lane keeps. All then stays as it was, and the part comes back.
+    #[tactic(auto, using(crate::proofs::HandingOver::is_next, crate::proofs::HandingOver::not_next, crate::proofs::HandingOver::settled_so, crate::proofs::HandingOver::least_so, crate::proofs::HandingOver::of_so, crate::proofs::HandingOver::ends_in_more))]
     pub fn settle(&mut self, part: Part, lanes: &mut Vec<Lane>) -> Result<(), UnsettledPart>
         requires settled { AreSettledWith self.old lanes.old.items }
         ensures next { IfOk result (λ _. LeadTo self.old part.start) }
@@ -90,6 +91,7 @@ impl SettledParts {
     }
 
     // Whether these parts and then others lead to where a history begins.
+    #[tactic(auto, using(crate::proofs::HandingOver::leads_first, crate::proofs::HandingOver::leads_on))]
     pub(crate) fn lead_to(&self, parts: &[Part], start: &Origin) -> bool
         ensures { result ≡ true ↔ LeadTo (self.now ++ parts.now) start.now }
     {
