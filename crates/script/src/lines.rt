@@ -273,6 +273,7 @@ fn part(line: &[u8]) -> Option<Command>
 }
 
 // `publish Q P T H`
+#[tactic(auto, using(crate::proofs::Submitting::publish_is))]
 fn publish(line: &[u8]) -> Option<Command>
     ensures { result ≡ publish_row (words line.now) }
 {
@@ -292,6 +293,7 @@ fn publish(line: &[u8]) -> Option<Command>
 }
 
 // `submit Q P H`
+#[tactic(auto, using(crate::proofs::Submitting::submit_is))]
 fn submit(line: &[u8]) -> Option<Command>
     ensures { result ≡ submit_row (words line.now) }
 {
