@@ -12,9 +12,7 @@ use Rattle.policy.specs.declared.fault.RowFault.{RowFault}
 use Rattle.policy.specs.declared.fault.PolicyCause.TheVariants.{BadValue, DoubleName, TooMany}
 use Rattle.policy.specs.declared.fault.Section.{Section}
 use Rattle.policy.specs.declared.fault.Section.TheVariants as section
-use Rattle.policy.specs.declared.key.Key.{Key}
 use Rattle.policy.specs.declared.key.Key.TheVariants as keys
-use Rattle.policy.specs.declared.row.RightsRow.{RightsRow}
 use Rattle.policy.specs.declared.row.Takes.{Takes}
 use Rattle.policy.specs.declared.rows.PolicyRows.{PolicyRows}
 use Rattle.policy.specs.declared.version.Version.{Version}

@@ -1,9 +1,8 @@
 -- The checks of a policy file, each by itself, in the order in which their faults are told: the file's version and its
 -- keys, then array by array and row by row; in a row its keys, their values in order, and its names (own).
-use Rattle.std.specs.Prelude.{ℕ, ◌+◌, ◌==◌, nat_le, codes, List, [], ◌∷◌, ◌++◌, length, map, sum, Option, Some, None, option_map, option_and_then}
-use Rattle.std.specs.List.{list_any, list_all, filter_map}
+use Rattle.std.specs.Prelude.{ℕ, ◌+◌, ◌==◌, nat_le, List, [], ◌∷◌, ◌++◌, length, map, sum, Option, Some, None, option_map, option_and_then}
+use Rattle.std.specs.List.{list_all, filter_map}
 use Rattle.std.specs.Result.{result_err}
-use Rattle.std.specs.Str.{bytes_eq}
 use Rattle.toml.specs.Data.{Data, Members, get_member, as_table}
 use Rattle.aql_packet.specs.Memory.{most_regions}
 use Rattle.policy.specs.Limits.{most_agents, most_allow_rows, most_clients, most_deny_rows, most_kernels, most_memory_bytes, most_signals}

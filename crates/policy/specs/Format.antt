@@ -7,7 +7,6 @@ use Rattle.toml.specs.Data.{Data, string, integer, table, Items, no_items, item,
 use Rattle.toml.specs.Parse.{parse_document}
 use Rattle.aql_packet.specs.Memory.{most_regions}
 use Rattle.policy.specs.Limits.{most_agents, most_allow_rows, most_clients, most_deny_rows, most_kernels, most_memory_bytes, most_name_bytes, most_policy_bytes, most_signals}
-use Rattle.policy.specs.declared.fault.PolicyCause.{PolicyCause}
 use Rattle.policy.specs.declared.fault.PolicyCause.TheVariants.{NotToml, MissingKey, BadValue, UnknownName, DoubleName, TooMany}
 use Rattle.policy.specs.declared.fault.PolicyFault.{PolicyFault}
 use Rattle.policy.specs.declared.fault.RowFault.{RowFault}
