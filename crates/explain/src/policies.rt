@@ -292,7 +292,10 @@ fn tell_array(out: &mut String, faulty: Faulty<'_>, array: Section) -> Result<()
         let has = rows(faulty.table, array).len();
         let most = most_rows(array);
         begin(out, faulty.file.name, Place::Unknown)?;
-        return writeln!(out, "`{name}` has {has} rows, and may have {most} at the most");
+        return writeln!(
+            out,
+            "`{name}` has {has} rows, and may have {most} at the most"
+        );
     }
     faulty.file.begin(out, name, 1, name)?;
     writeln!(out, "`{name}` has to be an array of rows, as `[[{name}]]`")
