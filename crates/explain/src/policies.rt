@@ -292,14 +292,10 @@ fn tell_array(out: &mut String, faulty: Faulty<'_>, array: Section) -> Result<()
         let has = rows(faulty.table, array).len();
         let most = most_rows(array);
         begin(out, faulty.file.name, Place::Unknown)?;
-<<<<<<< HEAD
-        return writeln!(out, "`{name}` has {has} rows, and may have {most} at the most");
-=======
         return writeln!(
             out,
             "`{name}` has {has} rows, and may have {most} at the most"
         );
->>>>>>> 10a5050a9b380d54b46b921992e0f83efdd67fd0
     }
     faulty.file.begin(out, name, 1, name)?;
     writeln!(out, "`{name}` has to be an array of rows, as `[[{name}]]`")
