@@ -126,7 +126,6 @@ impl ArgumentBlocks {
     }
 
     /// Drops the block of a packet that leaves flight, and keeps the memory of its rights. It takes no memory.
-    #[inline(always)]
     pub fn release(&mut self, queue: QueueId, packet: PacketId)
         requires { AreNamedOnce self.old.items }
         ensures rest { self.new.items ≡ filter (λ block. not (is_block queue packet block)) self.old.items }

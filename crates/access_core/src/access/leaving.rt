@@ -40,7 +40,6 @@ fn free_place(places: &mut Places, found: Option<FoundPacket>) -> usize
 }
 
 // Takes a packet out of its queue, if one was found, and answers how many places that frees.
-#[inline(always)]
 fn leave_queue(
     queues: &mut Vec<Queue>,
     queue: QueueId,
@@ -64,7 +63,6 @@ fn leave_queue(
 
 /// Takes a packet out of flight, if one was found: its place is free, it counts no more, and the rights that it held
 /// and its arguments are dropped.
-#[inline(always)]
 pub(crate) fn leave_flight(
     queues: &mut Vec<Queue>,
     in_flight_count: &mut usize,
