@@ -1,6 +1,6 @@
 //! The processor's pass: it is shown packets, in the order of their ids, and retires them.
 
-ghost use Rattle.std.specs.Prelude.{◌≡◌, ◌↔◌, ◌+◌, ◌++◌, ◌∷◌, [], IsTrue, length, true};
+ghost use Rattle.std.specs.Prelude.{◌≡◌, ◌↔◌, ◌+◌, ◌<◌, ◌^◌, ◌++◌, ◌∷◌, [], IsTrue, length, true};
 ghost use Rattle.aql_packet.specs.Ring.{is_ring_size};
 ghost use Rattle.ring.specs.Bytes.{words_of};
 ghost use Rattle.ring.specs.Made.{retiring};
@@ -114,6 +114,7 @@ impl ProcessorPass {
         requires shown { IsShownBy shown self.old }
         ensures retired { ProcessorGains ring.now self.old (retiring (length self.old.part.retired)) self.new }
         ensures adds { self.new.part.retired ≡ self.old.part.retired ++ words_of shown.bytes ∷ [] }
+        ensures few { length self.new.part.retired < 2 ^ 64 }
     {
         let _ = shown;
         let slot = slot_place(ring.size, self.next);

@@ -23,14 +23,14 @@ impl<T> Model for Log<T> {
 
 impl<T: Drop> Log<T> {
     /// Nothing was yet.
-    pub(crate) fn new() -> Log<T>
+    pub fn new() -> Log<T>
         ensures { result ≡ [] }
     {
         Log { past: Past::new() }
     }
 
     /// One thing more was.
-    pub(crate) fn push(&mut self, item: &T)
+    pub fn push(&mut self, item: &T)
         ensures { self.new ≡ self.old ++ item.now ∷ [] }
     {
         self.past = self.past.with(item);

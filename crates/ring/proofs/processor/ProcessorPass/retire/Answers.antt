@@ -50,3 +50,13 @@ returns-clause-adds c =
     let whole : collected_packet (as_processor (only_part c.self.inside.seat.me.0)) ≡ Some words = ap (λ v. collected_packet v.part) c.self.view_is ∙ c.requires.shown.0 in
     retired_adds ring.size ring.producers c.self.inside.next c.add_one-index.result (then_some c.self.inside.whole c.self.inside.packet) c.self.inside.seat.me c.store.new.seat.me c.add_one-index.new.seat.me fits few c.self.invariant c.store.ensures.told c.add_one-index.ensures.told words whole
     ∙ ap (λ v. v.part.retired ++ words ∷ []) c.self.view_is
+
+pub returns-clause-few : goal.returns-clause-few
+returns-clause-few c =
+    let ring = c.args.ring.now in
+    let index : ℕ = c.add_one-index.result in
+    let fits : is_ring_size ring.size ≡ true = ap (λ r. is_ring_size r.size) (sym c.ring.view_is) ∙ c.ring.invariant.fits in
+    let few : is_producer_count ring.producers ≡ true = ap (λ r. is_producer_count r.producers) (sym c.ring.view_is) ∙ c.ring.invariant.few in
+    let found = found_index ring.size ring.producers c.self.inside.next index (then_some c.self.inside.whole c.self.inside.packet) c.self.inside.seat.me c.store.new.seat.me c.add_one-index.new.seat.me fits few c.self.invariant c.store.ensures.told c.add_one-index.ensures.told in
+    let pass = retired_pass ring.size ring.producers c.self.inside.next index (then_some c.self.inside.whole c.self.inside.packet) c.self.inside.seat.me c.store.new.seat.me c.add_one-index.new.seat.me fits few c.self.invariant c.store.ensures.told c.add_one-index.ensures.told in
+    subst (λ (n : ℕ). n < 2 ^ 64) pass.index found.1
