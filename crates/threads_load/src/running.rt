@@ -10,6 +10,7 @@ ghost use Rattle.core_model.specs.Rotation.{Rotates};
 ghost use Rattle.threads_load.specs.Stages.{AreOf, EachStaysOf, IsReady, IsStage};
 ghost use Rattle.threads_load.specs.declared.plan.PlannedQueue.{PlannedQueue};
 
+use crate::bells::BellGate;
 use crate::fault::LoadFault;
 use crate::gate::LoadGate;
 use crate::limits::MOST_TRIES;
@@ -98,7 +99,8 @@ fn run_all<B: Room + Send + Sync, R: Threads + Wait + Sync>(
     ensures lanes { All (λ lane. IsLaneOf B.board broker.now lane) result.items }
     ensures queues { (queues : ℕ) → AreOf queues lanes.items → AreOf queues result.items }
 {
-    run_lanes(rt, alloc, broker, lanes, gate)
+    let bells = BellGate { rt, broker, gate };
+    run_lanes(rt, alloc, broker, lanes, &bells)
 }
 
 // Producers and lanes run at once.
