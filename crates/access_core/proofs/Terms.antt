@@ -10,7 +10,7 @@ pub use Rattle.access_core.specs.inner.Cached.{HoldsNone, IsCached, IsEntered, c
 pub use Rattle.access_core.specs.inner.CachedQueue.{HasBlockPlaces, IsSound, QueueView, cached_opening, cached_view, free_of, free_places, place_of, queue_at}
 pub use Rattle.access_core.specs.inner.Deciding.{IsBlockPlaced, TakesNext, refusal_of}
 pub use Rattle.access_core.specs.inner.Given.{LeavesOut, MarksToo, is_listed}
-pub use Rattle.access_core.specs.inner.InPlace.{IsChanged, IsFoundAt, IsInPlace, IsSized, RefusedAt, finish_owed, is_placed}
+pub use Rattle.access_core.specs.inner.InPlace.{IsChanged, IsFinishedAs, IsFoundAt, IsInPlace, IsSized, RefusedAt, finish_owed, is_placed}
 pub use Rattle.access_core.specs.inner.Laying.{LiesWithin}
 pub use Rattle.access_core.specs.inner.LiesInRegions.{lies_in_regions}
 pub use Rattle.access_core.specs.inner.Polling.{look_owed, polled_as}

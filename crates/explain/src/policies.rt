@@ -1,11 +1,12 @@
 //! What is wrong with a policy's file.
 
 use crate::kernel_texts::line_of;
-use crate::keys::{Key, PARTS, is_right_value, keys_of, kind_named, put_value, wanted};
+use crate::keys::{put_value, wanted};
 use crate::positions::{File, Place, Position, begin, position_at, small};
 use crate::texts::put_word;
+use aql_packet::MOST_REGIONS;
 use policy::{
-    Kind, MOST_AGENTS, MOST_ALLOW_ROWS, MOST_CLIENTS, MOST_DENY_ROWS, MOST_KERNELS,
+    Key, MOST_AGENTS, MOST_ALLOW_ROWS, MOST_CLIENTS, MOST_DENY_ROWS, MOST_KERNELS,
     MOST_MEMORY_BYTES, MOST_POLICY_BYTES, MOST_SIGNALS, PolicyCause, PolicyFault, Section,
 };
 use std::alloc::{AllocError, Global};
@@ -48,9 +49,36 @@ fn put_marked_at(out: &mut String, line: &[u8], place: Position) -> Result<(), A
     out.push_str("^\n")
 }
 
+/// A policy's file with a fault: its text, what it holds, and the fault.
+#[derive(Clone, Copy)]
+struct Faulty<'a> {
+    file: File<'a>,
+    table: &'a Table,
+    fault: PolicyFault,
+}
+
+impl<'a> Faulty<'a> {
+    // The table in which the fault's key stands: a row of its array, or before the arrays the file itself.
+    fn holder(&self) -> Option<&'a Table> {
+        match self.fault.kind {
+            Some(array) => row(self.table, array, self.fault.row),
+            None => Some(self.table),
+        }
+    }
+
+    // Begins a line of an explanation at a key of that table.
+    fn begin(&self, out: &mut String, key: &str) -> Result<(), AllocError> {
+        let array = match self.fault.kind {
+            Some(array) => array.name(),
+            None => "",
+        };
+        self.file.begin(out, array, self.fault.row, key)
+    }
+}
+
 // The rows of an array of a file.
-fn rows<'a>(table: &'a Table, section: Section) -> &'a [Value] {
-    match table.get(section.name()) {
+fn rows<'a>(table: &'a Table, array: Section) -> &'a [Value] {
+    match table.get(array.name()) {
         Some(value) => match value.as_array() {
             Some(items) => items.as_slice(),
             None => &[],
@@ -60,106 +88,89 @@ fn rows<'a>(table: &'a Table, section: Section) -> &'a [Value] {
 }
 
 // The row of a number, from 1.
-fn row<'a>(table: &'a Table, section: Section, number: u32) -> Option<&'a Table> {
+fn row<'a>(table: &'a Table, array: Section, number: u32) -> Option<&'a Table> {
     let before = (number as usize).checked_sub(1)?;
-    rows(table, section).get(before)?.as_table()
+    rows(table, array).get(before)?.as_table()
+}
+
+// The text at a key of a row; no text where none stands there.
+fn text_at<'a>(row: &'a Table, key: Key) -> &'a str {
+    match row.get(key.name()) {
+        Some(value) => value.as_str().unwrap_or(""),
+        None => "",
+    }
 }
 
 // Puts the names of keys behind a text.
 fn put_keys(out: &mut String, keys: &[Key]) -> Result<(), AllocError> {
     for (index, key) in keys.iter().enumerate() {
         out.push_str(if index > 0 { ", " } else { "" })?;
-        out.push_str(key.name)?;
+        out.push_str(key.name())?;
     }
     Ok(())
 }
 
 // Whether a key is one of some.
-fn knows(keys: &[Key], name: &str) -> bool {
+fn is_one_of(keys: &[Key], name: &str) -> bool {
     for key in keys {
-        if key.name == name {
+        if key.name() == name {
             return true;
         }
     }
     false
 }
 
-// A key that a row has and its array doesn't know; false where there is none.
+// A key that a row has and its array doesn't know.
 fn tell_unknown_key(
     out: &mut String,
-    file: File<'_>,
-    fault: &PolicyFault,
-    section: Section,
+    faulty: Faulty<'_>,
+    array: Section,
     row: &Table,
-) -> Result<bool, AllocError> {
-    let keys = keys_of(section);
+) -> Result<(), AllocError> {
+    let keys = array.keys();
     for name in row.keys() {
-        if !knows(keys, name.as_str()) {
-            let array = section.name();
-            file.begin(out, array, fault.row, name.as_str())?;
+        if !is_one_of(keys, name.as_str()) {
+            let array = array.name();
+            faulty.begin(out, name.as_str())?;
             out.push_str("the key ")?;
             put_word(out, name.as_bytes())?;
             write!(out, " is none that a row of `{array}` has; it has ")?;
             put_keys(out, keys)?;
-            out.push_str("\n")?;
-            return Ok(true);
+            return out.push_str("\n");
         }
     }
-    Ok(false)
+    Ok(())
 }
 
-// The first key of a row whose value isn't right.
+// A value that isn't right for its key.
 fn tell_value(
     out: &mut String,
-    file: File<'_>,
-    fault: &PolicyFault,
-    section: Section,
-    row: &Table,
+    faulty: Faulty<'_>,
+    key: Key,
+    holder: &Table,
 ) -> Result<(), AllocError> {
-    for key in keys_of(section) {
-        if let Some(value) = row.get(key.name) {
-            if !is_right_value(key.part, value, row) {
-                let name = key.name;
-                let array = section.name();
-                let wanted = wanted(key.part);
-                file.begin(out, array, fault.row, name)?;
-                write!(out, "`{name}` is ")?;
-                put_value(out, value)?;
-                writeln!(out, ", and there may stand {wanted}")?;
-                return Ok(());
-            }
-        }
+    let name = key.name();
+    let wanted = wanted(key);
+    faulty.begin(out, name)?;
+    write!(out, "`{name}` is ")?;
+    if let Some(value) = holder.get(name) {
+        put_value(out, value)?;
     }
-    Ok(())
+    writeln!(out, ", and there may stand {wanted}")
 }
 
-// The first key that a row lacks.
-fn tell_missing(
-    out: &mut String,
-    file: File<'_>,
-    fault: &PolicyFault,
-    section: Section,
-    row: &Table,
-) -> Result<(), AllocError> {
-    for key in keys_of(section) {
-        if row.get(key.name).is_none() {
-            let name = key.name;
-            let array = section.name();
-            let wanted = wanted(key.part);
-            file.begin(out, array, fault.row, name)?;
-            return writeln!(out, "the row has no `{name}`: {wanted}");
-        }
-    }
-    Ok(())
+// A key that a row lacks.
+fn tell_missing(out: &mut String, faulty: Faulty<'_>, key: Key) -> Result<(), AllocError> {
+    let name = key.name();
+    let wanted = wanted(key);
+    faulty.begin(out, name)?;
+    writeln!(out, "the row has no `{name}`: {wanted}")
 }
 
 // Whether a row of an array has a name.
 fn has_name(row: &Value, name: &str) -> bool {
     match row.as_table() {
-        Some(table) => match table.get("name") {
-            Some(value) => value.as_str() == Some(name),
-            None => false,
-        },
+        Some(row) => text_at(row, Key::Name) == name,
         None => false,
     }
 }
@@ -177,35 +188,18 @@ fn row_named(rows: &[Value], name: &str) -> Option<u32> {
 // A name that an earlier row of the array has.
 fn tell_double(
     out: &mut String,
-    file: File<'_>,
-    fault: &PolicyFault,
-    section: Section,
-    table: &Table,
+    faulty: Faulty<'_>,
+    array: Section,
     row: &Table,
 ) -> Result<(), AllocError> {
-    let Some(name) = row.get("name") else {
-        return Ok(());
-    };
-    let Some(name) = name.as_str() else {
-        return Ok(());
-    };
-    let array = section.name();
-    let first = row_named(rows(table, section), name).unwrap_or(0);
-    file.begin(out, array, fault.row, "name")?;
+    let name = text_at(row, Key::Name);
+    let first = row_named(rows(faulty.table, array), name).unwrap_or(0);
+    let array = array.name();
+    faulty.begin(out, Key::Name.name())?;
     writeln!(
         out,
         "row {first} of `{array}` has the name `{name}` already"
     )
-}
-
-// The array of a kind of objects.
-fn array_of(kind: Kind) -> Section {
-    match kind {
-        Kind::Agent => Section::Agent,
-        Kind::Region => Section::Region,
-        Kind::Signal => Section::Signal,
-        Kind::Kernel => Section::Kernel,
-    }
 }
 
 // Puts the names of an array's rows behind a text.
@@ -214,112 +208,76 @@ fn put_names(out: &mut String, rows: &[Value]) -> Result<(), AllocError> {
         if index >= 12 {
             return out.push_str(" ..");
         }
-        if let Some(table) = row.as_table() {
-            if let Some(value) = table.get("name") {
-                if let Some(name) = value.as_str() {
-                    out.push_str(if index > 0 { ", " } else { "" })?;
-                    out.push_str(name)?;
-                }
-            }
+        if let Some(row) = row.as_table() {
+            out.push_str(if index > 0 { ", " } else { "" })?;
+            out.push_str(text_at(row, Key::Name))?;
         }
     }
     Ok(())
 }
 
-// A name at a key that no row of an array has; false where one has it.
-fn tell_unknown_at(
-    out: &mut String,
-    file: File<'_>,
-    fault: &PolicyFault,
-    table: &Table,
-    row: &Table,
-    key: &str,
-    of: Section,
-) -> Result<bool, AllocError> {
-    let Some(value) = row.get(key) else {
-        return Ok(false);
-    };
-    let Some(name) = value.as_str() else {
-        return Ok(false);
-    };
-    if name == "*" || row_named(rows(table, of), name).is_some() {
-        return Ok(false);
+// The array whose rows a key of a row on rights names: the clients, or the objects of the row's kind.
+fn array_named(key: Key, row: &Table) -> Section {
+    if key == Key::Object {
+        for array in Section::ALL {
+            if array.name() == text_at(row, Key::Kind) {
+                return array;
+            }
+        }
     }
-    let array = match fault.kind {
-        Some(section) => section.name(),
-        None => "",
-    };
-    let of_name = of.name();
-    file.begin(out, array, fault.row, key)?;
+    Section::Client
+}
+
+// A name that no row of an array has.
+fn tell_unknown_name(
+    out: &mut String,
+    faulty: Faulty<'_>,
+    key: Key,
+    row: &Table,
+) -> Result<(), AllocError> {
+    let array = array_named(key, row);
+    let array_name = array.name();
+    let name = text_at(row, key);
+    faulty.begin(out, key.name())?;
     write!(
         out,
-        "no row of `{of_name}` has the name `{name}`; they have "
+        "no row of `{array_name}` has the name `{name}`; they have "
     )?;
-    put_names(out, rows(table, of))?;
-    out.push_str("\n")?;
-    Ok(true)
+    put_names(out, rows(faulty.table, array))?;
+    out.push_str("\n")
 }
 
-// A client or an object that isn't declared.
-fn tell_unknown(
+// What is wrong at a key of a row, or of the file itself.
+fn tell_key(
     out: &mut String,
-    file: File<'_>,
-    fault: &PolicyFault,
-    table: &Table,
-    row: &Table,
+    faulty: Faulty<'_>,
+    key: Key,
+    holder: &Table,
 ) -> Result<(), AllocError> {
-    if tell_unknown_at(out, file, fault, table, row, "client", Section::Client)? {
-        return Ok(());
-    }
-    let Some(kind) = row.get("kind") else {
-        return Ok(());
-    };
-    let Some(kind) = kind.as_str() else {
-        return Ok(());
-    };
-    if let Some(kind) = kind_named(kind) {
-        tell_unknown_at(out, file, fault, table, row, "object", array_of(kind))?;
-    }
-    Ok(())
-}
-
-// What is wrong with a row.
-fn tell_row(
-    out: &mut String,
-    file: File<'_>,
-    fault: &PolicyFault,
-    section: Section,
-    table: &Table,
-) -> Result<(), AllocError> {
-    let Some(row) = row(table, section, fault.row) else {
-        let array = section.name();
-        file.begin(out, array, 1, array)?;
-        return writeln!(
-            out,
-            "`{array}` has to be an array of rows, as `[[{array}]]`"
-        );
-    };
-    match fault.cause {
-        PolicyCause::MissingKey => tell_missing(out, file, fault, section, row),
-        PolicyCause::BadValue => {
-            if tell_unknown_key(out, file, fault, section, row)? {
-                Ok(())
-            } else {
-                tell_value(out, file, fault, section, row)
-            }
-        }
-        PolicyCause::UnknownName => tell_unknown(out, file, fault, table, row),
-        PolicyCause::DoubleName => tell_double(out, file, fault, section, table, row),
+    match (faulty.fault.cause, faulty.fault.kind) {
+        (PolicyCause::MissingKey, _) => tell_missing(out, faulty, key),
+        (PolicyCause::BadValue, _) => tell_value(out, faulty, key, holder),
+        (PolicyCause::UnknownName, _) => tell_unknown_name(out, faulty, key, holder),
+        (PolicyCause::DoubleName, Some(array)) => tell_double(out, faulty, array, holder),
         _ => Ok(()),
     }
 }
 
+// Regions that are too long together.
+fn tell_lengths(out: &mut String, file: File<'_>) -> Result<(), AllocError> {
+    begin(out, file.name, Place::Unknown)?;
+    writeln!(
+        out,
+        "the regions are longer than {MOST_MEMORY_BYTES} bytes together"
+    )
+}
+
 // How many rows an array has at the most.
-fn most_rows(section: Section) -> usize {
-    match section {
+fn most_rows(array: Section) -> usize {
+    match array {
         Section::Client => MOST_CLIENTS,
         Section::Agent => MOST_AGENTS,
-        Section::Region => 64,
+        Section::Region => MOST_REGIONS,
         Section::Signal => MOST_SIGNALS,
         Section::Kernel => MOST_KERNELS,
         Section::Allow => MOST_ALLOW_ROWS,
@@ -327,66 +285,69 @@ fn most_rows(section: Section) -> usize {
     }
 }
 
-// What is over a limit in an array as a whole.
-fn tell_limit(
-    out: &mut String,
-    file: File<'_>,
-    section: Section,
-    table: &Table,
-) -> Result<(), AllocError> {
-    let array = section.name();
-    let has = rows(table, section).len();
-    let most = most_rows(section);
-    begin(out, file.name, Place::Unknown)?;
-    if has > most {
+// What is wrong with an array as a whole: it has too many rows, or is no array of rows.
+fn tell_array(out: &mut String, faulty: Faulty<'_>, array: Section) -> Result<(), AllocError> {
+    let name = array.name();
+    if faulty.fault.cause == PolicyCause::TooMany {
+        let has = rows(faulty.table, array).len();
+        let most = most_rows(array);
+        begin(out, faulty.file.name, Place::Unknown)?;
         return writeln!(
             out,
-            "`{array}` has {has} rows, and may have {most} at the most"
+            "`{name}` has {has} rows, and may have {most} at the most"
         );
     }
-    writeln!(
-        out,
-        "the regions are longer than {MOST_MEMORY_BYTES} bytes together"
-    )
+    faulty.file.begin(out, name, 1, name)?;
+    writeln!(out, "`{name}` has to be an array of rows, as `[[{name}]]`")
 }
 
-// The first key of a file before all tables that isn't right.
-fn tell_head(out: &mut String, file: File<'_>, table: &Table) -> Result<(), AllocError> {
-    if let Some(version) = table.get("version") {
-        if version.as_integer() != Some(1) && version.as_integer() != Some(2) {
-            file.begin(out, "", 0, "version")?;
-            out.push_str("`version` is ")?;
-            put_value(out, version)?;
-            return out.push_str(", and there may stand 1, or 2 where the policy has deny rows\n");
+// Whether a name is that of a key of some version's files.
+fn is_part(name: &str) -> bool {
+    for array in Section::ALL {
+        if array.name() == name {
+            return true;
         }
     }
-    for name in table.keys() {
-        if !knows(&PARTS, name.as_str()) {
-            file.begin(out, name.as_str(), 1, name.as_str())?;
+    name == Key::Version.name()
+}
+
+// Puts the names of all keys of a file behind a text.
+fn put_parts(out: &mut String) -> Result<(), AllocError> {
+    out.push_str(Key::Version.name())?;
+    for array in Section::ALL {
+        out.push_str(", ")?;
+        out.push_str(array.name())?;
+    }
+    Ok(())
+}
+
+// A key of a file that its version doesn't know: none of any version, or the deny rows.
+fn tell_unknown_part(out: &mut String, faulty: Faulty<'_>) -> Result<(), AllocError> {
+    for name in faulty.table.keys() {
+        if !is_part(name.as_str()) {
+            let name = name.as_str();
+            faulty.file.begin(out, name, 1, name)?;
             out.push_str("the key ")?;
             put_word(out, name.as_bytes())?;
             out.push_str(" is none that a policy has; it has ")?;
-            put_keys(out, PARTS.as_slice())?;
+            put_parts(out)?;
             return out.push_str("\n");
         }
     }
-    file.begin(out, "deny", 1, "deny")?;
+    let deny = Section::Deny.name();
+    faulty.file.begin(out, deny, 1, deny)?;
     out.push_str("deny rows want `version = 2` in the first line\n")
 }
 
 // What is wrong with a file that is TOML.
-fn tell_table(
-    out: &mut String,
-    file: File<'_>,
-    fault: &PolicyFault,
-    table: &Table,
-) -> Result<(), AllocError> {
-    match fault.kind {
-        None => tell_head(out, file, table),
-        Some(section) if fault.cause == PolicyCause::TooMany => {
-            tell_limit(out, file, section, table)
-        }
-        Some(section) => tell_row(out, file, fault, section, table),
+fn tell_table(out: &mut String, faulty: Faulty<'_>) -> Result<(), AllocError> {
+    let fault = faulty.fault;
+    match (fault.key, faulty.holder(), fault.kind) {
+        (Some(key), Some(holder), _) => tell_key(out, faulty, key, holder),
+        (Some(_), None, _) => tell_lengths(out, faulty.file),
+        (None, Some(row), Some(array)) => tell_unknown_key(out, faulty, array, row),
+        (None, None, Some(array)) => tell_array(out, faulty, array),
+        (None, _, None) => tell_unknown_part(out, faulty),
     }
 }
 
@@ -398,11 +359,6 @@ pub fn policy_fault(
     fault: &PolicyFault,
 ) -> Result<String, AllocError> {
     let mut out = String::new(alloc);
-    if text.len() > MOST_POLICY_BYTES {
-        begin(&mut out, file, Place::Unknown)?;
-        writeln!(out, "the file has over {MOST_POLICY_BYTES} bytes, the most")?;
-        return Ok(out);
-    }
     let file = File {
         alloc,
         name: file,
@@ -412,11 +368,21 @@ pub fn policy_fault(
         tell_no_toml(&mut out, file)?;
         return Ok(out);
     }
+    if fault.cause == PolicyCause::TooMany && fault.kind.is_none() {
+        begin(&mut out, file.name, Place::Unknown)?;
+        writeln!(out, "the file has over {MOST_POLICY_BYTES} bytes, the most")?;
+        return Ok(out);
+    }
     let Ok(letters) = std::str::from_utf8(text) else {
         return Ok(out);
     };
     if let Ok(table) = toml::table_from_str(alloc, letters) {
-        tell_table(&mut out, file, fault, &table)?;
+        let faulty = Faulty {
+            file,
+            table: &table,
+            fault: *fault,
+        };
+        tell_table(&mut out, faulty)?;
     }
     Ok(out)
 }

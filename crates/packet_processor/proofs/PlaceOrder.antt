@@ -1,15 +1,16 @@
 -- Places in the order of ids: each packet has one of them, and it may be changed or taken out there.
-use Rattle.std.proofs.Common.{◌≡◌, ℕ, zero, suc, ◌<◌, Bool, true, false, if◌then◌else◌, List, [], ◌∷◌, ◌++◌, Option, None, Some, option_map, All, drop, ◌+◌, length, get_or, map, not, refl, ap, arith, sym, subst, ◌∙◌}
-use Rattle.std.specs.Prelude.{slice_get, slice_set}
+use Rattle.std.proofs.Common.{◌≡◌, ℕ, zero, suc, ◌<◌, Bool, true, false, ◌&&◌, if◌then◌else◌, List, [], ◌∷◌, ◌++◌, Option, None, Some, option_map, All, drop, ◌+◌, length, get_or, map, not, refl, ap, arith, sym, subst, ◌∙◌}
+use Rattle.std.specs.Prelude.{◌||◌, slice_get, slice_set}
 use Rattle.std.specs.List.{remove}
 use Rattle.std.proofs.lemmas.Option.{get_or_from_slice_get, slice_get_within}
 use Rattle.aql_packet.specs.declared.ids.PacketId.{PacketId}
 use Rattle.core_model.specs.declared.flight.Progress.{Progress}
+use Rattle.core_model.specs.LaunchRules.{is_barrier}
 use Rattle.packet_processor.specs.Queueing.{IsFoundIn, further, is_place_of, with_progress, without_packet}
 use Rattle.packet_processor.specs.declared.places.FoundPacket.{FoundPacket}
 use Rattle.packet_processor.specs.declared.places.Place.{Place}
 use Rattle.packet_processor.proofs.LeftBehind.{first-behind, got-behind, got_or-behind, removed-behind, set-behind}
-use Rattle.packet_processor.specs.inner.Ascending.{Above, Ascends}
+use Rattle.packet_processor.specs.inner.Ascending.{Above, Ascends, holds_barrier}
 
 -- ---- one place more, behind the others
 
@@ -143,3 +144,24 @@ above-map n id so_far (x ∷ xs) above = (grind (arith, above), above-map n id s
 pub ascends-map : (id : PacketId) (so_far : Progress) (xs : List Place) → Ascends xs → Ascends (map (with_progress id so_far) xs)
 ascends-map id so_far [] order = tt
 ascends-map id so_far (x ∷ xs) order = (grind (arith, above-map x.id.0 id so_far xs order.0), ascends-map id so_far xs order.1)
+
+-- ---- whether one of them is a barrier packet's
+
+-- without one packet there is a barrier packet only where there was one before
+barred-without : (id : PacketId) (xs : List Place) → (holds_barrier xs && holds_barrier (without_packet id xs)) ≡ holds_barrier (without_packet id xs)
+barred-without id [] = refl
+barred-without id (x ∷ xs) = grind (arith, barred-without id xs)
+
+-- a packet leaves: where there was none before, none is left
+pub barred-less : (barred told : Bool) (id : PacketId) (xs ys : List Place) → barred ≡ holds_barrier xs → ys ≡ without_packet id xs
+    → told ≡ (barred && holds_barrier ys) → told ≡ holds_barrier ys
+barred-less barred told id xs ys before less is = grind (arith, barred-without id xs)
+
+-- one place more, behind the others
+pub barred-more : (xs : List Place) (x : Place) → (holds_barrier xs || is_barrier x.packet) ≡ holds_barrier (xs ++ x ∷ [])
+barred-more [] x = grind arith
+barred-more (y ∷ xs) x = grind (arith, barred-more xs x)
+
+pub barred-map : (id : PacketId) (so_far : Progress) (xs : List Place) → holds_barrier (map (with_progress id so_far) xs) ≡ holds_barrier xs
+barred-map id so_far [] = refl
+barred-map id so_far (x ∷ xs) = grind (arith, barred-map id so_far xs)

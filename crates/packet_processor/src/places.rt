@@ -1,11 +1,13 @@
 //! The places in which a packet processor keeps the packets of a queue in flight.
 
-ghost use Rattle.std.specs.Prelude.{◌≡◌, ◌==◌, ◌<◌, ◌≤◌, ◌++◌, ◌∷◌, [], All, IfSome, drop, find, length, map, option_map};
+ghost use Rattle.std.specs.Prelude.{◌≡◌, ◌==◌, ◌&&◌, ◌<◌, ◌≤◌, ◌++◌, ◌∷◌, [], All, IfSome, drop, find, length, map, option_map};
+ghost use Rattle.std.specs.List.{list_any};
 ghost use Rattle.std.specs.Option.{option_copied};
 ghost use Rattle.core_model.specs.Limits.{most_in_flight};
 ghost use Rattle.packet_processor.specs.declared.places.TheConstants.{PLACES};
 ghost use Rattle.core_model.specs.LaunchRules.{is_barrier};
 ghost use Rattle.packet_processor.specs.Queueing.{IsFoundIn, IsIndexOf, as_launched, is_place_of, with_progress, without_packet};
+ghost use Rattle.packet_processor.specs.inner.Ascending.{holds_barrier};
 
 use crate::packets::is_barrier;
 use aql_packet::{Barrier, Header, Packet, PacketId, Scope, SignalHandle};
@@ -55,6 +57,8 @@ pub struct Places {
     taken: ArrayVec<Place, PLACES>,
     /// How many places in front were left behind.
     left: usize,
+    /// Whether a barrier packet is in flight.
+    barred: bool,
 }
 
 impl Model for Places {
@@ -69,7 +73,7 @@ impl Model for Places {
 
     ghost use Rattle.packet_processor.specs.inner.Ascending.{AreBehind};
 
-    ghost invariant = { λ p. AreBehind p.left p.taken.items };
+    ghost invariant = { λ p. AreBehind p.left p.barred p.taken.items };
 }
 
 impl Default for Place {
@@ -91,6 +95,7 @@ impl Places {
         Places {
             taken: ArrayVec::new(),
             left: 0,
+            barred: false,
         }
     }
 
@@ -135,6 +140,13 @@ impl Places {
         None
     }
 
+    /// Whether a barrier packet is in flight.
+    pub fn has_barrier(&self) -> bool
+        ensures { result ≡ list_any is_barrier (map (λ place. place.packet) self.now) }
+    {
+        self.barred
+    }
+
     /// Puts a packet that is launched into a place that is free. Its id is above those of the others.
     pub fn launch(&mut self, id: PacketId, packet: Packet)
         requires free { length self.old < most_in_flight }
@@ -142,6 +154,7 @@ impl Places {
         ensures { self.new ≡ self.old ++ as_launched id packet ∷ [] }
     {
         self.left = make_room(&mut self.taken, self.left);
+        self.barred = self.barred | is_barrier(&packet);
         self.taken.push(Place {
             id,
             packet,
@@ -163,9 +176,11 @@ impl Places {
     {
         if found.index == 0 {
             self.left += 1;
+            self.barred = stays_barred(self.barred, &self.taken, self.left);
             return;
         }
         self.taken.remove(self.left + found.index);
+        self.barred = stays_barred(self.barred, &self.taken, self.left);
     }
 
     /// Notes how far a packet that was found has come.
@@ -195,6 +210,21 @@ fn make_room(taken: &mut ArrayVec<Place, PLACES>, left: usize) -> usize
     taken.as_mut_slice().copy_within(left..count, 0);
     taken.truncate(count - left);
     0
+}
+
+// Whether a barrier packet is still in flight after a packet left. Where none was before, no place is looked at.
+fn stays_barred(before: bool, taken: &ArrayVec<Place, PLACES>, left: usize) -> bool
+    requires { left ≤ length taken.now.items }
+    ensures { result ≡ (before && holds_barrier (drop left taken.now.items)) }
+{
+    before && holds_barrier(taken.as_slice().split_at(left).1)
+}
+
+// Whether one of these places is a barrier packet's.
+fn holds_barrier(places: &[Place]) -> bool
+    ensures { result ≡ holds_barrier places.now }
+{
+    places.iter().any(|place| is_barrier(&place.packet))
 }
 
 // Whether a place is that of the packet with an id.

@@ -1,12 +1,10 @@
 //! What is known of one queue at a moment.
 
 ghost use Rattle.std.specs.Prelude.{◌≡◌, ◌||◌, length, nat_lt};
-ghost use Rattle.std.specs.List.{list_any};
-ghost use Rattle.core_model.specs.LaunchRules.{is_barrier, cause_to_wait};
+ghost use Rattle.core_model.specs.LaunchRules.{cause_to_wait};
 ghost use Rattle.packet_processor.specs.Queueing.{may_launch_unless, packets, state_of};
 
-use crate::packets::is_barrier;
-use crate::places::Place;
+use crate::places::Places;
 use aql_packet::RawHeader;
 use core_model::{MOST_IN_FLIGHT, WaitCause};
 use queue_error::QueueError;
@@ -35,7 +33,7 @@ pub enum MayLaunch {
 #[derive(Drop)]
 pub struct QueueState<'a> {
     /// The queue's packets in flight, in the order of their launches.
-    pub places: &'a [Place],
+    pub places: &'a Places,
     /// The queue's errors, in order.
     pub errors: &'a [QueueError],
     /// Whether the queue was stopped.
@@ -70,7 +68,7 @@ impl QueueState<'_> {
     pub fn may_launch(&self, header: &RawHeader) -> MayLaunch
         ensures { result ≡ may_launch_unless (cause_to_wait (packets self.now) header.now.barrier) }
     {
-        if self.has_barrier() {
+        if self.places.has_barrier() {
             return MayLaunch::Waiting(WaitCause::Barrier);
         }
         let count = self.places.len();
@@ -81,12 +79,5 @@ impl QueueState<'_> {
             return MayLaunch::Waiting(WaitCause::Slots);
         }
         MayLaunch::Go
-    }
-
-    // Whether a barrier packet of the queue is in flight.
-    fn has_barrier(&self) -> bool
-        ensures { result ≡ list_any is_barrier (packets self.now) }
-    {
-        self.places.iter().any(|place| is_barrier(&place.packet))
     }
 }

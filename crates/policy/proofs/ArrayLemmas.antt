@@ -3,7 +3,7 @@ use Rattle.std.proofs.Common.{◌≡◌, ℕ, ◌+◌, ◌<◌, List, [], ◌∷
 use Rattle.toml.specs.Data.{Members, as_table}
 use Rattle.toml.specs.View.{view}
 use Rattle.toml.specs.declared.value.Value.{Value}
-use Rattle.policy.specs.declared.fault.PolicyCause.{PolicyCause}
+use Rattle.policy.specs.declared.fault.RowFault.{RowFault}
 use Rattle.policy.specs.declared.fault.PolicyFault.{PolicyFault}
 use Rattle.policy.specs.declared.fault.RowError.{RowError}
 use Rattle.policy.specs.declared.fault.RowError.TheVariants as error
@@ -12,14 +12,14 @@ use Rattle.policy.specs.Reading.{placed, RowGives}
 use Rattle.policy.specs.Format.{of_table, read_each}
 
 -- a row that was read in its place
-pub placed_ok : {A B : Type 0} (s : Section) (n : ℕ) (r : Result A RowError) (x : A) (f : A → B) (reading : Result B PolicyCause)
+pub placed_ok : {A B : Type 0} (s : Section) (n : ℕ) (r : Result A RowError) (x : A) (f : A → B) (reading : Result B RowFault)
     → Ok x ≡ placed s n r → RowGives f r reading → reading ≡ Ok (f x)
 placed_ok s n (Ok y) x f reading e g = let same : y ≡ x = cc in subst (λ v. reading ≡ Ok (f v)) same g
 placed_ok s n (Err error.OutOfMemory) x f reading e g = cc
-placed_ok s n (Err (error.Fault cause)) x f reading e g = cc
+placed_ok s n (Err (error.Fault fault)) x f reading e g = cc
 
 -- the rows that are left behind it
-pub read_more : {R : Type 0} (s : Section) (read : List R → Members → Result R PolicyCause) (rows : List Value) (v : Value) (i : ℕ) (before after : List R) (row : R)
+pub read_more : {R : Type 0} (s : Section) (read : List R → Members → Result R RowFault) (rows : List Value) (v : Value) (i : ℕ) (before after : List R) (row : R)
     (all : Result (List R) PolicyFault) → i < length rows → v ≡ get_or rows i v → length before ≡ i → of_table (read before) (as_table (view v)) ≡ Ok row
     → after ≡ before ++ row ∷ [] → read_each s read before (map view (drop i rows)) ≡ all
     → read_each s read after (map view (drop (i + 1) rows)) ≡ all

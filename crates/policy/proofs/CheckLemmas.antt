@@ -1,17 +1,19 @@
 -- The fault of a reading is that of the first of its checks that fails.
-use Rattle.std.proofs.Common.{◌≡◌, ℕ, ◌+◌, nat_le, ◌==◌, length, Bool, true, false, codes, List, [], ◌∷◌, ◌++◌, map, Option, Some, None, option_map, option_and_then, Result, Ok, Err, refl, sym, ap, ◌∙◌}
+use Rattle.std.proofs.Common.{◌≡◌, ℕ, ◌+◌, nat_le, ◌==◌, length, Bool, true, false, List, [], ◌∷◌, ◌++◌, map, Option, Some, None, option_map, option_and_then, Result, Ok, Err, refl, sym, ap, ◌∙◌}
 use Rattle.std.specs.List.{list_all}
 use Rattle.std.specs.Option.{option_or}
 use Rattle.std.specs.Result.{result_err}
 use Rattle.toml.specs.Data.{Data, Members, get_member, as_table}
-use Rattle.policy.specs.declared.fault.PolicyCause.{PolicyCause}
+use Rattle.policy.specs.declared.fault.RowFault.{RowFault}
 use Rattle.policy.specs.declared.fault.PolicyCause.TheVariants.{BadValue, DoubleName, TooMany}
 use Rattle.policy.specs.declared.fault.PolicyFault.{PolicyFault}
 use Rattle.policy.specs.declared.fault.Section.{Section}
 use Rattle.policy.specs.SectionNames.{name_of_section}
+use Rattle.policy.specs.declared.key.Key.{Key}
+use Rattle.policy.specs.declared.key.Key.TheVariants as keys
 use Rattle.policy.specs.Names.{Name, names, number_in}
-use Rattle.policy.specs.Reading.{◌>>=◌, unless, or_fault, fault_in}
-use Rattle.policy.specs.Format.{a_name, in_row, of_table, is_table, tables_in, rows_in, items_in, read_each, array_of, right_value, key, only, named_row}
+use Rattle.policy.specs.Reading.{◌>>=◌, unless, or_fault, fault_at, fault_of_array, fault_in}
+use Rattle.policy.specs.Format.{name_of_key, a_name, in_row, of_table, is_table, tables_in, rows_in, items_in, read_each, array_of, right_value, key, only, named_row}
 use Rattle.policy.specs.Checks.{first_of, says, row_name, double_name, named_checks, row_checks, rows_checks, tables_checks, member_checks, array_checks}
 use Rattle.policy.proofs.StepLemmas.{in_row_ok}
 
@@ -49,45 +51,45 @@ check_alone (Ok x) = refl
 check_alone (Err e) = refl
 
 -- what a key gives, the row says
-pub key_says : {X : Type 0} (name : Name) (read : Data → Option X) (row : Members) (x : X) → key name read row ≡ Ok x → says name read row ≡ Some x
-key_says {X} name read row x h = at (get_member name row) h
+pub key_says : {X : Type 0} (of : Key) (read : Data → Option X) (row : Members) (x : X) → key of read row ≡ Ok x → says of read row ≡ Some x
+key_says {X} of read row x h = at (get_member (name_of_key of) row) h
   where
-    given : (o : Option X) → or_fault BadValue o ≡ Ok x → o ≡ Some x
+    given : (o : Option X) → or_fault (fault_at of BadValue) o ≡ Ok x → o ≡ Some x
     given None e = cc
     given (Some y) e = cc
 
-    at : (o : Option Data) → right_value read o ≡ Ok x → option_and_then read o ≡ Some x
+    at : (o : Option Data) → right_value of read o ≡ Ok x → option_and_then read o ≡ Some x
     at None e = cc
     at (Some d) e = given (read d) e
 
 -- ---- rows
 
 -- a row with a name, below rows of these names
-pub named_agrees : {V : Type 0} (known : List Name) (rest : Members → Result V PolicyCause) (checks : Members → List (Option PolicyCause))
+pub named_agrees : {V : Type 0} (known : List Key) (rest : Members → Result V RowFault) (checks : Members → List (Option RowFault))
     → ((row : Members) → result_err (rest row) ≡ first_of (checks row))
     → (before : List (Name × V)) (above : List Name) → names before ≡ above → (row : Members)
     → result_err (named_row known rest before row) ≡ first_of (named_checks known checks above row)
 named_agrees {V} known rest checks agrees before above same row =
-    check_after (only known row) _ _ (λ u e. check_after (key (codes "name") a_name row) _ _ (λ name k.
-    step_after (rest row) _ (checks row) (double_name above (row_name row) ∷ []) (agrees row) (λ value v. last name value (key_says (codes "name") a_name row name k))))
+    check_after (only known row) _ _ (λ u e. check_after (key keys.Name a_name row) _ _ (λ name k.
+    step_after (rest row) _ (checks row) (double_name above (row_name row) ∷ []) (agrees row) (λ value v. last name value (key_says keys.Name a_name row name k))))
   where
     last : (name : Name) (value : V) → row_name row ≡ Some name
-        → result_err {T = Name × V} (unless (number_in (names before) name == 0) DoubleName >>= (λ _. Ok (name, value))) ≡ first_of (double_name above (row_name row) ∷ [])
-    last name value says_so = rw (says_so, same) (check_last (unless (number_in above name == 0) DoubleName) (λ _. (name, value)))
+        → result_err {T = Name × V} (unless (number_in (names before) name == 0) (fault_at keys.Name DoubleName) >>= (λ _. Ok (name, value))) ≡ first_of (double_name above (row_name row) ∷ [])
+    last name value says_so = rw (says_so, same) (check_last (unless (number_in above name == 0) (fault_at keys.Name DoubleName)) (λ _. (name, value)))
 
 -- ---- arrays
 
-in_row_fault : {A : Type 0} (s : Section) (n : ℕ) (r : Result A PolicyCause) → result_err (in_row s n r) ≡ option_map (fault_in s n) (result_err r)
+in_row_fault : {A : Type 0} (s : Section) (n : ℕ) (r : Result A RowFault) → result_err (in_row s n r) ≡ option_map (fault_in s n) (result_err r)
 in_row_fault s n (Ok x) = refl
-in_row_fault s n (Err cause) = refl
+in_row_fault s n (Err fault) = refl
 
-table_agrees : {R : Type 0} (read : Members → Result R PolicyCause) (checks : Members → List (Option PolicyCause)) → ((row : Members) → result_err (read row) ≡ first_of (checks row))
+table_agrees : {R : Type 0} (read : Members → Result R RowFault) (checks : Members → List (Option RowFault)) → ((row : Members) → result_err (read row) ≡ first_of (checks row))
     → (o : Option Members) → result_err (of_table read o) ≡ first_of (row_checks checks o)
 table_agrees read checks agrees None = refl
 table_agrees read checks agrees (Some row) = agrees row
 
 -- rows read in order, and what ties those that were read to those above
-module _ {R : Type 0} (s : Section) (read : List R → Members → Result R PolicyCause) (checks : List Data → Members → List (Option PolicyCause)) (Fits : List R → List Data → Type 0)
+module _ {R : Type 0} (s : Section) (read : List R → Members → Result R RowFault) (checks : List Data → Members → List (Option RowFault)) (Fits : List R → List Data → Type 0)
     (long : (before : List R) (above : List Data) → Fits before above → length before ≡ length above)
     (more : (before : List R) (above : List Data) (d : Data) (r : R) → Fits before above → of_table (read before) (as_table d) ≡ Ok r → Fits (before ++ r ∷ []) (above ++ d ∷ []))
     (agrees : (before : List R) (above : List Data) → Fits before above → (row : Members) → result_err (read before row) ≡ first_of (checks above row)) where
@@ -107,8 +109,8 @@ module _ {R : Type 0} (s : Section) (read : List R → Members → Result R Poli
       (λ r h. each_agrees ds (before ++ r ∷ []) (above ++ d ∷ []) (more before above d r fits (in_row_ok s (length before + 1) (of_table (read before) (as_table d)) r h)))
 
   two_tests : (limit : ℕ) (ds : List Data) (f : List Data → Result (List R) PolicyFault) (later : List (Option PolicyFault)) (t u : Bool) → result_err (f ds) ≡ first_of later
-      → result_err ((unless t (fault_in s 0 BadValue) >>= (λ _. unless u (fault_in s 0 TooMany) >>= (λ _. Ok ds))) >>= f)
-      ≡ first_of (result_err (unless t (fault_in s 0 BadValue)) ∷ result_err (unless u (fault_in s 0 TooMany)) ∷ later)
+      → result_err ((unless t (fault_of_array s BadValue) >>= (λ _. unless u (fault_of_array s TooMany) >>= (λ _. Ok ds))) >>= f)
+      ≡ first_of (result_err (unless t (fault_of_array s BadValue)) ∷ result_err (unless u (fault_of_array s TooMany)) ∷ later)
   two_tests limit ds f later true true h = h
   two_tests limit ds f later true false h = refl
   two_tests limit ds f later false u h = refl

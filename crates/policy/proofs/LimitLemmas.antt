@@ -1,5 +1,5 @@
 -- A file that is read keeps to the limits.
-use Rattle.std.proofs.Common.{◌≡◌, ℕ, if◌then◌else◌, ◌+◌, ◌≤◌, nat_le, length, Bool, true, false, ◌&&◌, ◌==◌, codes, List, [], ◌∷◌, ◌++◌, map, sum_by, ℤ, pos, negsuc, Option, Some, None, Result, Ok, Err, refl, sym, ap, subst, ◌∙◌, arith, length-append}
+use Rattle.std.proofs.Common.{◌≡◌, ℕ, if◌then◌else◌, ◌+◌, ◌≤◌, nat_le, length, Bool, true, false, ◌&&◌, ◌==◌, List, [], ◌∷◌, ◌++◌, map, sum_by, ℤ, pos, negsuc, Option, Some, None, Result, Ok, Err, refl, sym, ap, subst, ◌∙◌, arith, length-append}
 use Rattle.std.specs.List.{list_all}
 use Rattle.std.proofs.lemmas.Bool.{and_from}
 use Rattle.std.proofs.lemmas.Bool.Decides.{nat_tests}
@@ -8,19 +8,19 @@ use Rattle.std.proofs.lemmas.List.Folds.{list_all-append, list_all-map}
 use Rattle.toml.specs.Data.{Data, integer, Members, get_member, as_table}
 use Rattle.aql_packet.specs.declared.memory.TheConstants.{MOST_REGIONS}
 use Rattle.policy.specs.declared.limits.TheConstants.{MOST_AGENTS, MOST_ALLOW_ROWS, MOST_CLIENTS, MOST_DENY_ROWS, MOST_KERNELS, MOST_MEMORY_BYTES, MOST_SIGNALS}
-use Rattle.policy.specs.declared.fault.PolicyCause.{PolicyCause}
+use Rattle.policy.specs.declared.fault.RowFault.{RowFault}
 use Rattle.policy.specs.declared.fault.PolicyCause.TheVariants.{BadValue, DoubleName, TooMany}
 use Rattle.policy.specs.declared.fault.Section.{Section}
 use Rattle.policy.specs.declared.fault.Section.TheVariants as section
-use Rattle.policy.specs.declared.row.RightsRow.{RightsRow}
+use Rattle.policy.specs.declared.key.Key.TheVariants as keys
 use Rattle.policy.specs.declared.row.Takes.{Takes}
 use Rattle.policy.specs.declared.rows.PolicyRows.{PolicyRows}
 use Rattle.policy.specs.declared.version.Version.{Version}
 use Rattle.policy.specs.Policy.{Name, Source, Declared, names, number_in}
-use Rattle.policy.specs.Reading.{◌>>=◌, unless, or_fault, fault_in}
+use Rattle.policy.specs.Reading.{◌>>=◌, unless, or_fault, fault_at, fault_of_array, fault_of_lengths}
 use Rattle.aql_packet.specs.Memory.{are_region_lengths, is_region_length}
 use Rattle.policy.specs.Limits.{IsWithinLimits}
-use Rattle.policy.specs.Format.{in_row, of_table, is_table, tables_in, rows_in, items_in, read_each, array_of, right_value, key, a_name, a_length, length_of_number, only, named_row, region_keys, region_length, regions_of, rights_row, policy_rows, no_more_keys, takes, initial_value, kernel_source, client_keys, agent_keys, signal_keys, kernel_keys}
+use Rattle.policy.specs.Format.{name_of_key, in_row, of_table, is_table, tables_in, rows_in, items_in, read_each, array_of, right_value, key, a_name, a_length, length_of_number, only, named_row, region_keys, region_length, regions_of, rights_row, policy_rows, no_more_keys, takes, initial_value, kernel_source, client_keys, agent_keys, signal_keys, kernel_keys}
 use Rattle.policy.specs.SectionNames.{name_of_section}
 use Rattle.policy.proofs.StepLemmas.{then_ok, in_row_ok}
 
@@ -29,7 +29,7 @@ passed : {E : Type 0} (test : Bool) (e : E) (u : Unit {0}) → unless test e ≡
 passed true e u h = refl
 passed false e u h = cc
 
-of_table_ok : {A : Type 0} (read : Members → Result A PolicyCause) (o : Option Members) (x : A) → of_table read o ≡ Ok x → (row : Members) × (read row ≡ Ok x)
+of_table_ok : {A : Type 0} (read : Members → Result A RowFault) (o : Option Members) (x : A) → of_table read o ≡ Ok x → (row : Members) × (read row ≡ Ok x)
 of_table_ok read None x h = cc
 of_table_ok read (Some row) x h = (row, h)
 
@@ -38,17 +38,17 @@ of_table_ok read (Some row) x h = (row, h)
 tables_few : (s : Section) (limit : ℕ) (o : Option (List Data)) (ds : List Data) → tables_in s limit o ≡ Ok ds → length ds ≤ limit
 tables_few s limit None ds h = cc
 tables_few s limit (Some all) ds h =
-    let a = then_ok (unless (list_all is_table all) (fault_in s 0 BadValue)) (λ _. unless (nat_le (length all) limit) (fault_in s 0 TooMany) >>= (λ _. Ok all)) ds h in
-    let b = then_ok (unless (nat_le (length all) limit) (fault_in s 0 TooMany)) (λ _. Ok all) ds a.2 in
+    let a = then_ok (unless (list_all is_table all) (fault_of_array s BadValue)) (λ _. unless (nat_le (length all) limit) (fault_of_array s TooMany) >>= (λ _. Ok all)) ds h in
+    let b = then_ok (unless (nat_le (length all) limit) (fault_of_array s TooMany)) (λ _. Ok all) ds a.2 in
     let e : all ≡ ds = cc in
-    let t = passed (nat_le (length all) limit) (fault_in s 0 TooMany) b.0 b.1 in
+    let t = passed (nat_le (length all) limit) (fault_of_array s TooMany) b.0 b.1 in
     subst (λ x. length x ≤ limit) e (grind (arith, nat_tests))
 
 rows_few : (s : Section) (limit : ℕ) (o : Option Data) (ds : List Data) → rows_in s limit o ≡ Ok ds → length ds ≤ limit
 rows_few s limit None ds h = let e : [] ≡ ds = cc in subst (λ x. length x ≤ limit) e (omega arith)
 rows_few s limit (Some d) ds h = tables_few s limit (items_in d) ds h
 
-module _ {R : Type 0} (s : Section) (read : List R → Members → Result R PolicyCause) where
+module _ {R : Type 0} (s : Section) (read : List R → Members → Result R RowFault) where
   length-read_each : (ds : List Data) (before rows : List R) → read_each s read before ds ≡ Ok rows → length rows ≡ length before + length ds
   length-read_each [] before rows h = let e : before ≡ rows = cc in subst (λ x. length x ≡ length before + 0) e (omega arith)
   length-read_each (d ∷ ds) before rows h =
@@ -101,29 +101,29 @@ or_fault_ok : {A E : Type 0} (e : E) (o : Option A) (x : A) → or_fault e o ≡
 or_fault_ok e None x h = cc
 or_fault_ok e (Some y) x h = cc
 
-value_fits : (o : Option Data) (n : ℕ) → right_value a_length o ≡ Ok n → is_region_length n ≡ true
+value_fits : (o : Option Data) (n : ℕ) → right_value keys.Length a_length o ≡ Ok n → is_region_length n ≡ true
 value_fits None n h = cc
-value_fits (Some d) n h = length_fits d n (or_fault_ok BadValue (a_length d) n h)
+value_fits (Some d) n h = length_fits d n (or_fault_ok (fault_at keys.Length BadValue) (a_length d) n h)
 
-row_fits : (u : Result (Unit {0}) PolicyCause) (name : Name) (size : ℕ) (region : Name × ℕ) → (u >>= (λ _. Ok (name, size))) ≡ Ok region
+row_fits : (u : Result (Unit {0}) RowFault) (name : Name) (size : ℕ) (region : Name × ℕ) → (u >>= (λ _. Ok (name, size))) ≡ Ok region
     → is_region_length size ≡ true → is_region_length region.1 ≡ true
 row_fits (Ok x) name size region h fits = let e : (name, size) ≡ region = cc in subst (λ r. is_region_length r.1 ≡ true) e fits
 row_fits (Err e) name size region h fits = cc
 
 region_fits : (before : List (Name × ℕ)) (row : Members) (region : Name × ℕ) → named_row region_keys region_length before row ≡ Ok region → is_region_length region.1 ≡ true
 region_fits before row region h =
-    let a = then_ok (only region_keys row) (λ _. key (codes "name") a_name row >>= (λ name. region_length row >>= (λ value. unless (number_in (names before) name == 0) DoubleName >>= (λ _. Ok (name, value))))) region h in
-    let b = then_ok (key (codes "name") a_name row) (λ name. region_length row >>= (λ value. unless (number_in (names before) name == 0) DoubleName >>= (λ _. Ok (name, value)))) region a.2 in
-    let c = then_ok (region_length row) (λ value. unless (number_in (names before) b.0 == 0) DoubleName >>= (λ _. Ok (b.0, value))) region b.2 in
-    row_fits (unless (number_in (names before) b.0 == 0) DoubleName) b.0 c.0 region c.2 (value_fits (get_member (codes "length") row) c.0 c.1)
+    let a = then_ok (only region_keys row) (λ _. key keys.Name a_name row >>= (λ name. region_length row >>= (λ value. unless (number_in (names before) name == 0) (fault_at keys.Name DoubleName) >>= (λ _. Ok (name, value))))) region h in
+    let b = then_ok (key keys.Name a_name row) (λ name. region_length row >>= (λ value. unless (number_in (names before) name == 0) (fault_at keys.Name DoubleName) >>= (λ _. Ok (name, value)))) region a.2 in
+    let c = then_ok (region_length row) (λ value. unless (number_in (names before) b.0 == 0) (fault_at keys.Name DoubleName) >>= (λ _. Ok (b.0, value))) region b.2 in
+    row_fits (unless (number_in (names before) b.0 == 0) (fault_at keys.Name DoubleName)) b.0 c.0 region c.2 (value_fits (get_member (name_of_key keys.Length) row) c.0 c.1)
 
 -- the regions are few, each of a fitting length, and not too long together
 regions_fit : (file : Members) (regions : List (Name × ℕ)) → regions_of file ≡ Ok regions
     → (are_region_lengths (map (λ row. row.1) regions) ≡ true) × (sum_by (λ region. region.1) regions ≤ MOST_MEMORY_BYTES)
 regions_fit file regions h =
     let a = then_ok (array_of section.Region MOST_REGIONS (named_row region_keys region_length) file)
-    (λ rows. unless (nat_le (sum_by (λ region. region.1) rows) MOST_MEMORY_BYTES) (fault_in section.Region 0 TooMany) >>= (λ _. Ok rows)) regions h in
-    let b = then_ok (unless (nat_le (sum_by (λ region. region.1) a.0) MOST_MEMORY_BYTES) (fault_in section.Region 0 TooMany)) (λ _. Ok a.0) regions a.2 in
+    (λ rows. unless (nat_le (sum_by (λ region. region.1) rows) MOST_MEMORY_BYTES) fault_of_lengths >>= (λ _. Ok rows)) regions h in
+    let b = then_ok (unless (nat_le (sum_by (λ region. region.1) a.0) MOST_MEMORY_BYTES) fault_of_lengths) (λ _. Ok a.0) regions a.2 in
     let e : a.0 ≡ regions = cc in
     subst (λ rows. (are_region_lengths (map (λ row. row.1) rows) ≡ true) × (sum_by (λ region. region.1) rows ≤ MOST_MEMORY_BYTES)) e (fit a.0 a.1, within a.0 (passed _ _ b.0 b.1))
   where

@@ -11,7 +11,7 @@ use Rattle.policy.specs.declared.rights.Rights.{Rights}
 use Rattle.policy.specs.declared.fault.PolicyCause.TheVariants.{BadValue, TooMany}
 use Rattle.policy.specs.declared.fault.PolicyFault.{PolicyFault}
 use Rattle.policy.specs.declared.fault.Section.{Section}
-use Rattle.policy.specs.Reading.{fault_in}
+use Rattle.policy.specs.Reading.{fault_of_array}
 use Rattle.std.proofs.lemmas.Bool.Decides.{nat_tests}
 use Rattle.std.proofs.lemmas.List.{length-map}
 use Rattle.policy.specs.Rights.{rights_that, by_right}
@@ -76,10 +76,10 @@ module _ (vs : List Value) where
       )
 
 module _ (section : Section) (limit : ℕ) (vs : List Value) where
-  pub no_tables : (f : PolicyFault) → list_all (λ v. is_table (view v)) vs ≡ false → f ≡ fault_in section 0 BadValue → Err f ≡ tables_in section limit (Some (map view vs))
+  pub no_tables : (f : PolicyFault) → list_all (λ v. is_table (view v)) vs ≡ false → f ≡ fault_of_array section BadValue → Err f ≡ tables_in section limit (Some (map view vs))
   no_tables f h e = rw (list_all-map is_table view vs, h, e)
 
-  pub too_many : (f : PolicyFault) → list_all (λ v. is_table (view v)) vs ≡ true → limit < length vs → f ≡ fault_in section 0 TooMany → Err f ≡ tables_in section limit (Some (map view vs))
+  pub too_many : (f : PolicyFault) → list_all (λ v. is_table (view v)) vs ≡ true → limit < length vs → f ≡ fault_of_array section TooMany → Err f ≡ tables_in section limit (Some (map view vs))
   too_many f h l e = let past : nat_le (length vs) limit ≡ false = grind (arith, nat_tests) in rw (list_all-map is_table view vs, h, length-map vs view, past, e)
 
   pub all_tables : list_all (λ v. is_table (view v)) vs ≡ true → length vs ≤ limit → Ok (map view vs) ≡ tables_in section limit (Some (map view vs))

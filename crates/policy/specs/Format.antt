@@ -7,13 +7,15 @@ use Rattle.toml.specs.Data.{Data, string, integer, table, Items, no_items, item,
 use Rattle.toml.specs.Parse.{parse_document}
 use Rattle.aql_packet.specs.Memory.{most_regions}
 use Rattle.policy.specs.Limits.{most_agents, most_allow_rows, most_clients, most_deny_rows, most_kernels, most_memory_bytes, most_name_bytes, most_policy_bytes, most_signals}
-use Rattle.policy.specs.declared.fault.PolicyCause.{PolicyCause}
 use Rattle.policy.specs.declared.fault.PolicyCause.TheVariants.{NotToml, MissingKey, BadValue, UnknownName, DoubleName, TooMany}
 use Rattle.policy.specs.declared.fault.PolicyFault.{PolicyFault}
+use Rattle.policy.specs.declared.fault.RowFault.{RowFault}
 use Rattle.policy.specs.declared.fault.Section.{Section}
 use Rattle.policy.specs.declared.fault.ReadPolicyError.{ReadPolicyError}
 use Rattle.policy.specs.declared.fault.ReadPolicyError.TheVariants as error
 use Rattle.policy.specs.declared.fault.Section.TheVariants as section
+use Rattle.policy.specs.declared.key.Key.{Key}
+use Rattle.policy.specs.declared.key.Key.TheVariants as keys
 use Rattle.policy.specs.declared.object.Kind.{Kind}
 use Rattle.policy.specs.declared.object.Kind.TheVariants as kind
 use Rattle.policy.specs.declared.rights.Right.{Right}
@@ -29,11 +31,12 @@ use Rattle.policy.specs.declared.rows.PolicyRows.{PolicyRows}
 use Rattle.policy.specs.declared.version.Version.{Version}
 use Rattle.policy.specs.declared.version.Version.TheVariants.{First, Second}
 use Rattle.policy.specs.RightNames.{name_of_right}
-use Rattle.policy.specs.SectionNames.{name_of_section}
+use Rattle.policy.specs.SectionNames.{name_of_section, all_sections}
+pub use Rattle.policy.specs.Keys.{name_of_key, keys_of, client_keys, agent_keys, region_keys, signal_keys, kernel_keys, rights_keys}
 use Rattle.policy.specs.Object.{same_kind, object_of}
 use Rattle.policy.specs.Rights.{all_rights, rights_that}
 use Rattle.policy.specs.Policy.{Name, Source, Declared, names, names_of, number_in}
-use Rattle.policy.specs.Reading.{◌>>=◌, or_fault, unless, fault_of_file, fault_in}
+use Rattle.policy.specs.Reading.{◌>>=◌, or_fault, unless, fault_at, fault_at_none, fault_of_file, fault_of_version, fault_of_array, fault_of_lengths, fault_in}
 
 -- ---- values
 
@@ -147,63 +150,48 @@ abbrev pub keys_in : Members → List Name
 keys_in no_members = []
 keys_in (member k d ms) = k ∷ keys_in ms
 
+-- the name is that of one of some keys
+abbrev pub is_key_of : List Key → Name → Bool
+is_key_of known name = list_any (λ at. bytes_eq name (name_of_key at)) known
+
 -- no key but these
-abbrev pub only : List Name → Members → Result (Unit {0}) PolicyCause
-only known row = unless (list_all (λ k. list_any (bytes_eq k) known) (keys_in row)) BadValue
+abbrev pub only : List Key → Members → Result (Unit {0}) RowFault
+only known row = unless (list_all (is_key_of known) (keys_in row)) (fault_at_none BadValue)
 
--- the value at a key: MissingKey where it is absent, BadValue where it is wrong
-abbrev pub right_value : {A : Type 0} → (Data → Option A) → Option Data → Result A PolicyCause
-right_value read None = Err MissingKey
-right_value read (Some d) = or_fault BadValue (read d)
+-- the value at a key: MissingKey there where it is absent, BadValue there where it is wrong
+abbrev pub right_value : {A : Type 0} → Key → (Data → Option A) → Option Data → Result A RowFault
+right_value at read None = Err (fault_at at MissingKey)
+right_value at read (Some d) = or_fault (fault_at at BadValue) (read d)
 
-abbrev pub key : {A : Type 0} → Name → (Data → Option A) → Members → Result A PolicyCause
-key name read row = right_value read (get_member name row)
-
--- the keys of a row of each array
-abbrev pub client_keys : List Name
-client_keys = codes "name" ∷ []
-
-abbrev pub agent_keys : List Name
-agent_keys = codes "name" ∷ codes "takes" ∷ []
-
-abbrev pub region_keys : List Name
-region_keys = codes "name" ∷ codes "length" ∷ []
-
-abbrev pub signal_keys : List Name
-signal_keys = codes "name" ∷ codes "initial" ∷ []
-
-abbrev pub kernel_keys : List Name
-kernel_keys = codes "name" ∷ codes "entry" ∷ codes "text" ∷ []
-
-abbrev pub rights_keys : List Name
-rights_keys = codes "client" ∷ codes "kind" ∷ codes "object" ∷ codes "rights" ∷ []
+abbrev pub key : {A : Type 0} → Key → (Data → Option A) → Members → Result A RowFault
+key at read row = right_value at read (get_member (name_of_key at) row)
 
 -- what a row holds beside its name
-abbrev pub no_more_keys : Members → Result (Unit {0}) PolicyCause
+abbrev pub no_more_keys : Members → Result (Unit {0}) RowFault
 no_more_keys row = Ok tt
 
-abbrev pub takes : Members → Result Takes PolicyCause
-takes = key (codes "takes") some_dispatches
+abbrev pub takes : Members → Result Takes RowFault
+takes = key keys.Takes some_dispatches
 
-abbrev pub region_length : Members → Result ℕ PolicyCause
-region_length = key (codes "length") a_length
+abbrev pub region_length : Members → Result ℕ RowFault
+region_length = key keys.Length a_length
 
-abbrev pub initial_value : Members → Result ℤ PolicyCause
-initial_value = key (codes "initial") a_number
+abbrev pub initial_value : Members → Result ℤ RowFault
+initial_value = key keys.Initial a_number
 
-abbrev pub kernel_source : Members → Result Source PolicyCause
+abbrev pub kernel_source : Members → Result Source RowFault
 kernel_source row = do
-  entry ← key (codes "entry") an_entry row
-  text ← key (codes "text") a_text row
+  entry ← key keys.Entry an_entry row
+  text ← key keys.Text a_text row
   Ok (record { entry = entry; text = text })
 
 -- a row with a name of its own: its keys, its name, the rest of it, and no earlier row of that name
-abbrev pub named_row : {V : Type 0} → List Name → (Members → Result V PolicyCause) → List (Name × V) → Members → Result (Name × V) PolicyCause
+abbrev pub named_row : {V : Type 0} → List Key → (Members → Result V RowFault) → List (Name × V) → Members → Result (Name × V) RowFault
 named_row known rest before row = do
   _ ← only known row
-  name ← key (codes "name") a_name row
+  name ← key keys.Name a_name row
   value ← rest row
-  _ ← unless (number_in (names before) name == 0) DoubleName
+  _ ← unless (number_in (names before) name == 0) (fault_at keys.Name DoubleName)
   Ok (name, value)
 
 -- whom, and what, a row on rights covers: a name has to be declared
@@ -216,38 +204,38 @@ target_of on objects None = Some (target.Any on)
 target_of on objects (Some name) = if nat_lt 0 (number_in objects name) then Some (target.One (object_of on (number_in objects name))) else None
 
 -- an allow row or a deny row: its keys, each in turn, and then the names
-abbrev pub rights_row : Declared → Members → Result RightsRow PolicyCause
+abbrev pub rights_row : Declared → Members → Result RightsRow RowFault
 rights_row declared row = do
   _ ← only rights_keys row
-  client ← key (codes "client") a_choice row
-  on ← key (codes "kind") a_kind row
-  object ← key (codes "object") a_choice row
-  rights ← key (codes "rights") (some_rights on) row
-  subject ← or_fault UnknownName (subject_of declared.clients client)
-  target ← or_fault UnknownName (target_of on (names_of declared on) object)
+  client ← key keys.Client a_choice row
+  on ← key keys.Kind a_kind row
+  object ← key keys.Object a_choice row
+  rights ← key keys.Rights (some_rights on) row
+  subject ← or_fault (fault_at keys.Client UnknownName) (subject_of declared.clients client)
+  target ← or_fault (fault_at keys.Object UnknownName) (target_of on (names_of declared on) object)
   Ok (record { subject = subject; target = target; rights = rights })
 
 -- ---- arrays
 
-abbrev pub in_row : {A : Type 0} → Section → ℕ → Result A PolicyCause → Result A PolicyFault
+abbrev pub in_row : {A : Type 0} → Section → ℕ → Result A RowFault → Result A PolicyFault
 in_row section row (Ok x) = Ok x
-in_row section row (Err cause) = Err (fault_in section row cause)
+in_row section row (Err fault) = Err (fault_in section row fault)
 
 abbrev pub is_table : Data → Bool
 is_table (table ms) = true
 is_table _ = false
 
 -- a row, which is a table
-abbrev pub of_table : {A : Type 0} → (Members → Result A PolicyCause) → Option Members → Result A PolicyCause
-of_table read None = Err BadValue
+abbrev pub of_table : {A : Type 0} → (Members → Result A RowFault) → Option Members → Result A RowFault
+of_table read None = Err (fault_at_none BadValue)
 of_table read (Some row) = read row
 
 -- the rows of an array of tables, of at most so many
 abbrev pub tables_in : Section → ℕ → Option (List Data) → Result (List Data) PolicyFault
-tables_in section limit None = Err (fault_in section 0 BadValue)
+tables_in section limit None = Err (fault_of_array section BadValue)
 tables_in section limit (Some ds) = do
-  _ ← unless (list_all is_table ds) (fault_in section 0 BadValue)
-  _ ← unless (nat_le (length ds) limit) (fault_in section 0 TooMany)
+  _ ← unless (list_all is_table ds) (fault_of_array section BadValue)
+  _ ← unless (nat_le (length ds) limit) (fault_of_array section TooMany)
   Ok ds
 
 -- the same at a key: no rows where the array is absent
@@ -256,13 +244,13 @@ rows_in section limit None = Ok []
 rows_in section limit (Some d) = tables_in section limit (items_in d)
 
 -- rows read in order, each beside those before it
-abbrev pub read_each : {R : Type 0} → Section → (List R → Members → Result R PolicyCause) → List R → List Data → Result (List R) PolicyFault
+abbrev pub read_each : {R : Type 0} → Section → (List R → Members → Result R RowFault) → List R → List Data → Result (List R) PolicyFault
 read_each section read before [] = Ok before
 read_each section read before (d ∷ ds) = do
   row ← in_row section (length before + 1) (of_table (read before) (as_table d))
   read_each section read (before ++ row ∷ []) ds
 
-abbrev pub array_of : {R : Type 0} → Section → ℕ → (List R → Members → Result R PolicyCause) → Members → Result (List R) PolicyFault
+abbrev pub array_of : {R : Type 0} → Section → ℕ → (List R → Members → Result R RowFault) → Members → Result (List R) PolicyFault
 array_of section limit read file = do
   rows ← rows_in section limit (get_member (name_of_section section) file)
   read_each section read [] rows
@@ -279,26 +267,31 @@ abbrev pub version_of : Option Data → Option Version
 version_of None = Some First
 version_of (Some d) = version_numbered d
 
--- the keys of a file: deny rows are the second version's alone
-abbrev pub first_keys : List Name
-first_keys = codes "version" ∷ codes "client" ∷ codes "agent" ∷ codes "region" ∷ codes "signal" ∷ codes "kernel" ∷ codes "allow" ∷ []
+-- the array is one of a version's: deny rows are the second's alone
+abbrev pub is_array_of : Version → Section → Bool
+is_array_of First section.Deny = false
+is_array_of First _ = true
+is_array_of Second _ = true
 
-abbrev pub file_keys : Version → List Name
-file_keys First = first_keys
-file_keys Second = codes "deny" ∷ first_keys
+-- the name is that of an array of a version's files, or of another key of them
+abbrev pub names_array : Version → Name → Bool
+names_array version name = list_any (λ array. is_array_of version array && bytes_eq name (name_of_section array)) all_sections
+
+abbrev pub is_part_of : Version → Name → Bool
+is_part_of version name = bytes_eq name (name_of_key keys.Version) || names_array version name
 
 -- the file's version, and its keys
 abbrev pub file_head : Members → Result Version PolicyFault
 file_head file = do
-  version ← or_fault (fault_of_file BadValue) (version_of (get_member (codes "version") file))
-  _ ← unless (list_all (λ k. list_any (bytes_eq k) (file_keys version)) (keys_in file)) (fault_of_file BadValue)
+  version ← or_fault fault_of_version (version_of (get_member (name_of_key keys.Version) file))
+  _ ← unless (list_all (is_part_of version) (keys_in file)) (fault_of_file BadValue)
   Ok version
 
 -- the regions, which have not too many bytes together
 abbrev pub regions_of : Members → Result (List (Name × ℕ)) PolicyFault
 regions_of file = do
   regions ← array_of section.Region most_regions (named_row region_keys region_length) file
-  _ ← unless (nat_le (sum_by (λ region. region.1) regions) most_memory_bytes) (fault_in section.Region 0 TooMany)
+  _ ← unless (nat_le (sum_by (λ region. region.1) regions) most_memory_bytes) fault_of_lengths
   Ok regions
 
 -- the clients and the objects, with no rows on rights yet

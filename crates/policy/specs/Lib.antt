@@ -2,6 +2,7 @@ pub mod RightNames
 pub mod Rights
 pub mod KindNames
 pub mod SectionNames
+pub mod Keys
 pub mod FaultTexts
 pub mod Object
 pub mod Names

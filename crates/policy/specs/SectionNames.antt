@@ -1,5 +1,5 @@
--- The keys of a policy file's arrays.
-use Rattle.std.specs.Prelude.{ℕ, List, codes}
+-- The arrays of a policy file.
+use Rattle.std.specs.Prelude.{ℕ, List, [], ◌∷◌, codes}
 use Rattle.policy.specs.declared.fault.Section.{Section}
 use Rattle.policy.specs.declared.fault.Section.TheVariants as section
 
@@ -12,3 +12,7 @@ name_of_section section.Signal = codes "signal"
 name_of_section section.Kernel = codes "kernel"
 name_of_section section.Allow = codes "allow"
 name_of_section section.Deny = codes "deny"
+
+-- the arrays, in the order in which they are read
+abbrev pub all_sections : List Section
+all_sections = section.Client ∷ section.Agent ∷ section.Region ∷ section.Signal ∷ section.Kernel ∷ section.Allow ∷ section.Deny ∷ []

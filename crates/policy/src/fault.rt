@@ -4,6 +4,7 @@ ghost use Rattle.std.specs.Prelude.{◌≡◌, Some};
 ghost use Rattle.policy.specs.declared.fault.RowError.TheVariants as row;
 ghost use Rattle.policy.specs.declared.fault.ReadPolicyError.TheVariants as file;
 
+use crate::key::Key;
 use std::alloc::{AllocError, AllocFailed};
 use std::fmt;
 
@@ -28,7 +29,18 @@ pub enum Section {
 
 impl Section {
     ghost use Rattle.policy.specs.SectionNames.{name_of_section};
-    ghost use Rattle.policy.specs.Reading.{fault_in};
+    ghost use Rattle.policy.specs.Reading.{fault_in, fault_of_array};
+
+    /// The arrays, in the order in which they are read.
+    pub const ALL: [Section; 7] = [
+        Section::Client,
+        Section::Agent,
+        Section::Region,
+        Section::Signal,
+        Section::Kernel,
+        Section::Allow,
+        Section::Deny,
+    ];
 
     /// The array's key in the file.
     pub fn name(self) -> &'static str
@@ -45,14 +57,27 @@ impl Section {
         }
     }
 
-    // A fault in a row of the array, or of the whole of it, which is row 0.
-    pub(crate) fn fault(self, row: u32, cause: PolicyCause) -> PolicyFault
-        ensures { result ≡ fault_in self row cause }
+    // A fault of the array as a whole.
+    pub(crate) fn fault(self, cause: PolicyCause) -> PolicyFault
+        ensures { result ≡ fault_of_array self cause }
     {
         PolicyFault {
             cause,
             kind: Some(self),
+            row: 0,
+            key: None,
+        }
+    }
+
+    // A fault in a row of the array.
+    pub(crate) fn fault_in(self, row: u32, fault: RowFault) -> PolicyFault
+        ensures { result ≡ fault_in self row fault }
+    {
+        PolicyFault {
+            cause: fault.cause,
+            kind: Some(self),
             row,
+            key: fault.key,
         }
     }
 }
@@ -115,10 +140,13 @@ pub struct PolicyFault {
     pub kind: Option<Section>,
     /// The row in which it lies, from 1; 0 for a fault of the array as a whole, or before the arrays.
     pub row: u32,
+    /// The key at which it lies. None for a fault of the file or an array as a whole, and in a row or the file for a
+    /// key that isn't known.
+    pub key: Option<Key>,
 }
 
 impl PolicyFault {
-    ghost use Rattle.policy.specs.Reading.{fault_of_file};
+    ghost use Rattle.policy.specs.Reading.{fault_of_file, fault_of_version, fault_of_lengths};
 
     // A fault before the arrays.
     pub(crate) fn of_file(cause: PolicyCause) -> PolicyFault
@@ -128,6 +156,27 @@ impl PolicyFault {
             cause,
             kind: None,
             row: 0,
+            key: None,
+        }
+    }
+
+    // A wrong version.
+    pub(crate) fn of_version() -> PolicyFault
+        ensures { result ≡ fault_of_version }
+    {
+        PolicyFault {
+            key: Some(Key::Version),
+            ..PolicyFault::of_file(PolicyCause::BadValue)
+        }
+    }
+
+    // Regions that are too long together.
+    pub(crate) fn of_lengths() -> PolicyFault
+        ensures { result ≡ fault_of_lengths }
+    {
+        PolicyFault {
+            key: Some(Key::Length),
+            ..Section::Region.fault(PolicyCause::TooMany)
         }
     }
 }
@@ -158,20 +207,52 @@ pub enum ReadPolicyError {
     Fault(PolicyFault),
 }
 
+// What is wrong with a row, and the key at which it lies; none for a key that isn't known.
+#[derive(Clone, Copy)]
+pub struct RowFault {
+    pub cause: PolicyCause,
+    pub key: Option<Key>,
+}
+
+impl RowFault {
+    ghost use Rattle.policy.specs.Reading.{fault_at_none};
+
+    // A fault at none of the keys that the row's array has.
+    pub(crate) fn at_none(cause: PolicyCause) -> RowFault
+        ensures { result ≡ fault_at_none cause }
+    {
+        RowFault { cause, key: None }
+    }
+}
+
+impl Key {
+    ghost use Rattle.policy.specs.Reading.{fault_at};
+
+    // A fault at the key.
+    pub(crate) fn fault(self, cause: PolicyCause) -> RowFault
+        ensures { result ≡ fault_at self cause }
+    {
+        RowFault {
+            cause,
+            key: Some(self),
+        }
+    }
+}
+
 // Why a row isn't read.
 #[derive(Clone, Copy)]
 pub enum RowError {
     // There was no memory for it.
     OutOfMemory,
     // It has a fault.
-    Fault(PolicyCause),
+    Fault(RowFault),
 }
 
-impl From<PolicyCause> for RowError {
-    ghost from_gives = { λ cause error. error ≡ row.Fault cause };
+impl From<RowFault> for RowError {
+    ghost from_gives = { λ fault error. error ≡ row.Fault fault };
 
-    fn from(cause: PolicyCause) -> RowError {
-        RowError::Fault(cause)
+    fn from(fault: RowFault) -> RowError {
+        RowError::Fault(fault)
     }
 }
 

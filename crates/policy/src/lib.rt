@@ -6,6 +6,7 @@
 mod coverage;
 mod fault;
 mod kernel_source;
+mod key;
 mod laws;
 mod limits;
 mod object;
@@ -19,6 +20,7 @@ mod version;
 
 pub use fault::{PolicyCause, PolicyFault, ReadPolicyError, Section};
 pub use kernel_source::KernelSource;
+pub use key::Key;
 pub use laws::{law_faults_are_first, law_numbers_are_those_of_the_rules};
 pub use limits::{
     MOST_AGENTS, MOST_ALLOW_ROWS, MOST_CLIENTS, MOST_DENY_ROWS, MOST_KERNELS, MOST_MEMORY_BYTES,

@@ -3,6 +3,7 @@ pub mod Audit
 pub mod Auditing
 pub mod Reading
 pub mod Running
+pub mod Submitting
 pub mod Watching
 pub mod Appending
 pub mod Writing

@@ -16,7 +16,7 @@ use sequences::Sequence;
 use signals::SignalOp;
 use std::alloc::{AllocError, Global};
 use words::{
-    address, bytes, decimal, five_words, four_words, is_word, no_words, one_word, packet,
+    address, bytes, decimal, five_words, four_words, is_word, no_words, one_word, only_packet,
     packet_word, signed, split_word, three_words, two_words,
 };
 use world::Request;
@@ -273,14 +273,17 @@ fn part(line: &[u8]) -> Option<Command>
 }
 
 // `publish Q P T H`
+#[tactic(auto, using(crate::proofs::Submitting::publish_is))]
 fn publish(line: &[u8]) -> Option<Command>
     ensures { result ≡ publish_row (words line.now) }
 {
-    let (queue, producer, ticket, digits) = four_words(line)?;
+    let (queue, rest) = split_word(line)?;
+    let (producer, rest) = split_word(rest)?;
+    let (ticket, rest) = split_word(rest)?;
+    let words = only_packet(rest)?;
     let queue = QueueId(decimal(queue)?);
     let producer = decimal(producer)?;
     let ticket = PacketId(decimal(ticket)?);
-    let words = packet(digits)?;
     Some(Command::Publish {
         queue,
         producer,
@@ -290,13 +293,15 @@ fn publish(line: &[u8]) -> Option<Command>
 }
 
 // `submit Q P H`
+#[tactic(auto, using(crate::proofs::Submitting::submit_is))]
 fn submit(line: &[u8]) -> Option<Command>
     ensures { result ≡ submit_row (words line.now) }
 {
-    let (queue, producer, digits) = three_words(line)?;
+    let (queue, rest) = split_word(line)?;
+    let (producer, rest) = split_word(rest)?;
+    let words = only_packet(rest)?;
     let queue = QueueId(decimal(queue)?);
     let producer = decimal(producer)?;
-    let words = packet(digits)?;
     Some(Command::Submit {
         queue,
         producer,

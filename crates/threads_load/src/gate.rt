@@ -1,6 +1,7 @@
 //! The gate that ends the load's lanes, and parts their work into rounds.
 
 use crate::limits::LoadLimits;
+use aql_packet::QueueId;
 use client_threads::{Advanced, Gate, LaneAnswer, ServeAnswer};
 use core_model::Refusal;
 use std::alloc::{AllocError, Global};
@@ -13,6 +14,9 @@ const TURNS_A_ROUND: u64 = 32_768;
 
 /// After how many of these a lane adds them to what all did.
 const TURNS_AT_ONCE: u64 = 16;
+
+/// After how many turns in a row with nothing to do a lane waits at its doorbell.
+const IDLE_TURNS: u64 = 64;
 
 // What is counted of a lane.
 #[derive(Drop)]
@@ -27,6 +31,10 @@ struct Tally {
     counted_from: AtomicU64,
     // Whether it has ended for good: 1 then.
     ended: AtomicU64,
+    // In how many turns in a row its ring was empty and none of its packets pending.
+    idle: AtomicU64,
+    // How many of its producers have begun and not ended.
+    producing: AtomicU64,
 }
 
 impl Tally {
@@ -37,6 +45,8 @@ impl Tally {
             made: AtomicU64::new(0),
             counted_from: AtomicU64::new(0),
             ended: AtomicU64::new(0),
+            idle: AtomicU64::new(0),
+            producing: AtomicU64::new(0),
         }
     }
 }
@@ -156,8 +166,13 @@ impl LoadGate {
         !is_over
     }
 
-    // Whether lanes rest until the next round.
-    fn is_round_over(&self) -> bool {
+    /// How many lanes there are.
+    pub(crate) fn lanes(&self) -> usize {
+        self.tallies.len()
+    }
+
+    /// Whether lanes rest until the next round.
+    pub(crate) fn is_round_over(&self) -> bool {
         self.over.load(Ordering::SeqCst) != 0
     }
 
@@ -168,9 +183,47 @@ impl LoadGate {
         }
     }
 
-    // What is counted of a lane, if it is one of the load's.
+    /// A producer of a queue begins.
+    pub(crate) fn begin_producer(&self, queue: QueueId) {
+        if let Some(tally) = self.tally_of(queue) {
+            tally.producing.fetch_add(1, Ordering::SeqCst);
+        }
+    }
+
+    /// A producer of a queue has published all, or gives up.
+    pub(crate) fn end_producer(&self, queue: QueueId) {
+        if let Some(tally) = self.tally_of(queue) {
+            tally.producing.fetch_sub(1, Ordering::SeqCst);
+        }
+    }
+
+    /// Whether a lane is to wait at its doorbell: it has had nothing to do in turns enough, and a producer that rings is
+    /// at work. The end of a round rings as well.
+    pub(crate) fn is_to_wait(&self, lane: u32) -> bool {
+        let Some(tally) = self.tally(lane) else {
+            return false;
+        };
+        IDLE_TURNS <= tally.idle.load(Ordering::SeqCst)
+            && tally.producing.load(Ordering::SeqCst) != 0
+            && !self.is_round_over()
+            && !self.is_stopped()
+    }
+
+    /// The doorbell of a lane rang: it looks again, so many turns at least.
+    pub(crate) fn wake(&self, lane: u32) {
+        if let Some(tally) = self.tally(lane) {
+            tally.idle.store(0, Ordering::SeqCst);
+        }
+    }
+
+    // What is counted of the lane of a queue, if it is one of the load's.
+    fn tally_of(&self, queue: QueueId) -> Option<&Tally> {
+        self.tallies.get((queue.0 as usize).checked_sub(1)?)
+    }
+
+    // The same of a lane by its number, which is its queue's.
     fn tally(&self, lane: u32) -> Option<&Tally> {
-        self.tallies.get(lane.checked_sub(1)? as usize)
+        self.tally_of(QueueId(u64::from(lane)))
     }
 
     // Whether a lane has turns left, before the turn with this number of all rounds.
@@ -189,6 +242,26 @@ impl LoadGate {
             return false;
         }
         true
+    }
+
+    // A lane did nothing in a turn.
+    fn rest(&self, lane: u32, done: LaneAnswer) {
+        if let Some(tally) = self.tally(lane) {
+            if has_nothing(done) {
+                tally.idle.fetch_add(1, Ordering::SeqCst);
+            } else {
+                tally.idle.store(0, Ordering::SeqCst);
+            }
+        }
+        thread::yield_now();
+    }
+
+    // A lane did something in a turn.
+    fn work(&self, tally: &Tally) {
+        if tally.idle.load(Ordering::SeqCst) != 0 {
+            tally.idle.store(0, Ordering::SeqCst);
+        }
+        tally.worked.fetch_add(1, Ordering::SeqCst);
     }
 
     // A packet of a lane is finished.
@@ -239,6 +312,11 @@ fn is_idle(done: LaneAnswer) -> bool {
     !is_served(done.served) && !is_advanced(done.advanced)
 }
 
+// Whether a lane had nothing to do in a turn: its ring was empty, and none of its packets pending.
+fn has_nothing(done: LaneAnswer) -> bool {
+    matches!(done.served, ServeAnswer::Empty) && matches!(done.advanced, Advanced::Idle)
+}
+
 // Whether the audit is full: a call of the turn was refused for that.
 fn is_full(done: LaneAnswer) -> bool {
     matches!(done.served, ServeAnswer::Refused(_, Refusal::AuditFull))
@@ -267,7 +345,7 @@ impl Gate for LoadGate {
             self.end_round();
         }
         if is_idle(done) {
-            thread::yield_now();
+            self.rest(lane, done);
             return;
         }
         let Some(tally) = self.tally(lane) else {

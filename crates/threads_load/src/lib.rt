@@ -4,6 +4,7 @@
 // The check tries its tactics on what is left of each proof.
 #![tactic(auto)]
 
+mod bells;
 mod counting;
 mod fault;
 mod gate;

@@ -8,6 +8,7 @@ ghost use Rattle.client_threads.specs.Running.{IsEndOf};
 ghost use Rattle.threads_load.specs.Additions.{addition};
 ghost use Rattle.threads_load.specs.Stages.{StaysOf};
 
+use crate::bells::ring;
 use crate::gate::LoadGate;
 use crate::plan::PlannedQueue;
 use aql_packet::{
@@ -130,7 +131,8 @@ fn planned_of(plan: &[PlannedQueue], queue: QueueId) -> Option<PlannedQueue> {
     plan.get(before).copied()
 }
 
-/// Publishes a producer's packets on the queue of its end, until it gives up, or its gate is stopped.
+/// Publishes a producer's packets on the queue of its end, until it gives up, or its gate is stopped. Its queue's doorbell
+/// rings then, as for each packet.
 pub fn produce<B: Room>(
     broker: &Broker<B>,
     plan: &[PlannedQueue],
@@ -141,7 +143,11 @@ pub fn produce<B: Room>(
     requires { IsEndOf broker.now end.old }
     ensures { StaysOf broker.now end.old end.new }
 {
-    if let Some(planned) = planned_of(plan, end.queue()) {
+    let queue = end.queue();
+    if let Some(planned) = planned_of(plan, queue) {
+        gate.begin_producer(queue);
         publish_all(broker, end, &addition(planned.region), share, gate);
+        gate.end_producer(queue);
+        ring(broker, queue);
     }
 }

@@ -17,6 +17,7 @@ ghost use Rattle.threads_load.specs.Rounds.{IsHandedOut, parts_of};
 ghost use Rattle.threads_load.specs.Stages.{AreOf, EachStaysOf, IsReady, IsStage, IsStageWith};
 ghost use Rattle.threads_load.specs.declared.plan.PlannedQueue.{PlannedQueue};
 
+use crate::bells::BellGate;
 use crate::counting::{PacketCounts, count_on};
 use crate::fault::LoadFault;
 use crate::gate::LoadGate;
@@ -123,7 +124,8 @@ fn run_all<B: Room + Send + Sync, R: Threads + Wait + Sync>(
     ensures queues { (queues : ℕ) → AreOf queues lanes.items → AreOf queues result.items }
     ensures settled { (parts : List Part) → AreSettledWith parts lanes.items → AreSettledWith parts result.items }
 {
-    run_lanes(rt, alloc, broker, lanes, gate)
+    let bells = BellGate { rt, broker, gate };
+    run_lanes(rt, alloc, broker, lanes, &bells)
 }
 
 // Producers and lanes run at once.

@@ -1,6 +1,6 @@
 -- Bytes, one pair of digits more.
-use Rattle.std.proofs.Common.{◌≡◌, ℕ, ◌+◌, ◌*◌, ◌<◌, ◌≤◌, Bool, true, ◌⊎◌, inl, inr, List, [], ◌∷◌, ◌++◌, length, get_or, set, take, drop, Option, Some, None, refl, sym, ap, ◌∙◌, arith, append_assoc, append-nil, length-append}
-use Rattle.std.specs.Prelude.{option_map, option_and_then, unwrap_or, ◌==◌, ◌&&◌, false, if◌then◌else◌}
+use Rattle.std.proofs.Common.{◌≡◌, ℕ, ◌<◌, List, [], ◌∷◌, ◌++◌, length, Option, Some, None, refl, sym, ap, ◌∙◌, arith, append_assoc, append-nil}
+use Rattle.std.specs.Prelude.{option_map, option_and_then, ◌==◌, false}
 use Rattle.std.specs.Option.{is_some}
 use Rattle.words.specs.Lines.{Word}
 use Rattle.words.specs.Bytes.{byte_of, bytes_word}

@@ -1,9 +1,10 @@
 -- The words of bytes, one byte more.
-use Rattle.std.proofs.Common.{◌≡◌, ℕ, zero, suc, ◌+◌, ◌<◌, ◌≤◌, Bool, true, false, List, [], ◌∷◌, ◌++◌, length, get_or, take, drop, refl, sym, ap, ◌∙◌, add-one, arith}
+use Rattle.std.proofs.Common.{◌≡◌, ℕ, zero, suc, ◌+◌, ◌<◌, ◌≤◌, Bool, true, false, List, [], ◌∷◌, ◌++◌, length, length-append, get_or, take, drop, refl, sym, ap, ◌∙◌, add-one, arith}
+use Rattle.std.proofs.lemmas.Bool.Decides.{nat_tests}
 use Rattle.std.proofs.lemmas.List.{take_more, take_all, drop_all, length-take-le}
 use Rattle.std.proofs.Math.Seq.{drop-cons}
-use Rattle.memchr.specs.Find.{IsFirstByte, Nowhere, NoneBefore, Passes, is_byte3}
-use Rattle.words.specs.Lines.{Word, is_blank, nonempty_before, words, words_from}
+use Rattle.std.specs.Prelude.{◌==◌}
+use Rattle.words.specs.Lines.{Word, is_blank, no_words, nonempty_before, words, words_from}
 
 pub words_from_end : (word : Word) → words_from word [] ≡ nonempty_before word []
 unfolding words_from
@@ -64,30 +65,23 @@ all_word text i e h begun =
     let whole : words_from (take i text) (drop i text) ≡ words_from text [] = rw (front, back) refl in
     e ∙ whole ∙ last_word text begun
 
--- up to a place before which there is no blank, the bytes are the begin of the first word
-begun_at : (text : List ℕ) (i : ℕ) → i ≤ length text → ((k : ℕ) → k < i → is_blank (get_or text k 0) ≡ false) →
-    words_from (take i text) (drop i text) ≡ words text
-begun_at text zero h plain = refl
-begun_at text (suc i) h plain =
-    let here : suc i ≡ i + 1 = omega arith in
-    rw here (words_more text i (omega arith) (plain i (omega arith))) ∙ begun_at text i (omega arith) (λ k less. plain k (omega (arith, less)))
+-- ---- whether there is a word
 
-not_blank : (b : Bool) → (b ≡ true → ⊥) → b ≡ false
-not_blank true h = absurd (h refl)
-not_blank false h = refl
+some_more : (word : Word) (byte : ℕ) (bytes : List ℕ) (b : Bool) → is_blank byte ≡ b → 0 < length word →
+    no_words (words_from (word ++ byte ∷ []) bytes) ≡ false → no_words (words_from word (byte ∷ bytes)) ≡ false
+some_more [] byte bytes b is begun later = absurd (omega (arith, begun))
+some_more (first ∷ word) byte bytes true is begun later = ap no_words (words_from_blank (first ∷ word) byte bytes is)
+some_more (first ∷ word) byte bytes false is begun later = ap no_words (words_from_other (first ∷ word) byte bytes is) ∙ later
 
--- the first word ends at the first blank
-pub word_ends : (text word rest : List ℕ) (i : ℕ) {all : List Word} → all ≡ words text →
-    NoneBefore (Passes (is_byte3 32 9 13) text) 0 (length text) i × Passes (is_byte3 32 9 13) text i → is_blank (get_or text 0 0) ≡ false →
-    word ≡ take i text → rest ≡ drop i text → all ≡ word ∷ words rest
-word_ends text word rest i e found begins w r =
-    rest_at text i word rest
-    (e ∙ sym (begun_at text i (omega (arith, found.0.high)) (λ k less. not_blank (is_blank (get_or text k 0)) (found.0.before k (omega arith) less))))
-    (word_found text i found.0.high found.1 begins) w r
+some_from : (word : Word) (bytes : List ℕ) → 0 < length word → no_words (words_from word bytes) ≡ false
+some_from [] [] begun = absurd (omega (arith, begun))
+some_from (first ∷ word) [] begun = ap no_words (words_from_end (first ∷ word))
+some_from word (byte ∷ bytes) begun =
+    some_more word byte bytes (is_blank byte) refl begun (some_from (word ++ byte ∷ []) bytes (omega (arith, length-append word (byte ∷ []))))
 
--- without a blank all bytes are the word
-pub last_ends : (text : List ℕ) {all : List Word} → all ≡ words text → Nowhere (Passes (is_byte3 32 9 13) text) 0 (length text) →
-    0 < length text → all ≡ text ∷ words []
-last_ends text e plain begun =
-    all_word text (length text)
-    (e ∙ sym (begun_at text (length text) (omega arith) (λ k less. not_blank (is_blank (get_or text k 0)) (plain k (omega arith) less)))) (omega arith) begun
+-- from its first word on a line has none just where it has no byte
+pub none_left : (text : List ℕ) → (0 < length text → is_blank (get_or text 0 0) ≡ false) → no_words (words text) ≡ (length text == 0)
+none_left [] begins = ap no_words (words_from_end [])
+none_left (byte ∷ text) begins =
+    let some : (length (byte ∷ text) == 0) ≡ false = grind (arith, nat_tests) in
+    ap no_words (words_from_other [] byte text (begins (omega arith))) ∙ some_from (byte ∷ []) text (omega arith) ∙ sym some

@@ -4,14 +4,15 @@ ghost use Rattle.std.specs.Prelude.{◌≡◌, ◌++◌, ◌<◌, ◌∷◌, [],
 ghost use Rattle.std.specs.Option.{is_some};
 ghost use Rattle.words.specs.Bytes.{byte_of, bytes_word, hex_digit, hex_digits, text_of_byte, text_of_bytes};
 
-use crate::digits::digit;
+use crate::digits::digit_value;
 use std::alloc::{AllocError, Global};
 
 /// The byte of two digits.
 pub(crate) fn byte(high: u8, low: u8) -> Option<u8>
     ensures { result ≡ byte_of high low }
 {
-    Some(digit(high)? * 16 + digit(low)?)
+    let both = digit_value(high) * 16 + digit_value(low);
+    if both < 256 { Some(both as u8) } else { None }
 }
 
 /// Bytes in order, two hexadecimal digits each.

@@ -26,4 +26,4 @@ pub use lines::{
 };
 pub use names::{client_name, object_name, write_client, write_object};
 pub use numbers::{decimal, natural, signed};
-pub use packets::{is_packet_word, packet, packet_word, write_word};
+pub use packets::{is_packet_word, only_packet, packet, packet_word, write_word};

@@ -3,8 +3,6 @@
 ghost use Rattle.std.specs.Prelude.{◌≡◌, ◌<◌, ◌∷◌, [], length, MatchOption, option_map, option_copied, bytes_eq, slice_index, false};
 ghost use Rattle.words.specs.Lines.{is_blank, words, no_words, one_word, two_words, three_words, four_words, five_words};
 
-use memchr::memchr3;
-
 /// Whether a byte stands between words.
 pub fn is_blank(byte: u8) -> bool
     ensures { result ≡ is_blank byte }
@@ -33,10 +31,12 @@ pub fn split_word(line: &[u8]) -> Option<(&[u8], &[u8])>
     if text.is_empty() {
         return None;
     }
-    match memchr3(b' ', b'\t', b'\r', text) {
-        Some(place) => Some(text.split_at(place)),
-        None => Some((text, &[])),
+    for (index, byte) in text.iter().enumerate() {
+        if is_blank(*byte) {
+            return Some(text.split_at(index));
+        }
     }
+    Some((text, &[]))
 }
 
 /// Whether a word is spelled so.
@@ -50,7 +50,7 @@ pub fn is_word(word: &[u8], spelled: &str) -> bool
 pub fn no_words(line: &[u8]) -> bool
     ensures { result ≡ no_words (words line.now) }
 {
-    split_word(line).is_none()
+    skip_blanks(line).is_empty()
 }
 
 /// The only word.

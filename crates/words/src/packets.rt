@@ -1,10 +1,12 @@
 //! Packets and their words, as bytes in hexadecimal digits.
 
-ghost use Rattle.std.specs.Prelude.{◌≡◌, ◌++◌, ◌+◌, ◌≤◌, IfOk, OnOk, length, string_bytes};
+ghost use Rattle.std.specs.Prelude.{◌≡◌, ◌++◌, ◌+◌, ◌≤◌, IfOk, OnOk, length, option_and_then, string_bytes};
 ghost use Rattle.std.specs.Option.{is_some};
+ghost use Rattle.words.specs.Lines.{one_word, words};
 ghost use Rattle.words.specs.Packets.{word_at, eight_bytes, words_of, packet_bytes, packet_word, text_of_word};
 
-use crate::hexadecimal::{are_bytes, byte, bytes, split_digits, write_bytes};
+use crate::hexadecimal::{are_bytes, byte, bytes, write_bytes};
+use crate::lines::{one_word, skip_blanks};
 use byteorder::{ByteOrder, LittleEndian};
 use std::alloc::{AllocError, Global};
 
@@ -57,14 +59,14 @@ pub fn is_packet_word(word: &[u8]) -> bool
 fn packet_bytes(word: &[u8]) -> Option<[u8; 64]>
     ensures { result ≡ packet_bytes word.now }
 {
-    let mut bytes = [0; 64];
-    let mut rest = word;
-    for place in 0..64 {
-        let (high, low, further) = split_digits(rest)?;
-        bytes[place] = byte(high, low)?;
-        rest = further;
+    if word.len() != 128 {
+        return None;
     }
-    if rest.is_empty() { Some(bytes) } else { None }
+    let mut bytes = [0; 64];
+    for place in 0..64 {
+        bytes[place] = byte(word[2 * place], word[2 * place + 1])?;
+    }
+    Some(bytes)
 }
 
 /// A packet: its eight words, of 64 bytes.
@@ -72,6 +74,17 @@ pub fn packet(word: &[u8]) -> Option<[u64; 8]>
     ensures { result ≡ packet_word word.now }
 {
     Some(words_of(&packet_bytes(word)?))
+}
+
+/// The packet that is the only word of a line. Mostly its digits are all that is left of the line, and no end of a word
+/// is looked for.
+pub fn only_packet(line: &[u8]) -> Option<[u64; 8]>
+    ensures { result ≡ option_and_then packet_word (one_word (words line.now)) }
+{
+    match packet(skip_blanks(line)) {
+        Some(words) => Some(words),
+        None => packet(one_word(line)?),
+    }
 }
 
 /// Writes a packet's word, as its eight bytes: the lowest first (PSA, Architected Queuing Language).

@@ -2,10 +2,13 @@
 use Rattle.std.specs.Prelude.{◌≡◌, ℕ, ◌==◌, ◌||◌, Bool, true, List, fold, Some}
 use Rattle.aql_packet.specs.declared.ids.QueueId.{QueueId}
 use Rattle.aql_packet.specs.declared.ids.PacketId.{PacketId}
+use Rattle.aql_packet.specs.declared.ids.SignalHandle.{SignalHandle}
 use Rattle.aql_packet.specs.declared.packet.KernelDispatch.{KernelDispatch}
 use Rattle.aql_packet.specs.declared.packet.Packet.{Packet}
 use Rattle.regions.specs.Memory.{byte_at, is_within}
+use Rattle.core_model.specs.declared.call.Call.TheVariants.{Finish}
 use Rattle.core_model.specs.declared.entry.Effect.{Effect}
+use Rattle.core_model.specs.declared.event.Event.TheVariants.{Call}
 use Rattle.core_model.specs.declared.flight.InFlight.{InFlight}
 use Rattle.core_model.specs.declared.flight.Progress.{Progress}
 use Rattle.core_model.specs.declared.outcome.Outcome.TheVariants as outcome
@@ -13,6 +16,8 @@ use Rattle.core_model.specs.declared.refusal.Refusal.{Refusal}
 use Rattle.core_model.specs.History.{beginning, History}
 use Rattle.aql_packet.specs.declared.packet.Packet.TheVariants as packet
 use Rattle.core_model.specs.LaunchRules.{has_sizes}
+use Rattle.core_model.specs.Legal.{due}
+use Rattle.core_model.specs.Needs.{completion_signal}
 use Rattle.core_model.specs.Queues.{owner}
 use Rattle.core_model.specs.declared.origin.Opening.{Opening}
 use Rattle.core_model.specs.Flight.{in_flight, progress}
@@ -53,6 +58,13 @@ RefusedAt history queue id why = (rest : Packet → Progress → Owed) → for_p
 -- what the completion of a packet whose work is done is owed
 abbrev pub finish_owed : History → QueueId → PacketId → Packet → Owed
 finish_owed history queue id p = enters outcome.Accepted (completion_of (signals (beginning history) history.entries) queue id p)
+
+-- a packet in flight whose work is done, with this completion signal
+pub record IsFinishedAs (history : History) (queue : QueueId) (id : PacketId) (signal : SignalHandle) : Type 0 where
+  pub place : Place
+  pub found : IsInPlace history queue id place
+  pub signal_is : signal ≡ completion_signal place.packet
+  pub due_is : due history (Call (Finish queue id)) ≡ finish_owed history queue id place.packet
 
 -- whether bytes have their place in memory: there are none, or they lie whole in one region
 abbrev pub is_placed : List ℕ → ℕ → ℕ → Bool

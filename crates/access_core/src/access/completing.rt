@@ -1,23 +1,22 @@
 //! Packets in flight are found, completed and released.
 
 ghost use Rattle.core_model.specs.History.{beginning};
-ghost use Rattle.std.specs.Prelude.{◌≡◌, Err, IfErr, IfNone, IfOk, IfSome, None, Some, find, fold, true};
+ghost use Rattle.std.specs.Prelude.{◌≡◌, ◌++◌, ◌∷◌, [], Err, IfErr, IfNone, IfOk, IfSome, None, Ok, Some, find, fold, true};
 ghost use Rattle.core_model.specs.declared.entry.Effect.TheVariants as effect;
 ghost use Rattle.policy.specs.Policy.{region_lengths};
 ghost use Rattle.core_model.specs.Memory.{signals_after};
-ghost use Rattle.core_model.specs.Needs.{completion_signal};
-ghost use Rattle.core_model.specs.Owed.{completion_of, refuses, is_finished};
+ghost use Rattle.core_model.specs.Owed.{is_finished, refuses, signal_decrement};
 ghost use Rattle.core_model.specs.Legal.{Meets, as_accepted, due};
 ghost use Rattle.access_core.specs.inner.LiesInRegions.{lies_in_regions};
 ghost use Rattle.packet_processor.specs.Queueing.{IsFoundIn, is_place_of};
-ghost use Rattle.access_core.specs.inner.InPlace.{finish_owed, IsFoundAt, IsInPlace, IsSized, RefusedAt};
+ghost use Rattle.access_core.specs.inner.InPlace.{finish_owed, IsFinishedAs, IsFoundAt, IsInPlace, IsSized, RefusedAt};
 
 use crate::access::host::change;
 use crate::access::leaving::{Leaving, leave_flight};
 use crate::access::lookups::queue_of;
 use crate::access::running_kernels::group_count;
 use crate::access::{AccessCore, enter};
-use aql_packet::{Packet, PacketId, QueueId};
+use aql_packet::{Packet, PacketId, QueueId, SignalHandle};
 use core_model::{Call, Effect, Effects, Event, Outcome, Refusal};
 use packet_processor::{FoundPacket, Place, Places, completion_signal, is_ready};
 use signals::{SignalOp, Signals};
@@ -39,19 +38,33 @@ impl AccessCore {
         ensures room { result ≡ Err Refusal.AuditFull → ⊥ }
     {
         let found = self.may_finish(queue, packet)?;
-        let effects = complete(&mut self.signals, queue, packet, &found.place.packet);
+        let signal = completion_signal(&found.place.packet);
         let index = found.index;
+        self.complete_found(queue, FoundPacket { packet, index }, signal);
+        Ok(())
+    }
+
+    // Completes a packet that was found and whose work is done. It stands apart, so that a call that is refused clears no
+    // room for its entry.
+    #[inline(never)]
+    fn complete_found(&mut self, queue: QueueId, found: FoundPacket, signal: SignalHandle)
+        requires finished { IsFinishedAs self.old.history queue found.packet signal }
+        requires at { IsFoundAt self.old.history queue found }
+        ensures met { Meets (Event.Call (Call.Finish queue found.packet)) self.old.history self.new.history (Ok Outcome.Accepted) }
+        ensures places { self.new.places ≡ self.old.places }
+    {
+        let packet = found.packet;
+        let effects = complete(&mut self.signals, queue, packet, signal);
         leave_flight(
             &mut self.queues,
             &mut self.in_flight_count,
             &mut self.blocks,
             queue,
-            Some(FoundPacket { packet, index }),
+            Some(found),
             Leaving::Completed,
         );
         let event = Event::Call(Call::Finish { queue, packet });
         enter(&mut self.audit, event, Outcome::Accepted, effects);
-        Ok(())
     }
 
     // The place of the packet in flight with this queue and id, if its work is done.
@@ -102,12 +115,16 @@ fn found_in(places: &Places, id: PacketId) -> Option<FoundPlace>
 }
 
 // Decrements a packet's completion signal, if it has one, and tells that and the packet's release.
-fn complete(signals: &mut Signals, queue: QueueId, packet: PacketId, of: &Packet) -> Effects
-    ensures effects { result ≡ completion_of signals.old queue packet of.now }
+fn complete(
+    signals: &mut Signals,
+    queue: QueueId,
+    packet: PacketId,
+    signal: SignalHandle,
+) -> Effects
+    ensures effects { result ≡ signal_decrement signals.old signal ++ effect.Release queue packet ∷ [] }
     ensures values { signals.new ≡ fold signals_after signals.old result }
 {
     let release = Effect::Release { queue, packet };
-    let signal = completion_signal(of);
     if signal.0 == 0 {
         return Effects::one(release);
     }

@@ -34,6 +34,7 @@ impl AccessCore {
 
     /// Takes rights on an object from a client, unless a packet in flight of the client's queues
     /// holds one of them. It takes no memory.
+    #[inline(never)]
     pub fn revoke(
         &mut self,
         client: ClientId,

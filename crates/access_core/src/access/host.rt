@@ -22,6 +22,7 @@ use std::alloc::Global;
 impl AccessCore {
     /// Changes a signal, and answers its old value for an exchange or a compare-and-swap, else 0.
     /// It takes no memory.
+    #[inline(never)]
     pub fn signal_op(
         &mut self,
         client: ClientId,
@@ -46,6 +47,7 @@ impl AccessCore {
 
     /// Writes bytes to memory, from an address on: 1 to 65,536, all in one region that the client
     /// may write.
+    #[inline(never)]
     pub fn host_write(
         &mut self,
         alloc: Global,

@@ -32,6 +32,7 @@ fn get_room(queues: &mut Vec<Queue>) -> Result<(), AllocError>
 
 impl AccessCore {
     /// Opens a queue of `size` slots for a client, whose packets an agent runs.
+    #[inline(never)]
     pub fn open_queue(
         &mut self,
         alloc: Global,

@@ -3,11 +3,12 @@
 ghost use Rattle.core_model.specs.History.{beginning};
 ghost use Rattle.core_model.specs.declared.event.Event.TheVariants as event;
 ghost use Rattle.std.specs.Prelude.{◌≡◌, ◌<◌, IfOk, OnErr, length};
-ghost use Rattle.core_model.specs.Legal.{IsLegal, IsServed, MeetsOrLacks, RepliesOrLacks, as_reply};
+ghost use Rattle.core_model.specs.Legal.{IsLegal, IsServed, MeetsOrLacks, ReloadMeetsOrLacks, RepliesOrLacks, as_reply};
 ghost use Rattle.access_core.specs.Keeping.{ServedInPlace};
 ghost use Rattle.access_core.specs.Reloads.{as_reloaded};
 
 use crate::access::AccessCore;
+use boxed::Boxed;
 use core_model::{Answer, Call, CoreRequest, Entry, Outcome, Query, Refusal, Reply};
 use policy::Policy;
 use sequences::Sequence;
@@ -54,14 +55,21 @@ impl AccessCore {
             } => as_reply(self.take(alloc, queue, packet, &bytes).map(Outcome::Taken)),
             CoreRequest::Call(call) => as_reply(self.make_call(alloc, call)),
             CoreRequest::Query(query) => self.answer(alloc, query),
-            CoreRequest::Reload(policy) => as_reply(as_reloaded(self.reload(
-                alloc,
-                policy.into_inner(),
-            ))),
+            CoreRequest::Reload(policy) => as_reply(self.reload_boxed(alloc, policy)),
         }
     }
 
+    // Puts the rows of a policy in force that was handed in. It stands apart, so that no other request clears room for one.
+    #[inline(never)]
+    fn reload_boxed(&mut self, alloc: Global, policy: Boxed<Policy>) -> Result<Outcome, Refusal>
+        ensures met { ReloadMeetsOrLacks policy self.old.history self.new.history result }
+        ensures places { self.new.places ≡ self.old.places }
+    {
+        as_reloaded(self.reload(alloc, policy.into_inner()))
+    }
+
     // Makes a call.
+    #[inline(never)]
     fn make_call(&mut self, alloc: Global, call: Call) -> Result<Outcome, Refusal>
         ensures met { MeetsOrLacks (event.Call call) self.old.history self.new.history result }
         ensures places { self.new.places ≡ self.old.places }
@@ -107,6 +115,7 @@ impl AccessCore {
     }
 
     // Answers a query.
+    #[inline(never)]
     fn answer(&self, alloc: Global, query: Query) -> Reply
         ensures { RepliesOrLacks query self.now.history result }
     {

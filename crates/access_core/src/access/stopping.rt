@@ -19,6 +19,7 @@ use packet_processor::FoundPacket;
 impl AccessCore {
     /// Stops a queue: it launches nothing more, and its barrier packet in flight leaves flight with
     /// its completion signal as it is. Its other packets in flight go on (own). It takes no memory.
+    #[inline(never)]
     pub fn stop(&mut self, queue: QueueId) -> Result<(), Refusal>
         ensures met { Meets (Event.Call (Call.Stop queue)) self.old.history self.new.history (as_accepted result) }
         ensures places { self.new.places ≡ self.old.places }

@@ -126,7 +126,7 @@ impl AccessCore {
             Some(kept) => kept,
         };
         let state = QueueState {
-            places: kept.places.as_slice(),
+            places: &kept.places,
             errors: kept.errors.as_slice(),
             stopped: kept.stopped,
         };
@@ -178,6 +178,7 @@ impl AccessCore {
     }
 
     // Denies the next packet of a queue.
+    #[inline(never)]
     fn deny(&mut self, queue: QueueId, packet: PacketId, bytes: &[u8; 64], rule: Rule) -> Taken
         requires { Decides self.old.history queue packet bytes.now (Decision.Deny rule) }
         ensures met { Meets (Event.Take queue packet bytes.now) self.old.history self.new.history (Ok (Outcome.Taken result)) }

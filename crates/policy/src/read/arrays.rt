@@ -10,13 +10,13 @@ ghost use Rattle.policy.specs.declared.limits.TheConstants.{MOST_ALLOW_ROWS, MOS
 ghost use Rattle.policy.specs.Table.{named};
 ghost use Rattle.policy.specs.SectionNames.{name_of_section};
 ghost use Rattle.policy.specs.Results.{map_ok};
-ghost use Rattle.policy.specs.Reading.{or_fault, placed, RowGives, FileGives};
-ghost use Rattle.policy.specs.Format.{is_table, rows_in, tables_in, of_table, named_row, rights_row, policy_rows, array_of};
+ghost use Rattle.policy.specs.Reading.{or_fault, placed, fault_at_none, RowGives, FileGives};
+ghost use Rattle.policy.specs.Format.{is_table, rows_in, tables_in, of_table, keys_of, named_row, rights_row, policy_rows, array_of};
 
-use crate::fault::{PolicyCause, PolicyFault, ReadPolicyError, RowError, Section};
+use crate::fault::{PolicyCause, PolicyFault, ReadPolicyError, RowError, RowFault, Section};
 use crate::limits::{MOST_ALLOW_ROWS, MOST_DENY_ROWS};
 use crate::policy::Policy;
-use crate::read::rows::{self, Keys, NamedRow};
+use crate::read::rows::{self, NamedRow};
 use crate::read::values;
 use crate::row::RightsRow;
 use crate::rows::PolicyRows;
@@ -38,10 +38,10 @@ fn tables_in(section: Section, limit: usize, items: &[Value]) -> Result<(), Poli
     ensures bound { OnOk result (length items.now ≤ limit) }
 {
     if !are_tables(items) {
-        return Err(section.fault(0, PolicyCause::BadValue));
+        return Err(section.fault(PolicyCause::BadValue));
     }
     if items.len() > limit {
-        return Err(section.fault(0, PolicyCause::TooMany));
+        return Err(section.fault(PolicyCause::TooMany));
     }
     Ok(())
 }
@@ -59,7 +59,7 @@ pub fn rows_in(section: Section, limit: usize, file: &Table) -> Result<&[Value],
             tables_in(section, limit, items)?;
             Ok(items)
         }
-        None => Err(section.fault(0, PolicyCause::BadValue)),
+        None => Err(section.fault(PolicyCause::BadValue)),
     }
 }
 
@@ -74,43 +74,45 @@ pub fn placed<T>(
     match read {
         Ok(value) => Ok(value),
         Err(RowError::OutOfMemory) => Err(ReadPolicyError::OutOfMemory),
-        Err(RowError::Fault(cause)) => Err(ReadPolicyError::Fault(section.fault(row, cause))),
+        Err(RowError::Fault(fault)) => Err(ReadPolicyError::Fault(section.fault_in(row, fault))),
     }
 }
 
 // A row, which is a table.
 fn as_row(row: &Value) -> Result<&Table, RowError>
-    ensures { RowGives (λ t. table_view t.now) result (or_fault BadValue (as_table (view row.now))) }
+    ensures { RowGives (λ t. table_view t.now) result (or_fault (fault_at_none BadValue) (as_table (view row.now))) }
 {
-    row.as_table().ok_or(RowError::Fault(PolicyCause::BadValue))
+    row.as_table()
+        .ok_or(RowError::Fault(RowFault::at_none(PolicyCause::BadValue)))
 }
 
 // A row of an array of named rows, after those before it.
-fn named_row<K: Keys, V: NamedRow>(
+fn named_row<V: NamedRow>(
     alloc: Global,
+    section: Section,
     before: &Rows<V>,
     row: &Value,
 ) -> Result<(String, V), RowError>
-    ensures { RowGives named result (of_table (named_row K.known V.reading before.now) (as_table (view row.now))) }
+    ensures { RowGives named result (of_table (named_row (keys_of section) V.reading before.now) (as_table (view row.now))) }
 {
-    rows::named_row::<K, V>(alloc, before, as_row(row)?)
+    rows::named_row(alloc, section, before, as_row(row)?)
 }
 
 /// An array of rows that each have a name of their own.
-pub fn named_array<K: Keys, V: NamedRow>(
+pub fn named_array<V: NamedRow>(
     alloc: Global,
     section: Section,
     limit: usize,
     file: &Table,
 ) -> Result<Rows<V>, ReadPolicyError>
     requires { limit ≤ MOST_SIGNALS }
-    ensures { FileGives result (array_of section limit (named_row K.known V.reading) (table_view file.now)) }
+    ensures { FileGives result (array_of section limit (named_row (keys_of section) V.reading) (table_view file.now)) }
 {
     let rows = rows_in(section, limit, file)?;
     let mut table = Rows::new(alloc);
     for row in rows {
         let number = table.len() as u32 + 1;
-        let (name, rest) = placed(section, number, named_row::<K, V>(alloc, &table, row))?;
+        let (name, rest) = placed(section, number, named_row(alloc, section, &table, row))?;
         table.insert(name, rest)?;
     }
     Ok(table)

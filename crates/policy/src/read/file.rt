@@ -1,24 +1,21 @@
 //! A policy file as a whole.
 
-ghost use Rattle.std.specs.Prelude.{◌≡◌, nat_le, sum_by, option_map, option_and_then, IfOk, IfErr};
-ghost use Rattle.std.specs.List.{list_all, list_any};
-ghost use Rattle.std.specs.Str.{bytes_eq};
+ghost use Rattle.std.specs.Prelude.{◌≡◌, nat_le, sum_by, option_map, string_bytes, IfOk, IfErr};
+ghost use Rattle.std.specs.List.{list_all};
+ghost use Rattle.std.specs.BTreeMap.{keys};
 ghost use Rattle.toml.specs.View.{view, table_view};
-ghost use Rattle.policy.specs.declared.fault.PolicyCause.TheVariants.{TooMany};
-ghost use Rattle.policy.specs.declared.fault.Section.TheVariants.{Region};
-ghost use Rattle.policy.specs.declared.version.Version.TheVariants.{First, Second};
 ghost use Rattle.policy.specs.declared.limits.TheConstants.{MOST_MEMORY_BYTES};
-ghost use Rattle.policy.specs.Reading.{unless, fault_in, FileGives};
-ghost use Rattle.policy.specs.Format.{file_keys, file_head, version_of, version_numbered, keys_in, regions_of, objects_of, declared_by, Declares, IsRefused};
+ghost use Rattle.policy.specs.Reading.{unless, fault_of_lengths, FileGives};
+ghost use Rattle.policy.specs.Format.{is_array_of, names_array, is_part_of, file_head, version_of, version_numbered, keys_in, regions_of, objects_of, declared_by, Declares, IsRefused};
 
 use crate::fault::{PolicyCause, PolicyFault, ReadPolicyError, Section};
 use crate::kernel_source::KernelSource;
+use crate::key::Key;
 use crate::limits::{
     MOST_AGENTS, MOST_CLIENTS, MOST_KERNELS, MOST_MEMORY_BYTES, MOST_POLICY_BYTES, MOST_SIGNALS,
 };
 use crate::policy::Policy;
 use crate::read::arrays::{named_array, policy_rows};
-use crate::read::rows::{self, AgentKeys, ClientKeys, KernelKeys, Keys, RegionKeys, SignalKeys};
 use crate::read::values::{self, same_text};
 use crate::row::Takes;
 use crate::table::Table as Rows;
@@ -26,34 +23,6 @@ use crate::version::Version;
 use aql_packet::MOST_REGIONS;
 use std::alloc::Global;
 use toml::{Table, Value};
-
-// The keys of a file of the first version.
-struct FirstKeys;
-
-impl Keys for FirstKeys {
-    ghost known = { file_keys First };
-
-    fn knows(key: &str) -> bool {
-        same_text(key, "version")
-            || same_text(key, "client")
-            || same_text(key, "agent")
-            || same_text(key, "region")
-            || same_text(key, "signal")
-            || same_text(key, "kernel")
-            || same_text(key, "allow")
-    }
-}
-
-// The keys of a file of the second version.
-struct SecondKeys;
-
-impl Keys for SecondKeys {
-    ghost known = { file_keys Second };
-
-    fn knows(key: &str) -> bool {
-        same_text(key, "deny") || FirstKeys::knows(key)
-    }
-}
 
 // The version of a number.
 fn version_numbered(value: &Value) -> Option<Version>
@@ -76,24 +45,50 @@ fn version_of(version: Option<&Value>) -> Option<Version>
     }
 }
 
-// Whether a file has no key but its version's.
-fn has_only_keys(version: Version, file: &Table) -> bool
-    ensures { result ≡ list_all (λ k. list_any (bytes_eq k) (file_keys version)) (keys_in (table_view file.now)) }
+// Whether an array is one of a version's: deny rows are the second's alone.
+fn is_array_of(version: Version, array: Section) -> bool
+    ensures { result ≡ is_array_of version array }
 {
-    match version {
-        Version::First => rows::has_only::<FirstKeys>(file),
-        Version::Second => rows::has_only::<SecondKeys>(file),
+    match (version, array) {
+        (Version::First, Section::Deny) => false,
+        _ => true,
     }
+}
+
+// Whether a name is that of an array of a version's files.
+fn names_array(version: Version, name: &str) -> bool
+    ensures { result ≡ names_array version name.now }
+{
+    Section::ALL.iter().any(|array| is_array_of(version, *array) && same_text(name, array.name()))
+}
+
+// Whether a name is that of a key of a version's files.
+fn is_part_of(version: Version, name: &str) -> bool
+    ensures { result ≡ is_part_of version name.now }
+{
+    same_text(name, Key::Version.name()) || names_array(version, name)
+}
+
+fn all_known(version: Version, file: &Table) -> bool
+    ensures { result ≡ list_all (λ k. is_part_of version (string_bytes k)) (keys file.now) }
+{
+    file.keys().all(|name| is_part_of(version, name.as_str()))
+}
+
+// Whether a file has no key but its version's.
+fn has_only_parts(version: Version, file: &Table) -> bool
+    ensures { result ≡ list_all (is_part_of version) (keys_in (table_view file.now)) }
+{
+    all_known(version, file)
 }
 
 // The file's version, and its keys.
 fn read_head(file: &Table) -> Result<Version, PolicyFault>
     ensures { result ≡ file_head (table_view file.now) }
 {
-    let version = version_of(values::find(file, "version")).ok_or(PolicyFault::of_file(
-        PolicyCause::BadValue,
-    ))?;
-    if !has_only_keys(version, file) {
+    let version = values::find(file, Key::Version.name());
+    let version = version_of(version).ok_or(PolicyFault::of_version())?;
+    if !has_only_parts(version, file) {
         return Err(PolicyFault::of_file(PolicyCause::BadValue));
     }
     Ok(version)
@@ -101,12 +96,12 @@ fn read_head(file: &Table) -> Result<Version, PolicyFault>
 
 // How long the regions are together.
 fn check_lengths(regions: &Rows<u32>) -> Result<(), PolicyFault>
-    ensures { result ≡ unless (nat_le (sum_by (λ region. region.1) regions.now) MOST_MEMORY_BYTES) (fault_in Region 0 TooMany) }
+    ensures { result ≡ unless (nat_le (sum_by (λ region. region.1) regions.now) MOST_MEMORY_BYTES) fault_of_lengths }
 {
     if regions.total() <= MOST_MEMORY_BYTES {
         Ok(())
     } else {
-        Err(Section::Region.fault(0, PolicyCause::TooMany))
+        Err(PolicyFault::of_lengths())
     }
 }
 
@@ -114,7 +109,7 @@ fn check_lengths(regions: &Rows<u32>) -> Result<(), PolicyFault>
 fn read_regions(alloc: Global, file: &Table) -> Result<Rows<u32>, ReadPolicyError>
     ensures { FileGives result (regions_of (table_view file.now)) }
 {
-    let regions = named_array::<RegionKeys, u32>(alloc, Section::Region, MOST_REGIONS, file)?;
+    let regions = named_array::<u32>(alloc, Section::Region, MOST_REGIONS, file)?;
     check_lengths(&regions)?;
     Ok(regions)
 }
@@ -123,16 +118,11 @@ fn read_regions(alloc: Global, file: &Table) -> Result<Rows<u32>, ReadPolicyErro
 fn read_objects(alloc: Global, version: Version, file: &Table) -> Result<Policy, ReadPolicyError>
     ensures { FileGives result (objects_of version (table_view file.now)) }
 {
-    let clients = named_array::<ClientKeys, ()>(alloc, Section::Client, MOST_CLIENTS, file)?;
-    let agents = named_array::<AgentKeys, Takes>(alloc, Section::Agent, MOST_AGENTS, file)?;
+    let clients = named_array::<()>(alloc, Section::Client, MOST_CLIENTS, file)?;
+    let agents = named_array::<Takes>(alloc, Section::Agent, MOST_AGENTS, file)?;
     let regions = read_regions(alloc, file)?;
-    let signals = named_array::<SignalKeys, i64>(alloc, Section::Signal, MOST_SIGNALS, file)?;
-    let kernels = named_array::<KernelKeys, KernelSource>(
-        alloc,
-        Section::Kernel,
-        MOST_KERNELS,
-        file,
-    )?;
+    let signals = named_array::<i64>(alloc, Section::Signal, MOST_SIGNALS, file)?;
+    let kernels = named_array::<KernelSource>(alloc, Section::Kernel, MOST_KERNELS, file)?;
     Ok(Policy::new(alloc, version, clients, agents, regions, signals, kernels))
 }
 

@@ -34,10 +34,10 @@ returns-in-Waiting-clause-may c =
     let some : numbered c.self.inside.queues.items c.args.queue.0 ≡ Some c.in-Some.kept.now = cc c.in-Some.ensures in
     let down : (nat_lt 0 (length c.in-Some.kept.now.errors.items) || c.in-Some.kept.now.stopped) ≡ false = cc in
     let next : (c.args.packet.0 == c.in-Some.kept.now.next) ≡ true = search rules in
-    let told : cause_to_wait (map (λ (p : Place). p.packet) c.as_slice-2.result.now) c.header.result.barrier ≡ Some c.in-Waiting.cause =
+    let told : cause_to_wait (map (λ (p : Place). p.packet) c.in-Some.kept.now.places) c.header.result.barrier ≡ Some c.in-Waiting.cause =
     launching-waits _ c.in-Waiting.cause c.in-Waiting.ensures in
     let waits : cause_to_wait (map (λ (p : Place). p.packet) c.in-Some.kept.now.places) (barrier_bit c.args.bytes.now) ≡ Some c.in-Waiting.cause =
-    cc (told, c.as_slice-2.ensures, c.header.ensures) in
+    cc (told, c.header.ensures) in
     due-by c.self.inside _ (seen c.self.view_is) (Take c.args.queue c.args.packet c.args.bytes.now) (answers (outcome.Taken (Waiting c.in-Waiting.cause)))
     (take-known c.self.inside c.self.invariant _ _ _ _ some ∙ (rw (down, next, waits) refl))
 
@@ -47,7 +47,7 @@ returns-then-is_full_for_launch-clause-why c =
     let down : (nat_lt 0 (length c.in-Some.kept.now.errors.items) || c.in-Some.kept.now.stopped) ≡ false = cc in
     let next : (c.args.packet.0 == c.in-Some.kept.now.next) ≡ true = search rules in
     let waits : cause_to_wait (map (λ (p : Place). p.packet) c.in-Some.kept.now.places) (barrier_bit c.args.bytes.now) ≡ None =
-    cc (launching-goes _ c.in-Go.ensures, c.as_slice-2.ensures, c.header.ensures) in
+    cc (launching-goes _ c.in-Go.ensures, c.header.ensures) in
     due-by c.self.inside _ (seen c.self.view_is) (Take c.args.queue c.args.packet c.args.bytes.now) (enters (outcome.Taken Launched) [])
     (take-known c.self.inside c.self.invariant _ _ _ _ some ∙ (rw
     (down, next, waits, judged-inside c.self.inside _ (seen c.self.view_is) c.in-Some.kept.now c.args.bytes.now None c.in-Launch.ensures.1) refl))
@@ -59,7 +59,7 @@ returns-then-is_full-clause-why c =
     let down : (nat_lt 0 (length c.in-Some.kept.now.errors.items) || c.in-Some.kept.now.stopped) ≡ false = cc in
     let next : (c.args.packet.0 == c.in-Some.kept.now.next) ≡ true = search rules in
     let waits : cause_to_wait (map (λ (p : Place). p.packet) c.in-Some.kept.now.places) (barrier_bit c.args.bytes.now) ≡ None =
-    cc (launching-goes _ c.in-Go.ensures, c.as_slice-2.ensures, c.header.ensures) in
+    cc (launching-goes _ c.in-Go.ensures, c.header.ensures) in
     due-by c.self.inside _ (seen c.self.view_is) (Take c.args.queue c.args.packet c.args.bytes.now)
     (enters (outcome.Taken (Denied (error_without_place c.args.queue c.args.packet.0 c.in-Deny.rule))) [])
     (take-known c.self.inside c.self.invariant _ _ _ _ some ∙ (rw
@@ -72,7 +72,7 @@ returns-else-is_full_for_launch-clause-may c =
     let down : (nat_lt 0 (length c.in-Some.kept.now.errors.items) || c.in-Some.kept.now.stopped) ≡ false = cc in
     let next : (c.args.packet.0 == c.in-Some.kept.now.next) ≡ true = search rules in
     let waits : cause_to_wait (map (λ (p : Place). p.packet) c.in-Some.kept.now.places) (barrier_bit c.args.bytes.now) ≡ None =
-    cc (launching-goes _ c.in-Go.ensures, c.as_slice-2.ensures, c.header.ensures) in
+    cc (launching-goes _ c.in-Go.ensures, c.header.ensures) in
     let same : cached_opening c.in-Some.kept.now ≡ record { client = c.in-Some.kept.now.client; agent = c.in-Launch.asked.agent } =
     rw c.in-Launch.ensures.2 refl in (
       due-by c.self.inside _ (seen c.self.view_is) (Take c.args.queue c.args.packet c.args.bytes.now) (enters (outcome.Taken Launched) [])
@@ -94,7 +94,7 @@ returns-else-is_full-clause-may c =
     let down : (nat_lt 0 (length c.in-Some.kept.now.errors.items) || c.in-Some.kept.now.stopped) ≡ false = cc in
     let next : (c.args.packet.0 == c.in-Some.kept.now.next) ≡ true = search rules in
     let waits : cause_to_wait (map (λ (p : Place). p.packet) c.in-Some.kept.now.places) (barrier_bit c.args.bytes.now) ≡ None =
-    cc (launching-goes _ c.in-Go.ensures, c.as_slice-2.ensures, c.header.ensures) in (
+    cc (launching-goes _ c.in-Go.ensures, c.header.ensures) in (
       due-by c.self.inside _ (seen c.self.view_is) (Take c.args.queue c.args.packet c.args.bytes.now)
           (enters (outcome.Taken (Denied (error_without_place c.args.queue c.args.packet.0 c.in-Deny.rule))) [])
           (take-known c.self.inside c.self.invariant _ _ _ _ some ∙ (rw

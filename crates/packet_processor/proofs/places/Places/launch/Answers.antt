@@ -1,10 +1,11 @@
 -- The id is above all others.
 use Rattle.std.proofs.Common.{◌≡◌, ◌∙◌, ◌+◌, ◌++◌, ◌∷◌, [], ap, subst, sym, All, ◌<◌, List, drop, length, arith}
+use Rattle.std.specs.Prelude.{◌||◌}
 use Rattle.std.proofs.lemmas.List.{drop-append-le, length-append}
-use Rattle.packet_processor.proofs.PlaceOrder.{ascends-append}
+use Rattle.packet_processor.proofs.PlaceOrder.{ascends-append, barred-more}
 use Rattle.packet_processor.specs.Queueing.{as_launched}
 use Rattle.packet_processor.specs.declared.places.Place.{Place}
-use Rattle.packet_processor.specs.inner.Ascending.{Ascends}
+use Rattle.packet_processor.specs.inner.Ascending.{Ascends, holds_barrier}
 use Rattle.packet_processor.proofs.places.Places.launch.Goals as goal
 
 pub invariant_of-self : goal.invariant_of-self
@@ -19,4 +20,6 @@ invariant_of-self c =
       omega (arith, long, room.room),
       subst Ascends (sym behind) (ascends-append (drop c.self.inside.left c.self.inside.taken.items) _ c.self.invariant.2
           (subst (λ (ys : List Place). All (λ (p : Place). p.id.0 < c.args.id.0) ys) (sym c.self.view_is) c.requires.above)),
+      ap (λ b. b || c.is_barrier.result) c.self.invariant.3 ∙ ap (λ b. holds_barrier (drop c.self.inside.left c.self.inside.taken.items) || b) c.is_barrier.ensures
+          ∙ barred-more (drop c.self.inside.left c.self.inside.taken.items) _ ∙ sym (ap holds_barrier behind),
     )

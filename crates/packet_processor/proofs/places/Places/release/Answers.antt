@@ -1,6 +1,6 @@
 -- The place that was found is its packet's alone.
 use Rattle.std.proofs.Common.{subst, sym, ◌∙◌, ap, drop, arith}
-use Rattle.packet_processor.proofs.PlaceOrder.{ascends-without, found-within, out-first, out-later}
+use Rattle.packet_processor.proofs.PlaceOrder.{ascends-without, barred-less, found-within, out-first, out-later}
 use Rattle.packet_processor.specs.Queueing.{without_packet}
 use Rattle.packet_processor.specs.inner.Ascending.{Ascends}
 use Rattle.packet_processor.proofs.places.Places.release.Goals as goal
@@ -14,6 +14,8 @@ invariant_of-self c =
       c.self.invariant.1,
       subst Ascends (sym (out-first left xs c.args.found c.self.invariant.2 (rw c.self.view_is c.requires) c.if-found-eq0.true))
           (ascends-without c.args.found.packet (drop left xs) c.self.invariant.2),
+      barred-less c.self.inside.barred _ c.args.found.packet (drop left xs) _ c.self.invariant.3
+          (out-first left xs c.args.found c.self.invariant.2 (rw c.self.view_is c.requires) c.if-found-eq0.true) c.stays_barred-self-inside.ensures,
     )
 
 pub returns-then-found-eq0 : goal.returns-then-found-eq0
@@ -40,6 +42,8 @@ invariant_of-self-2 c =
       omega (arith, fewer, c.self.invariant.1),
       subst Ascends (sym (ap (drop left) c.remove.ensures.items ∙ out-later left xs c.args.found c.self.invariant.2 (rw c.self.view_is c.requires)))
           (ascends-without c.args.found.packet (drop left xs) c.self.invariant.2),
+      barred-less c.self.inside.barred _ c.args.found.packet (drop left xs) _ c.self.invariant.3
+          (ap (drop left) c.remove.ensures.items ∙ out-later left xs c.args.found c.self.invariant.2 (rw c.self.view_is c.requires)) c.stays_barred-self-inside-2.ensures,
     )
 
 pub returns : goal.returns
