@@ -12,8 +12,8 @@ use Rattle.threads_load.specs.Reports.{text_of_counts, text_of_lines, text_of_na
 
 -- ---- no entry
 
-pub no_counts : AreCounts [] 0 []
-no_counts = record { count = refl; each = λ place d lt. absurd (omega (arith, lt)) }
+pub no_counts : (counts : List PacketCounts) → counts ≡ [] → AreCounts [] 0 counts
+no_counts counts none = subst (λ (cs : List PacketCounts). AreCounts [] 0 cs) (sym none) (record { count = refl; each = λ place d lt. absurd (omega (arith, lt)) })
 
 -- the last of these, or one of those before it
 last_or_before : {X : Type 0} (P : X → Type 0) (xs : List X) (x : X) → ((place : ℕ) (d : X) → place < length xs → P (slice_index_or xs place d)) → P x

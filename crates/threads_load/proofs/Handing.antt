@@ -79,7 +79,7 @@ told_handed P settled own handed_out left (Ok x) same ok h =
 told_handed P settled own handed_out left (Err e) same ok h = tt
 
 all_first : {X : Type 0} (P : X → Type 0) (xs ys : List X) → All P (xs ++ ys) → All P xs
-all_first P [] ys all = λ k d lt. absurd (omega (arith, lt))
+all_first P [] ys all k d lt = absurd (omega (arith, lt))
 all_first P (x ∷ xs) ys all zero d lt = all zero d (omega arith)
 all_first P (x ∷ xs) ys all (suc k) d lt = all_first P xs ys (λ n d lt. all (suc n) d (omega (arith, lt))) k d (omega (arith, lt))
 

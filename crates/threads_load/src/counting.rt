@@ -145,6 +145,7 @@ const NONE: PacketCounts = PacketCounts {
 };
 
 /// What is counted of the packets of so many queues, which are numbered from 1 on, before the first entry.
+#[tactic(auto, using(crate::proofs::Counted::no_counts, crate::proofs::Counted::one_more))]
 pub fn count_none(alloc: Global, queues: usize) -> Result<Vec<PacketCounts>, AllocError>
     ensures { IfOk result (λ counts. AreCounts [] queues counts.items) }
 {

@@ -10,11 +10,11 @@ use Rattle.threads_load.specs.Rounds.{parts_of}
 use Rattle.threads_load.proofs.Handing.{all_handed, none_legal, told_handed}
 use Rattle.threads_load.proofs.running.run_along.Goals as goal
 
-pub run_rounds-requires-clause-settled : goal.run_rounds-requires-clause-settled
-run_rounds-requires-clause-settled g c = subst (λ (ps : List Part). AreSettledWith ps c.args.lanes.items) (sym c.none.ensures) c.requires.settled
+pub run_rounds-lanes-requires-clause-settled : goal.run_rounds-lanes-requires-clause-settled
+run_rounds-lanes-requires-clause-settled g c = subst (λ (ps : List Part). AreSettledWith ps c.args.lanes.items) (sym c.none-settled.ensures) c.requires.settled
 
-pub run_rounds-requires-clause-parts : goal.run_rounds-requires-clause-parts
-run_rounds-requires-clause-parts g c = subst (λ (ps : List Part). All (IsLegalPart g.B.Room.opened.history.kernels) ps) (sym c.none.ensures) (none_legal g.B.Room.opened.history.kernels)
+pub run_rounds-lanes-requires-clause-parts : goal.run_rounds-lanes-requires-clause-parts
+run_rounds-lanes-requires-clause-parts g c = subst (λ (ps : List Part). All (IsLegalPart g.B.Room.opened.history.kernels) ps) (sym c.none-settled.ensures) (none_legal g.B.Room.opened.history.kernels)
 
 pub returns-clause-out : goal.returns-clause-out
 returns-clause-out g c =
@@ -30,7 +30,7 @@ pub returns-clause-counts : goal.returns-clause-counts
 returns-clause-counts g c = λ queues are.
     let rounds = c.run_rounds-lanes in
     let ended = c.end_rounds-out in
-    let own : AreCounts (entries_in c.none.result) queues c.args.counts.items = subst (λ (ps : List Part). AreCounts (entries_in ps) queues c.args.counts.items) (sym c.none.ensures) are in
+    let own : AreCounts (entries_in c.none-settled.result) queues c.args.counts.items = subst (λ (ps : List Part). AreCounts (entries_in ps) queues c.args.counts.items) (sym c.none-settled.ensures) are in
     subst (λ (cs : List PacketCounts). IfOk ended.result.1 (λ _. AreCounts (entries_in (parts_of ended.result.0)) queues cs)) (sym ended.ensures.counts)
     (told_handed (λ (ps : List Part). AreCounts (entries_in ps) queues rounds.new.counts.items) rounds.new.settled ended.result.0.settled rounds.result.1 ended.result.0.left ended.result.1
     ended.ensures.settled ended.ensures.left (rounds.ensures.counts queues own))
