@@ -256,14 +256,6 @@ impl LoadGate {
         thread::yield_now();
     }
 
-    // A lane did something in a turn.
-    fn work(&self, tally: &Tally) {
-        if tally.idle.load(Ordering::SeqCst) != 0 {
-            tally.idle.store(0, Ordering::SeqCst);
-        }
-        tally.worked.fetch_add(1, Ordering::SeqCst);
-    }
-
     // A packet of a lane is finished.
     fn count(&self, tally: &Tally, turn: u64) {
         tally.finished.fetch_add(1, Ordering::SeqCst);
@@ -280,6 +272,9 @@ impl LoadGate {
 
     // A lane did something in a turn. So many turns end the round.
     fn work(&self, tally: &Tally) {
+        if tally.idle.load(Ordering::SeqCst) != 0 {
+            tally.idle.store(0, Ordering::SeqCst);
+        }
         let before = tally.worked.fetch_add(1, Ordering::SeqCst);
         if before % TURNS_AT_ONCE != TURNS_AT_ONCE - 1 {
             return;
