@@ -31,7 +31,7 @@ one_more queues counts more are is = subst (λ (cs : List PacketCounts). AreCoun
 
 -- ---- more entries
 
-length_set : {X : Type 0} (xs : List X) (k : ℕ) (x : X) → length (slice_set xs k x) ≡ length xs
+pub length_set : {X : Type 0} (xs : List X) (k : ℕ) (x : X) → length (slice_set xs k x) ≡ length xs
 length_set [] k x = refl
 length_set (y ∷ xs) zero x = refl
 length_set (y ∷ xs) (suc k) x = ap suc (length_set xs k x)

@@ -17,4 +17,4 @@ returns-in-Ok-clause-ends c = λ plan are.
     let parts = parts_of c.args.out in
     c.ending_of-ending.ensures plan parts
     (subst (λ (cs : List PacketCounts). AreCounts (entries_in parts ++ (core_of c.args.settlement).history.entries) (length plan) cs) (sym c.as_slice.ensures.value)
-      (c.in-Ok.ensures (entries_in parts) (length plan) are))
+    (c.in-Ok.ensures (entries_in parts) (length plan) are))

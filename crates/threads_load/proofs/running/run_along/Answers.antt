@@ -7,14 +7,8 @@ use Rattle.client_threads.specs.HandedOver.{AreSettledWith}
 use Rattle.threads_load.specs.declared.counting.PacketCounts.{PacketCounts}
 use Rattle.threads_load.specs.Counts.{AreCounts}
 use Rattle.threads_load.specs.Rounds.{parts_of}
-use Rattle.threads_load.proofs.Handing.{all_handed, none_legal, told_handed}
+use Rattle.threads_load.proofs.Handing.{all_handed, told_handed}
 use Rattle.threads_load.proofs.running.run_along.Goals as goal
-
-pub run_rounds-lanes-requires-clause-settled : goal.run_rounds-lanes-requires-clause-settled
-run_rounds-lanes-requires-clause-settled g c = subst (λ (ps : List Part). AreSettledWith ps c.args.lanes.items) (sym c.none-settled.ensures) c.requires.settled
-
-pub run_rounds-lanes-requires-clause-parts : goal.run_rounds-lanes-requires-clause-parts
-run_rounds-lanes-requires-clause-parts g c = subst (λ (ps : List Part). All (IsLegalPart g.B.Room.opened.history.kernels) ps) (sym c.none-settled.ensures) (none_legal g.B.Room.opened.history.kernels)
 
 pub returns-clause-out : goal.returns-clause-out
 returns-clause-out g c =

@@ -14,15 +14,15 @@ hand_out-handed_out-requires-clause-settled g c = c.run_all-lanes.ensures.settle
 pub loop-round-preserved : goal.loop-round-preserved
 loop-round-preserved g c =
     let went : c.goes_on.result ≡ true = search rules in (
-  c.hand_out-handed_out.ensures.front,
-  prefix_trans c.args.front.now.left c.loop-round.front.left c.hand_out-handed_out.new.front.left c.loop-round.invariant.1 c.hand_out-handed_out.ensures.begins,
-  c.hand_out-handed_out.ensures.lanes,
-  λ queues are. c.hand_out-handed_out.ensures.queues queues (c.run_all-lanes.ensures.queues queues (c.loop-round.invariant.3 queues are)),
-  c.hand_out-handed_out.ensures.settled,
-  c.hand_out-handed_out.ensures.parts,
-  λ queues are. none_was (λ (ps : List Part). AreCounts (entries_in ps) queues c.hand_out-handed_out.new.counts.items) c.hand_out-handed_out.new.settled c.hand_out-handed_out.result (c.goes_on.ensures went)
-      (c.hand_out-handed_out.ensures.counts queues (c.loop-round.invariant.6 queues are)),
-)
+      c.hand_out-handed_out.ensures.front,
+      prefix_trans c.args.front.now.left c.loop-round.front.left c.hand_out-handed_out.new.front.left c.loop-round.invariant.1 c.hand_out-handed_out.ensures.begins,
+      c.hand_out-handed_out.ensures.lanes,
+      λ queues are. c.hand_out-handed_out.ensures.queues queues (c.run_all-lanes.ensures.queues queues (c.loop-round.invariant.3 queues are)),
+      c.hand_out-handed_out.ensures.settled,
+      c.hand_out-handed_out.ensures.parts,
+      λ queues are. none_was (λ (ps : List Part). AreCounts (entries_in ps) queues c.hand_out-handed_out.new.counts.items) c.hand_out-handed_out.new.settled c.hand_out-handed_out.result (c.goes_on.ensures went)
+          (c.hand_out-handed_out.ensures.counts queues (c.loop-round.invariant.6 queues are)),
+    )
 
 pub returns-then-not-begin_next-clause-left : goal.returns-then-not-begin_next-clause-left
 returns-then-not-begin_next-clause-left g c = with_none (λ (ps : List Part). All (IsLegalPart g.B.Room.opened.history.kernels) ps) c.loop-round.settled c.loop-round.invariant.5
