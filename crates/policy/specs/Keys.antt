@@ -1,4 +1,4 @@
--- The keys of a policy file: their names, and which a row of each array has.
+-- The keys of a policy file: their names, and which a row of each array has (own).
 use Rattle.std.specs.Prelude.{ℕ, List, [], ◌∷◌, codes}
 use Rattle.policy.specs.declared.fault.Section.{Section}
 use Rattle.policy.specs.declared.fault.Section.TheVariants as section

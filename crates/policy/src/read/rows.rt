@@ -221,9 +221,7 @@ impl NamedRow for () {
     }
 }
 
-/// The keys of an agent's row.
-pub struct AgentKeys;
-
+// What kinds of packets an agent takes.
 impl NamedRow for Takes {
     ghost reading = { takes };
 
@@ -250,6 +248,7 @@ impl NamedRow for i64 {
     }
 }
 
+// A kernel: its entry point and its text.
 impl NamedRow for KernelSource {
     ghost reading = { kernel_source };
 
