@@ -216,7 +216,7 @@ entered_opened old new size producers front next queue made ends lane beside h c
       fresh = ap (λ (q : QueueId). ring_of q.0 old) (sym same) ∙ (ap (λ n. ring_of n old) openable.next ∙ fresh);
       rings = entered.rings_are ∙ ap (λ (q : QueueId). old ++ record { queue = q.0; ring = (seen made.desk).ring } ∷ []) (sym entered.queue_is);
       ends_are = entered.ends_are ∙ beside.ends_are ∙ ap (λ (q : QueueId). map (as_end q) (dealt (seen made.desk).ring.table producers)) same;
-      lane_is = entered.lane_is ∙ beside.lane_is ∙ ap (λ (q : QueueId). record { queue = q; pass = new_processor_pass (seen made.desk).ring.table; served = []; pending = []; front = front }) same;
+      lane_is = entered.lane_is ∙ beside.lane_is ∙ ap (λ (q : QueueId). record { queue = q; pass = new_processor_pass (seen made.desk).ring.table; served = []; kept = []; pending = []; front = front }) same;
     }
 
 -- a queue whose lane sees a further front is opened, with a lane that has seen that

@@ -65,4 +65,4 @@ pub record IsOpened (old : List QueueRing) (size producers : ℕ) (front : PassS
   pub fresh : ring_of queue.0 old ≡ None
   pub rings : new ≡ old ++ record { queue = queue.0; ring = ring } ∷ []
   pub ends_are : ends ≡ map (as_end queue) (dealt ring.table producers)
-  pub lane_is : lane ≡ record { queue = queue; pass = new_processor_pass ring.table; served = []; pending = []; front = front }
+  pub lane_is : lane ≡ record { queue = queue; pass = new_processor_pass ring.table; served = []; kept = []; pending = []; front = front }

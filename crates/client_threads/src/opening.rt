@@ -170,15 +170,17 @@ fn ends_of(
 }
 
 // A lane of a queue that opens.
+#[tactic(auto, using(crate::proofs::KeptLanes::opened_keeps, crate::proofs::KeptLanes::opened_as))]
 fn lane_of(alloc: Global, queue: QueueId, pass: ProcessorPass, front: Front) -> Lane
     requires pass { (pass.part.retired ≡ []) × (pass.part.raising ≡ false) }
     requires few { queue.0 ≤ QUEUES }
-    ensures { result ≡ record { queue = queue; pass = pass; served = []; pending = []; front = front } }
+    ensures { result ≡ record { queue = queue; pass = pass; served = []; kept = []; pending = []; front = front } }
 {
     Lane {
         queue,
         pass,
-        served: Vec::new(alloc),
+        kept: Vec::new(alloc),
+        handed: 0,
         pending: Vec::new(alloc),
         front,
     }
