@@ -31,13 +31,13 @@ use Rattle.core_model.specs.Queues.{openings, owner}
 use Rattle.core_model.specs.declared.origin.Opening.{Opening}
 use Rattle.core_model.proofs.More.{openings-more}
 use Rattle.core_model.proofs.Turns.{numbered-end, numbered-new}
-use Rattle.ring_core.specs.Machine.{is_producer_count}
+use Rattle.ring_core.specs.Machine.{is_producer_count, judged_size}
 use Rattle.ring.specs.Dealt.{dealt, new_processor_pass}
 use Rattle.access_core.specs.Cores.{Core}
 use Rattle.access_core.specs.Opening.{program_of}
 use Rattle.access_core.specs.declared.kernel.Kernel.{Kernel}
 use Rattle.client_threads.specs.Boards.{PassSeen}
-use Rattle.client_threads.specs.Opening.{AreOpened, HasOpened, IsOpened, as_end, judged_size, next_queue}
+use Rattle.client_threads.specs.Opening.{AreOpened, HasOpened, IsOpened, as_end, next_queue}
 use Rattle.client_threads.specs.Rings.{AreApart, QueueRing, ring_of}
 use Rattle.client_threads.specs.Sections.{AllFollow, IsFirst, last_of}
 use Rattle.client_threads.specs.declared.client_end.ClientEnd.{ClientEnd}

@@ -220,10 +220,10 @@ advances_in old before (advanced.Refused id why) new after h = advanced_in old n
 -- ---- both
 
 -- what came in two turns is what came in both
-both_more : (one two three : List Served) (first second : List Entry) (queue then : QueueId) → then ≡ queue → two ≡ one ++ takes first queue.0 → three ≡ two ++ takes second then.0 → three ≡ one ++ takes (first ++ second) queue.0
-both_more one two three first second queue then same a b =
-    b ∙ (ap (λ (xs : List Served). xs ++ takes second then.0) a
-    ∙ (append_assoc one (takes first queue.0) (takes second then.0)
+both_more : (one two three : List Served) (first second : List Entry) (queue next : QueueId) → next ≡ queue → two ≡ one ++ takes first queue.0 → three ≡ two ++ takes second next.0 → three ≡ one ++ takes (first ++ second) queue.0
+both_more one two three first second queue next same a b =
+    b ∙ (ap (λ (xs : List Served). xs ++ takes second next.0) a
+    ∙ (append_assoc one (takes first queue.0) (takes second next.0)
     ∙ ap (λ (xs : List Served). one ++ xs) (ap (λ (q : QueueId). takes first queue.0 ++ takes second q.0) same ∙ sym (takes-append first second queue.0))))
 
 pub serves_both : (one two three : LaneSeen) (before mid after : History) → ServesIn one before two mid → ServesIn two mid three after → ServesIn one before three after

@@ -35,7 +35,6 @@ pub enum Advanced {
 
 /// Advances the first pending packet of a lane: it is finished, and only where its work isn't done, a barrier packet is
 /// polled and another's next group is run. A packet that stays pending then goes last.
-#[tactic(auto, using(crate::proofs::Pendings::left_so, crate::proofs::Pendings::turned_so, crate::proofs::Pendings::advances_so))]
 pub fn advance_one(alloc: Global, lane: &mut Lane, core: &mut AccessCore) -> Advanced
     ensures { AdvancesTo lane.old core.old.history result lane.new core.new.history }
 {
