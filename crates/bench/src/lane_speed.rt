@@ -4,7 +4,7 @@ ghost use Rattle.std.specs.Prelude.{◌≡◌};
 ghost use Rattle.threads_load.specs.Stages.{IsStage};
 
 use crate::fault::Fault;
-use client_threads::{Room, Settlement, UnnamedBroker, settle_all};
+use client_threads::{Room, SettledParts, Settlement, UnnamedBroker, settle_all};
 use policy::{Policy, ReadPolicyError, read_policy};
 use std::alloc::Global;
 use std::marker::Brand;
@@ -60,7 +60,15 @@ fn is_settled<B: Room>(alloc: Global, stage: Stage<B>, gate: &LoadGate) -> bool
         lanes,
     } = stage;
     let mut front = front;
-    match settle_all(alloc, broker, &mut front, &[], ends, lanes) {
+    match settle_all(
+        alloc,
+        broker,
+        &mut front,
+        &SettledParts::none(),
+        &[],
+        ends,
+        lanes,
+    ) {
         Ok(Settlement::Settled { .. }) => !gate.is_unsettled(),
         _ => false,
     }

@@ -13,7 +13,7 @@ use Rattle.client_threads.specs.Running.{EachGoesOn, GoesOn, IsLaneOf, KeepsOn}
 use Rattle.client_threads.specs.inner.Turns.{HasSeen, Looks, StandsIn}
 
 pub goes_on_none : (lane : LaneSeen) → GoesOn lane lane
-goes_on_none lane = record { queue = refl; table = refl; more = []; served = sym (append-nil lane.served) }
+goes_on_none lane = record { queue = refl; table = refl; more = []; served = sym (append-nil lane.served); kept = sym (append-nil lane.kept) }
 
 pub goes_on_both : (one two three : LaneSeen) → GoesOn one two → GoesOn two three → GoesOn one three
 goes_on_both one two three a b =
@@ -22,11 +22,12 @@ goes_on_both one two three a b =
       table = b.table ∙ a.table;
       more = a.more ++ b.more;
       served = b.served ∙ ap (λ xs. xs ++ b.more) a.served ∙ append_assoc one.served a.more b.more;
+      kept = b.kept ∙ ap (λ xs. xs ++ b.more) a.kept ∙ append_assoc one.kept a.more b.more;
     }
 
 -- a lane of which the pass alone changed
 passes_on : (old new : LaneSeen) → new.pass.table ≡ old.pass.table → new ≡ record old { pass = new.pass } → GoesOn old new
-passes_on old new table is = record { queue = ap (λ l. l.queue) is; table = table; more = []; served = ap (λ l. l.served) is ∙ sym (append-nil old.served) }
+passes_on old new table is = record { queue = ap (λ l. l.queue) is; table = table; more = []; served = ap (λ l. l.served) is ∙ sym (append-nil old.served); kept = ap (λ l. l.kept) is ∙ sym (append-nil old.kept) }
 
 pub looked_on : (old new : LaneSeen) → Looks old new → GoesOn old new
 looked_on old new looks = passes_on old new looks.table looks.lane

@@ -9,7 +9,8 @@ use Rattle.core_model.specs.Rotation.{entries_in}
 use Rattle.core_model.specs.declared.entry.Entry.{Entry}
 use Rattle.core_model.specs.declared.served.Served.{Served}
 use Rattle.client_threads.specs.Lanes.{LaneSeen}
-use Rattle.client_threads.specs.Takes.{taken_by, takes, served_by, served_in}
+use Rattle.client_threads.specs.HandedOver.{kept_by, kept_in}
+use Rattle.client_threads.specs.Takes.{taken_by, takes}
 
 pub none_taken : (entries : List Entry) (queue : ℕ) → AllWithin (λ e. taken_by queue e.event ≡ None) entries 0 (length entries) → takes entries queue ≡ []
 none_taken [] queue h = refl
@@ -24,7 +25,7 @@ none_taken_in (p ∷ ps) queue h =
     ∙ ap (λ ts. ts ++ takes (entries_in ps) queue) (h zero p (omega arith) (omega arith))
     ∙ none_taken_in ps queue (λ k d low lt. h (suc k) d (omega arith) (omega (arith, lt)))
 
--- neither taken before, nor taken behind, nor served
+-- neither taken before, nor taken behind, nor kept
 pub none_at_all : (xs ys : List Entry) (queue : ℕ) (served : List Served) → takes xs queue ≡ [] → takes ys queue ≡ [] → served ≡ [] → takes (xs ++ ys) queue ≡ served
 none_at_all xs ys queue served first second third =
     filter_map-append (λ entry. taken_by queue entry.event) xs ys ∙ ap (λ ts. ts ++ takes ys queue) first ∙ second ∙ sym third
@@ -32,10 +33,10 @@ none_at_all xs ys queue served first second third =
 differs : (a b : ℕ) → a < b → (a == b) ≡ false
 differs a b lt = grind (arith, nat_tests)
 
-pub none_served : (rows : List LaneSeen) (last queue : ℕ) → last < queue → AllWithin (λ l. l.queue.0 < suc last) rows 0 (length rows) → served_by rows queue ≡ []
-none_served [] last queue lt h = refl
-none_served (r ∷ rs) last queue lt h =
+pub none_kept : (rows : List LaneSeen) (last queue : ℕ) → last < queue → AllWithin (λ l. l.queue.0 < suc last) rows 0 (length rows) → kept_by rows queue ≡ []
+none_kept [] last queue lt h = refl
+none_kept (r ∷ rs) last queue lt h =
     let here : r.queue.0 < suc last = h zero r (omega arith) (omega arith) in
     let no : (r.queue.0 == queue) ≡ false = differs r.queue.0 queue (omega (arith, here, lt)) in
-    ap (λ (b : Bool). served_in (cond b (Some r) (find (λ lane. lane.queue.0 == queue) rs))) no
-    ∙ none_served rs last queue lt (λ k d low l. h (suc k) d (omega arith) (omega (arith, l)))
+    ap (λ (b : Bool). kept_in (cond b (Some r) (find (λ lane. lane.queue.0 == queue) rs))) no
+    ∙ none_kept rs last queue lt (λ k d low l. h (suc k) d (omega arith) (omega (arith, l)))

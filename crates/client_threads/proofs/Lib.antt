@@ -5,11 +5,13 @@ pub mod Calls
 pub mod OtherTypes
 pub mod Handing
 pub mod GoingOn
+pub mod HandingOver
 pub mod Settled
 pub mod Belonging
 pub mod Differences
 pub mod Lasts
 pub mod Opened
+pub mod Pendings
 pub mod Ends
 pub mod Readiness
 pub mod EndsOf

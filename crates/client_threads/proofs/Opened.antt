@@ -31,13 +31,13 @@ use Rattle.core_model.specs.Queues.{openings, owner}
 use Rattle.core_model.specs.declared.origin.Opening.{Opening}
 use Rattle.core_model.proofs.More.{openings-more}
 use Rattle.core_model.proofs.Turns.{numbered-end, numbered-new}
-use Rattle.ring_core.specs.Machine.{is_producer_count}
+use Rattle.ring_core.specs.Machine.{is_producer_count, judged_size}
 use Rattle.ring.specs.Dealt.{dealt, new_processor_pass}
 use Rattle.access_core.specs.Cores.{Core}
 use Rattle.access_core.specs.Opening.{program_of}
 use Rattle.access_core.specs.declared.kernel.Kernel.{Kernel}
 use Rattle.client_threads.specs.Boards.{PassSeen}
-use Rattle.client_threads.specs.Opening.{AreOpened, HasOpened, IsOpened, as_end, judged_size, next_queue}
+use Rattle.client_threads.specs.Opening.{AreOpened, HasOpened, IsOpened, as_end, next_queue}
 use Rattle.client_threads.specs.Rings.{AreApart, QueueRing, ring_of}
 use Rattle.client_threads.specs.Sections.{AllFollow, IsFirst, last_of}
 use Rattle.client_threads.specs.declared.client_end.ClientEnd.{ClientEnd}
@@ -216,7 +216,7 @@ entered_opened old new size producers front next queue made ends lane beside h c
       fresh = ap (λ (q : QueueId). ring_of q.0 old) (sym same) ∙ (ap (λ n. ring_of n old) openable.next ∙ fresh);
       rings = entered.rings_are ∙ ap (λ (q : QueueId). old ++ record { queue = q.0; ring = (seen made.desk).ring } ∷ []) (sym entered.queue_is);
       ends_are = entered.ends_are ∙ beside.ends_are ∙ ap (λ (q : QueueId). map (as_end q) (dealt (seen made.desk).ring.table producers)) same;
-      lane_is = entered.lane_is ∙ beside.lane_is ∙ ap (λ (q : QueueId). record { queue = q; pass = new_processor_pass (seen made.desk).ring.table; served = []; pending = []; front = front }) same;
+      lane_is = entered.lane_is ∙ beside.lane_is ∙ ap (λ (q : QueueId). record { queue = q; pass = new_processor_pass (seen made.desk).ring.table; served = []; kept = []; pending = []; front = front }) same;
     }
 
 -- a queue whose lane sees a further front is opened, with a lane that has seen that

@@ -148,6 +148,7 @@ looked_in old new before after table lane audit = record {
   entries = [];
   history = audit ∙ none_more before;
   served = ap (λ l. l.served) lane ∙ sym (append-nil old.served);
+  kept = ap (λ l. l.kept) lane ∙ sym (append-nil old.kept);
 }
 
 -- a lane that does nothing serves nothing
@@ -167,6 +168,7 @@ handed_in ring old new before after shown became pending goes h =
       entries = entry ∷ [];
       history = entered.2;
       served = ap (λ l. l.served) h.lane ∙ ap (λ (xs : List Served). old.served ++ xs) (sym took);
+      kept = ap (λ l. l.kept) h.lane ∙ ap (λ (xs : List Served). old.kept ++ xs) (sym took);
     }
 
 kept_in : (old new : LaneSeen) (before after : History) (shown : Shown) (reply : Result Taken Refusal) → IsKeptBack shown old before reply new after → ServesIn old before new after
@@ -204,6 +206,7 @@ advanced_in old new before after result h =
       entries = a.more;
       history = a.history;
       served = ap (λ l. l.served) h.lane ∙ (sym (append-nil old.served) ∙ ap (λ (xs : List Served). old.served ++ xs) (sym none));
+      kept = ap (λ l. l.kept) h.lane ∙ (sym (append-nil old.kept) ∙ ap (λ (xs : List Served). old.kept ++ xs) (sym none));
     }
 
 pub advances_in : (old : LaneSeen) (before : History) (answer : Advanced) (new : LaneSeen) (after : History) → AdvancesTo old before answer new after → ServesIn old before new after
@@ -216,6 +219,13 @@ advances_in old before (advanced.Refused id why) new after h = advanced_in old n
 
 -- ---- both
 
+-- what came in two turns is what came in both
+both_more : (one two three : List Served) (first second : List Entry) (queue next : QueueId) → next ≡ queue → two ≡ one ++ takes first queue.0 → three ≡ two ++ takes second next.0 → three ≡ one ++ takes (first ++ second) queue.0
+both_more one two three first second queue next same a b =
+    b ∙ (ap (λ (xs : List Served). xs ++ takes second next.0) a
+    ∙ (append_assoc one (takes first queue.0) (takes second next.0)
+    ∙ ap (λ (xs : List Served). one ++ xs) (ap (λ (q : QueueId). takes first queue.0 ++ takes second q.0) same ∙ sym (takes-append first second queue.0))))
+
 pub serves_both : (one two three : LaneSeen) (before mid after : History) → ServesIn one before two mid → ServesIn two mid three after → ServesIn one before three after
 serves_both one two three before mid after a b = record {
   queue = b.queue ∙ a.queue;
@@ -223,14 +233,13 @@ serves_both one two three before mid after a b = record {
   front = b.front ∙ a.front;
   entries = a.entries ++ b.entries;
   history = b.history ∙ (ap (λ (h : History). record h { entries = h.entries ++ b.entries }) a.history ∙ ap (λ (es : List Entry). record before { entries = es }) (append_assoc before.entries a.entries b.entries));
-  served = b.served ∙ (ap (λ (xs : List Served). xs ++ takes b.entries two.queue.0) a.served
-      ∙ (append_assoc one.served (takes a.entries one.queue.0) (takes b.entries two.queue.0)
-      ∙ ap (λ (xs : List Served). one.served ++ xs) (ap (λ (q : QueueId). takes a.entries one.queue.0 ++ takes b.entries q.0) a.queue ∙ sym (takes-append a.entries b.entries one.queue.0))));
+  served = both_more one.served two.served three.served a.entries b.entries one.queue two.queue a.queue a.served b.served;
+  kept = both_more one.kept two.kept three.kept a.entries b.entries one.queue two.queue a.queue a.kept b.kept;
 }
 
 -- a lane that served in a section went on, and its front is as before
 pub served_goes_on : (old new : LaneSeen) (before after : History) → ServesIn old before new after → GoesOn old new
-served_goes_on old new before after h = record { queue = h.queue; table = h.table; more = takes h.entries old.queue.0; served = h.served }
+served_goes_on old new before after h = record { queue = h.queue; table = h.table; more = takes h.entries old.queue.0; served = h.served; kept = h.kept }
 
 pub served_appends : (old new : LaneSeen) (before after : History) → ServesIn old before new after → Appends before after
 served_appends old new before after h = record { more = h.entries; history = h.history }
@@ -239,7 +248,7 @@ served_appends old new before after h = record { more = h.entries; history = h.h
 
 -- a lane that served in a section and sees what it left went on, and what it served stands in that
 pub turn_on : (old mid : LaneSeen) (front : PassSeen) (before after : History) → ServesIn old before mid after → GoesOn old (record mid { front = front })
-turn_on old mid front before after h = record { queue = h.queue; table = h.table; more = takes h.entries old.queue.0; served = h.served }
+turn_on old mid front before after h = record { queue = h.queue; table = h.table; more = takes h.entries old.queue.0; served = h.served; kept = h.kept }
 
 pub turn_stands : (opened : Core) (left : List Core) (before core : Core) (old mid : LaneSeen) (front : PassSeen) → IsFirst opened → AllFollow opened left → last_of opened left ≡ before → IsPrefix old.front.left left → StandsIn old
     → ServesIn old before.history mid core.history → front.left ≡ left ++ core ∷ [] → StandsIn (record mid { front = front })

@@ -8,5 +8,6 @@ pub mod Serving
 pub mod Advancing
 pub mod Running
 pub mod Takes
+pub mod HandedOver
 pub mod Settling
 pub mod inner

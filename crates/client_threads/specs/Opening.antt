@@ -1,5 +1,5 @@
 -- What opening a broker and its queues makes (own).
-use Rattle.std.specs.Prelude.{◌≡◌, ℕ, ◌+◌, List, [], ◌∷◌, ◌++◌, length, map, Some, None, Result, if◌then◌else◌, ⊤}
+use Rattle.std.specs.Prelude.{◌≡◌, ℕ, ◌+◌, List, [], ◌∷◌, ◌++◌, length, map, Some, None, Result, ⊤}
 use Rattle.atomic_table.specs.Seated.{TableId}
 use Rattle.aql_packet.specs.declared.ids.ClientId.{ClientId}
 use Rattle.aql_packet.specs.declared.ids.AgentHandle.{AgentHandle}
@@ -15,7 +15,7 @@ use Rattle.access_core.specs.Cores.{Core}
 use Rattle.access_core.specs.Opening.{Opens}
 use Rattle.access_core.specs.declared.access.OpenFault.{OpenFault}
 use Rattle.access_core.specs.declared.kernel.Kernel.{Kernel}
-use Rattle.ring_core.specs.Machine.{is_producer_count}
+use Rattle.ring_core.specs.Machine.{judged_size}
 use Rattle.ring.specs.Passes.{RingSeen, ProducerSeen}
 use Rattle.ring.specs.Dealt.{dealt, new_processor_pass}
 use Rattle.client_threads.specs.declared.client_end.ClientEnd.{ClientEnd}
@@ -32,11 +32,7 @@ pub record UnnamedSeen : Type 0 where
 abbrev pub OpensBroker : Declared → List Kernel → ℕ → Result UnnamedSeen OpenFault → Type 0
 OpensBroker policy kernels capacity result = Opens policy kernels capacity (map_ok (λ broker. broker.core) result)
 
--- the size by which an opening is judged: a number of producers that no ring has counts as a size that no ring has
-abbrev pub judged_size : ℕ → ℕ → ℕ
-judged_size size producers = if is_producer_count producers then size else 0
-
--- the call of the core that opens a queue
+-- the call of the core that opens a queue: a number of producers that no ring has counts as a size that no ring has
 abbrev pub opening_event : ClientId → AgentHandle → ℕ → ℕ → Event
 opening_event client agent size producers = Open client agent (judged_size size producers)
 
@@ -65,4 +61,4 @@ pub record IsOpened (old : List QueueRing) (size producers : ℕ) (front : PassS
   pub fresh : ring_of queue.0 old ≡ None
   pub rings : new ≡ old ++ record { queue = queue.0; ring = ring } ∷ []
   pub ends_are : ends ≡ map (as_end queue) (dealt ring.table producers)
-  pub lane_is : lane ≡ record { queue = queue; pass = new_processor_pass ring.table; served = []; pending = []; front = front }
+  pub lane_is : lane ≡ record { queue = queue; pass = new_processor_pass ring.table; served = []; kept = []; pending = []; front = front }

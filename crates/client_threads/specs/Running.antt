@@ -19,12 +19,13 @@ pub record IsLaneOf (board : TableId) (rings : List QueueRing) (lane : LaneSeen)
   pub board_is : lane.front.board ≡ board
   pub stands : Stand lane.served (takes (seen_entries lane.front.left) lane.queue.0)
 
--- a lane went on: it is of its queue and ring, and what it served begins with what it had served
+-- a lane went on: it is of its queue and ring; what it served begins with what it had served, and it keeps what it kept, and what came then
 pub record GoesOn (old new : LaneSeen) : Type 0 where
   pub queue : new.queue ≡ old.queue
   pub table : new.pass.table ≡ old.pass.table
   pub more : List Served
   pub served : new.served ≡ old.served ++ more
+  pub kept : new.kept ≡ old.kept ++ more
 
 -- a lane went on, and is of the broker still
 pub record KeepsOn (board : TableId) (rings : List QueueRing) (old new : LaneSeen) : Type 0 where

@@ -3,4 +3,5 @@ pub mod Nothing
 pub mod Openings
 pub mod Partings
 pub mod Rooms
+pub mod SettledEnds
 pub mod Turns

@@ -4,14 +4,15 @@ ghost use Rattle.std.specs.Prelude.{◌≡◌, ◌<◌, ◌++◌, ◌∷◌, [],
 ghost use Rattle.aql_packet.specs.Reading.{decoded, packet_type};
 ghost use Rattle.core_model.specs.Legal.{MeetsOrLacks};
 ghost use Rattle.core_model.specs.declared.event.Event.{Event};
-ghost use Rattle.client_threads.specs.Advancing.{AdvancesTo, IsLastCall, has_barrier_type, is_some_barrier, leaves, next_call, served_barrier, told};
+ghost use Rattle.client_threads.specs.Advancing.{AdvancesTo, IsLastCall, has_barrier_type, is_some_barrier, leaves, next_call, told};
 
 use crate::lane::Lane;
+use crate::pending::PendingPacket;
 use access_core::AccessCore;
 use aql_packet::{
     Packet, PacketId, QueueId, decode, header_of, law_header_in_first_word, words_of,
 };
-use core_model::{Outcome, Polled, Refusal, Served, Worked};
+use core_model::{Outcome, Polled, Refusal, Worked};
 use queue_error::QueueError;
 use std::alloc::Global;
 
@@ -40,22 +41,12 @@ pub fn advance_one(alloc: Global, lane: &mut Lane, core: &mut AccessCore) -> Adv
     if lane.pending.is_empty() {
         return Advanced::Idle;
     }
-    let id = lane.pending.remove(0);
-    let reply = call(alloc, core, lane.queue, id, lane.served.as_slice());
+    let packet = lane.pending.remove(0);
+    let reply = call(alloc, core, lane.queue, packet);
     if !leaves(&reply) {
-        lane.pending.push_reserved(id);
+        lane.pending.push_reserved(packet);
     }
-    told(id, reply)
-}
-
-// Whether a barrier packet was served under an id.
-fn is_barrier(served: &[Served], id: PacketId) -> bool
-    ensures { result ≡ served_barrier served.now id }
-{
-    match served.get(id.0 as usize) {
-        None => false,
-        Some(one) => lays_out_barrier(&one.bytes),
-    }
+    told(packet.id, reply)
 }
 
 // The type of a packet.
@@ -76,7 +67,7 @@ fn has_barrier_type(bytes: &[u8; 64]) -> bool
 
 // Whether bytes are a barrier packet's. Those of another type aren't decoded for it.
 #[tactic(auto, using(crate::proofs::OtherTypes::other_type))]
-fn lays_out_barrier(bytes: &[u8; 64]) -> bool
+pub(crate) fn lays_out_barrier(bytes: &[u8; 64]) -> bool
     ensures { result ≡ is_some_barrier (decoded bytes.now) }
 {
     if !has_barrier_type(bytes) {
@@ -96,17 +87,13 @@ fn call(
     alloc: Global,
     core: &mut AccessCore,
     queue: QueueId,
-    id: PacketId,
-    served: &[Served],
+    packet: PendingPacket,
 ) -> Result<Outcome, Refusal>
-    ensures { (event : Event) × IsLastCall core.old.history queue id (served_barrier served.now id) event result × MeetsOrLacks event core.old.history core.new.history result }
+    ensures { (event : Event) × IsLastCall core.old.history queue packet.id packet.is_barrier event result × MeetsOrLacks event core.old.history core.new.history result }
 {
-    match core.finish(queue, id) {
+    match core.finish(queue, packet.id) {
         Ok(()) => Ok(Outcome::Accepted),
-        Err(Refusal::NotFinished) => {
-            let barrier = is_barrier(served, id);
-            call_next(alloc, core, queue, id, barrier)
-        }
+        Err(Refusal::NotFinished) => call_next(alloc, core, queue, packet),
         Err(why) => Err(why),
     }
 }
@@ -116,18 +103,17 @@ fn call_next(
     alloc: Global,
     core: &mut AccessCore,
     queue: QueueId,
-    id: PacketId,
-    barrier: bool,
+    packet: PendingPacket,
 ) -> Result<Outcome, Refusal>
-    ensures { MeetsOrLacks (next_call queue id barrier) core.old.history core.new.history result }
+    ensures { MeetsOrLacks (next_call queue packet.id packet.is_barrier) core.old.history core.new.history result }
 {
-    if barrier {
-        match core.poll(queue, id) {
+    if packet.is_barrier {
+        match core.poll(queue, packet.id) {
             Ok(found) => Ok(Outcome::Polled(found)),
             Err(why) => Err(why),
         }
     } else {
-        match core.run_next(alloc, queue, id) {
+        match core.run_next(alloc, queue, packet.id) {
             Ok(worked) => Ok(Outcome::Worked(worked)),
             Err(why) => Err(why),
         }

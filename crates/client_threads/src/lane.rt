@@ -1,25 +1,31 @@
 //! A lane: what serves a queue.
 
-ghost use Rattle.std.specs.Prelude.{◌≡◌};
+ghost use Rattle.std.specs.Prelude.{◌≡◌, ◌+◌, ◌<◌, ◌^◌, [], All, length};
 ghost use Rattle.ring.specs.Showing.{HasPeeked};
-ghost use Rattle.client_threads.specs.Lanes.{IsLane};
+ghost use Rattle.client_threads.specs.Advancing.{IsOfItsKind};
+ghost use Rattle.client_threads.specs.HandedOver.{handed_over};
+ghost use Rattle.client_threads.specs.Lanes.{IsLane, ids_of};
 ghost use Rattle.client_threads.specs.inner.Turns.{IsFoundBy, Looks};
 
 use crate::board::{Board, Front};
-use aql_packet::{PacketId, QueueId};
+use crate::pending::PendingPacket;
+use aql_packet::QueueId;
 use core_model::Served;
 use ring::{Peeked, ProcessorPass, Ring};
 use std::marker::Model;
 
 /// What serves a queue: its processor's pass, the packets that it served, which of them are launched and not done, and the
 /// front that has seen the core as the lane's last turn left it. A contract sees all five, and that what the lane served is
-/// what its pass retired.
+/// what its pass retired. When it runs, it keeps the last of what it served: what it has not handed over with a part of the
+/// audit that was settled.
 #[derive(Drop)]
 pub struct Lane {
     pub(crate) queue: QueueId,
     pub(crate) pass: ProcessorPass,
-    pub(crate) served: Vec<Served>,
-    pub(crate) pending: Vec<PacketId>,
+    pub(crate) kept: Vec<Served>,
+    // How many packets it has handed over.
+    pub(crate) handed: u64,
+    pub(crate) pending: Vec<PendingPacket>,
     pub(crate) front: Front,
 }
 
@@ -43,17 +49,33 @@ impl Lane {
         self.queue
     }
 
-    /// The packets that were launched or denied, in order: those that its pass retired.
+    /// The last of the packets that were launched or denied, in order: those that it has not handed over.
     pub fn served(&self) -> &[Served]
-        ensures served { result.now ≡ self.now.served }
+        ensures served { result.now ≡ self.now.kept }
         ensures kept { IsLane self.now }
     {
-        self.served.as_slice()
+        self.kept.as_slice()
+    }
+
+    // How many packets it has handed over.
+    pub(crate) fn handed(&self) -> u64
+        ensures { (result + length self.now.kept ≡ length self.now.served) × (length self.now.served < 2 ^ 64) }
+    {
+        self.handed
+    }
+
+    // Hands over all that it keeps.
+    pub(crate) fn hand_over(&mut self)
+        ensures { self.new ≡ handed_over self.old }
+    {
+        self.handed += self.kept.len() as u64;
+        self.kept.clear();
     }
 
     /// The launched packets that are not done, in the order in which they are advanced.
-    pub fn pending(&self) -> &[PacketId]
-        ensures { result.now ≡ self.now.pending }
+    pub fn pending(&self) -> &[PendingPacket]
+        ensures ids { ids_of result.now ≡ self.now.pending }
+        ensures kinds { All (IsOfItsKind self.now.served) result.now }
     {
         self.pending.as_slice()
     }

@@ -1,6 +1,8 @@
 //! Lanes run, each on a thread of its own.
 
-ghost use Rattle.std.specs.Prelude.{◌≡◌, ◌<◌, length, All};
+ghost use Rattle.std.specs.Prelude.{◌≡◌, ◌<◌, List, length, All};
+ghost use Rattle.core_model.specs.History.{Part};
+ghost use Rattle.client_threads.specs.HandedOver.{AreSettledWith};
 ghost use Rattle.client_threads.specs.Running.{EachGoesOn, GoesOn, IsLaneOf, KeepsOn};
 ghost use Rattle.client_threads.specs.inner.Turns.{IsFoundBy, ServesIn, StandsIn};
 
@@ -241,7 +243,7 @@ fn run_any<B: Room + Send + Sync, R: Threads + Wait + Sync, G: Gate + Sync>(
 /// packet and none is pending; then the gate is told. Where no thread can be made, lanes run one after another. It takes no
 /// memory of its own. The lanes come back in the order in which they were handed in, each of its queue and ring; what each
 /// served begins with what it had served, and stands, in order, among what the core took by the states that the lane has
-/// seen.
+/// seen. What they had handed over stays so: parts that were settled with them still are.
 #[tactic(auto, using(crate::proofs::GoingOn::all_still_of))]
 pub fn run_lanes<B: Room + Send + Sync, R: Threads + Wait + Sync, G: Gate + Sync>(
     rt: &R,
@@ -254,6 +256,7 @@ pub fn run_lanes<B: Room + Send + Sync, R: Threads + Wait + Sync, G: Gate + Sync
     ensures count { length result.items ≡ length lanes.items }
     ensures each { EachGoesOn B.board broker.now lanes.items result.items }
     ensures lanes { All (λ lane. IsLaneOf B.board broker.now lane) result.items }
+    ensures settled { (parts : List Part) → AreSettledWith parts lanes.items → AreSettledWith parts result.items }
 {
     run_any(rt, alloc, broker, lanes, gate)
 }

@@ -11,6 +11,7 @@ ghost use Rattle.core_model.specs.Queues.{owner};
 ghost use Rattle.core_model.specs.declared.origin.Opening.{Opening};
 ghost use Rattle.client_threads.specs.declared.client_end.ClientEnd.{ClientEnd};
 ghost use Rattle.client_threads.specs.Boards.{Compared, PassSeen};
+ghost use Rattle.client_threads.specs.HandedOver.{AreSettledWith, KeepsAll};
 ghost use Rattle.client_threads.specs.Opening.{IsOpened};
 ghost use Rattle.client_threads.specs.Rings.{IsOf, QueueRing};
 ghost use Rattle.client_threads.specs.Running.{IsEndOf, IsLaneOf};
@@ -25,6 +26,11 @@ pub fn law_opened_queues_belong()
         IsOpened old size producers front queue ends lane new → All (λ end. IsEndOf new end) ends }
     ensures lane { (old new : List QueueRing) (size producers : ℕ) (front : PassSeen) (queue : QueueId) (ends : List ClientEnd) (lane : LaneSeen) →
         IsOpened old size producers front queue ends lane new → IsLaneOf front.board new lane }
+{}
+
+/// Where lanes keep all that they served, no part is wanted that is settled with them.
+pub fn law_lanes_that_keep_all_are_settled()
+    ensures { (lanes : List LaneSeen) → All KeepsAll lanes → AreSettledWith [] lanes }
 {}
 
 /// Of two sections whose fronts compare, both are one, or one stands wholly before the other.

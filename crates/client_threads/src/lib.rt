@@ -14,8 +14,10 @@ mod lanes;
 mod laws;
 mod mismatch;
 mod opening;
+mod pending;
 mod room;
 mod serving;
+mod settled_parts;
 mod settling;
 
 pub use advancing::{Advanced, advance_one};
@@ -26,10 +28,12 @@ pub use core_model::Served;
 pub use lane::Lane;
 pub use lanes::{Gate, LaneAnswer, run_lanes};
 pub use laws::{
-    law_opened_queues_belong, law_queues_keep_their_openings, law_runs_are_whole_histories,
-    law_sections_stand_in_order,
+    law_lanes_that_keep_all_are_settled, law_opened_queues_belong, law_queues_keep_their_openings,
+    law_runs_are_whole_histories, law_sections_stand_in_order,
 };
 pub use opening::Opened;
+pub use pending::PendingPacket;
 pub use room::Room;
 pub use serving::{ServeAnswer, serve_one};
+pub use settled_parts::{PartFault, SettledParts, UnsettledPart};
 pub use settling::{SettleAllFault, SettledQueue, Settlement, UnsettledBroker, settle_all};

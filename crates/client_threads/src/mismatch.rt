@@ -1,12 +1,14 @@
 //! Where what the core took of a queue and what its lane served differ.
 
-ghost use Rattle.std.specs.Prelude.{◌≡◌, ◌≢◌, ℕ, ◌<◌, ◌≤◌, ◌∷◌, ◌++◌, Some, None, IfOk, IfErr, slice_get, true, false, []};
+ghost use Rattle.std.specs.Prelude.{◌≡◌, ◌≢◌, ℕ, ◌<◌, ◌≤◌, ◌∷◌, ◌++◌, Some, None, IfOk, IfErr, length, slice_get, true, false, []};
 ghost use Rattle.std.specs.Option.{IfSome, IfNone, option_copied};
 ghost use Rattle.core_model.specs.Rotation.{entries_in};
-ghost use Rattle.client_threads.specs.inner.Partings.{PartsBefore};
+ghost use Rattle.client_threads.specs.HandedOver.{AreSettledWith, kept_by};
+ghost use Rattle.client_threads.specs.inner.Partings.{HandedBy, PartsBefore};
 ghost use Rattle.client_threads.specs.Takes.{AllAgree, DiffersAt, IsLeastMismatch, lane_at, served_by, taken_by, takes};
 
 use crate::lane::Lane;
+use crate::settled_parts::SettledParts;
 use aql_packet::{PacketId, QueueId};
 use core_model::{Entry, Event, Part, Served};
 
@@ -127,6 +129,7 @@ fn first_difference(
 ) -> Option<u64>
     ensures same { IfNone result (takes (entries_in parts.now ++ entries.now) queue.0 ≡ served.now) }
     ensures differs { IfSome result (λ place. DiffersAt (takes (entries_in parts.now ++ entries.now) queue.0) served.now place) }
+    ensures within { IfSome result (λ place. place ≤ length served.now) }
 {
     match go_through_all(parts, entries, queue, served) {
         Err(left) => Some((served.len() - left.len()) as u64),
@@ -147,9 +150,9 @@ pub(crate) fn find_lane(lanes: &[Lane], queue: QueueId) -> Option<&Lane>
     lanes.iter().find(|lane| lane.queue().0 == queue.0)
 }
 
-// What the lane of a queue served; of a queue without a lane, nothing.
-fn served_by(lanes: &[Lane], queue: QueueId) -> &[Served]
-    ensures { result.now ≡ served_by lanes.now queue.0 }
+// What the lane of a queue keeps; of a queue without a lane, nothing.
+fn kept_by(lanes: &[Lane], queue: QueueId) -> &[Served]
+    ensures { result.now ≡ kept_by lanes.now queue.0 }
 {
     match find_lane(lanes, queue) {
         None => &[],
@@ -157,22 +160,54 @@ fn served_by(lanes: &[Lane], queue: QueueId) -> &[Served]
     }
 }
 
+// How many packets the lane of a queue handed over; of a queue without a lane, none.
+#[tactic(auto, using(crate::proofs::HandingOver::handed_none, crate::proofs::HandingOver::handed_some))]
+fn handed_by(lanes: &[Lane], queue: QueueId) -> u64
+    ensures { HandedBy lanes.now queue.0 result }
+{
+    match find_lane(lanes, queue) {
+        None => 0,
+        Some(lane) => lane.handed(),
+    }
+}
+
+// The first id at which what all entries say was taken of a queue and what its lane served differ.
+#[tactic(auto, using(crate::proofs::HandingOver::id_fits, crate::proofs::HandingOver::differs_in_all, crate::proofs::HandingOver::same_in_all))]
+fn first_id(
+    settled: &SettledParts,
+    parts: &[Part],
+    entries: &[Entry],
+    lanes: &[Lane],
+    queue: QueueId,
+) -> Option<PacketId>
+    requires settled { AreSettledWith settled.now lanes.now }
+    ensures same { IfNone result (takes (entries_in settled.now ++ (entries_in parts.now ++ entries.now)) queue.0 ≡ served_by lanes.now queue.0) }
+    ensures differs { IfSome result (λ id. DiffersAt (takes (entries_in settled.now ++ (entries_in parts.now ++ entries.now)) queue.0) (served_by lanes.now queue.0) id.0) }
+{
+    let handed = handed_by(lanes, queue);
+    match first_difference(parts, entries, queue, kept_by(lanes, queue)) {
+        None => None,
+        Some(place) => Some(PacketId(handed + place)),
+    }
+}
+
 // The least queue, and there the least id, at which what was taken and what was served differ. No packet was
 // taken or served of a queue behind the last.
 fn least_mismatch(
+    settled: &SettledParts,
     parts: &[Part],
     entries: &[Entry],
     lanes: &[Lane],
     last: u64,
 ) -> Option<(QueueId, PacketId)>
-    requires { (queue : ℕ) → last < queue → takes (entries_in parts.now ++ entries.now) queue ≡ served_by lanes.now queue }
-    ensures same { IfNone result (AllAgree (entries_in parts.now ++ entries.now) lanes.now) }
-    ensures least { IfSome result (λ found. IsLeastMismatch (entries_in parts.now ++ entries.now) lanes.now found.0.0 found.1.0) }
+    requires settled { AreSettledWith settled.now lanes.now }
+    requires last { (queue : ℕ) → last < queue → takes (entries_in settled.now ++ (entries_in parts.now ++ entries.now)) queue ≡ served_by lanes.now queue }
+    ensures same { IfNone result (AllAgree (entries_in settled.now ++ (entries_in parts.now ++ entries.now)) lanes.now) }
+    ensures least { IfSome result (λ found. IsLeastMismatch (entries_in settled.now ++ (entries_in parts.now ++ entries.now)) lanes.now found.0.0 found.1.0) }
 {
     for queue in 0..=last {
-        let served = served_by(lanes, QueueId(queue));
-        if let Some(place) = first_difference(parts, entries, QueueId(queue), served) {
-            return Some((QueueId(queue), PacketId(place)));
+        if let Some(id) = first_id(settled, parts, entries, lanes, QueueId(queue)) {
+            return Some((QueueId(queue), id));
         }
     }
     None
@@ -224,8 +259,8 @@ fn last_taken_in(parts: &[Part]) -> u64
 }
 
 // A number above which no queue has a lane.
-fn last_served(lanes: &[Lane]) -> u64
-    ensures { (queue : ℕ) → result < queue → served_by lanes.now queue ≡ [] }
+fn last_kept(lanes: &[Lane]) -> u64
+    ensures { (queue : ℕ) → result < queue → kept_by lanes.now queue ≡ [] }
 {
     let mut last = 0;
     for lane in lanes {
@@ -237,24 +272,29 @@ fn last_served(lanes: &[Lane]) -> u64
     last
 }
 
-// A number above which no packet of a queue was taken or served.
+// A number above which no packet of a queue was taken by these parts and entries, or is kept.
 #[tactic(auto, using(crate::proofs::Lasts::none_at_all))]
 fn last_queue(parts: &[Part], entries: &[Entry], lanes: &[Lane]) -> u64
-    ensures { (queue : ℕ) → result < queue → takes (entries_in parts.now ++ entries.now) queue ≡ served_by lanes.now queue }
+    ensures { (queue : ℕ) → result < queue → takes (entries_in parts.now ++ entries.now) queue ≡ kept_by lanes.now queue }
 {
     let taken = greater(last_taken_in(parts), last_taken(entries));
-    greater(taken, last_served(lanes))
+    greater(taken, last_kept(lanes))
 }
 
-// The least queue, and there the least id, at which what was taken, by the entries of parts and then by others,
-// and what was served differ.
+// The least queue, and there the least id, at which what was taken, by the parts that are settled, the entries of
+// parts behind them and then others, and what was served differ. What lanes keep is compared: what they handed over
+// was.
+#[tactic(auto, using(crate::proofs::HandingOver::none_behind))]
 pub(crate) fn find_mismatch(
+    settled: &SettledParts,
     parts: &[Part],
     entries: &[Entry],
     lanes: &[Lane],
 ) -> Option<(QueueId, PacketId)>
-    ensures same { IfNone result (AllAgree (entries_in parts.now ++ entries.now) lanes.now) }
-    ensures least { IfSome result (λ found. IsLeastMismatch (entries_in parts.now ++ entries.now) lanes.now found.0.0 found.1.0) }
+    requires settled { AreSettledWith settled.now lanes.now }
+    ensures same { IfNone result (AllAgree (entries_in settled.now ++ (entries_in parts.now ++ entries.now)) lanes.now) }
+    ensures least { IfSome result (λ found. IsLeastMismatch (entries_in settled.now ++ (entries_in parts.now ++ entries.now)) lanes.now found.0.0 found.1.0) }
 {
-    least_mismatch(parts, entries, lanes, last_queue(parts, entries, lanes))
+    let last = last_queue(parts, entries, lanes);
+    least_mismatch(settled, parts, entries, lanes, last)
 }

@@ -7,7 +7,7 @@ ghost use Rattle.core_model.specs.declared.limits.TheConstants.{QUEUES};
 ghost use Rattle.core_model.specs.declared.outcome.Outcome.{Outcome};
 ghost use Rattle.core_model.specs.Legal.{MeetsOrLacks};
 ghost use Rattle.client_threads.specs.Desks.{seen};
-ghost use Rattle.client_threads.specs.Opening.{AreOpened, IsOpened, as_end, judged_size, next_queue, opening_event};
+ghost use Rattle.client_threads.specs.Opening.{AreOpened, IsOpened, as_end, next_queue, opening_event};
 ghost use Rattle.client_threads.specs.Boards.{PassSeen};
 ghost use Rattle.client_threads.specs.Rings.{AreApart, QueueRing, ring_of};
 ghost use Rattle.client_threads.specs.Sections.{IsSection, last_of};
@@ -24,7 +24,7 @@ use core_model::Refusal;
 use crossbeam_utils::CachePadded;
 use doorbell::Doorbell;
 use ring::{ProcessorPass, ProducerPass, Ring};
-use ring_core::is_producer_count;
+use ring_core::judged_size;
 use std::alloc::{AllocError, Global};
 
 /// A queue that was opened: its number, an end for each of its producers, and its lane.
@@ -129,17 +129,6 @@ fn with_front(opened: Result<Opened, Refusal>, front: Front) -> Result<Opened, R
     }
 }
 
-// The size by which an opening is judged.
-fn judged_size(size: u64, producers: u64) -> u64
-    ensures { result ≡ judged_size size producers }
-{
-    if is_producer_count(producers) {
-        size
-    } else {
-        0
-    }
-}
-
 // The number that a queue will have that is opened next, or why it isn't.
 #[tactic(auto, using(crate::proofs::Opened::openable, crate::proofs::Opened::refused_meets))]
 fn may_open(
@@ -170,15 +159,17 @@ fn ends_of(
 }
 
 // A lane of a queue that opens.
+#[tactic(auto, using(crate::proofs::KeptLanes::opened_keeps, crate::proofs::KeptLanes::opened_as))]
 fn lane_of(alloc: Global, queue: QueueId, pass: ProcessorPass, front: Front) -> Lane
     requires pass { (pass.part.retired ≡ []) × (pass.part.raising ≡ false) }
     requires few { queue.0 ≤ QUEUES }
-    ensures { result ≡ record { queue = queue; pass = pass; served = []; pending = []; front = front } }
+    ensures { result ≡ record { queue = queue; pass = pass; served = []; kept = []; pending = []; front = front } }
 {
     Lane {
         queue,
         pass,
-        served: Vec::new(alloc),
+        kept: Vec::new(alloc),
+        handed: 0,
         pending: Vec::new(alloc),
         front,
     }

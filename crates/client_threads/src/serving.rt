@@ -2,10 +2,14 @@
 
 ghost use Rattle.std.specs.Prelude.{◌≡◌};
 ghost use Rattle.ring.specs.Showing.{IsShownBy};
+ghost use Rattle.aql_packet.specs.Reading.{decoded};
+ghost use Rattle.client_threads.specs.Advancing.{is_some_barrier};
 ghost use Rattle.client_threads.specs.Serving.{ServesTo, served_of};
 ghost use Rattle.client_threads.specs.inner.Turns.{HandsTo};
 
+use crate::advancing::lays_out_barrier;
 use crate::lane::Lane;
+use crate::pending::PendingPacket;
 use access_core::AccessCore;
 use aql_packet::PacketId;
 use core_model::{Refusal, Served, Taken, WaitCause};
@@ -54,7 +58,7 @@ pub(crate) fn serve_shown(
     ensures { HandsTo ring.now shown lane.old core.old.history result lane.new core.new.history }
 {
     let id = shown.id;
-    if lane.served.reserve(1).is_err() || lane.pending.reserve(1).is_err() {
+    if lane.kept.reserve(1).is_err() || lane.pending.reserve(1).is_err() {
         return ServeAnswer::Refused(id, Refusal::OutOfMemory);
     }
     match core.take(alloc, lane.queue, id, &shown.bytes) {
@@ -62,21 +66,31 @@ pub(crate) fn serve_shown(
         Ok(Taken::Waiting(cause)) => ServeAnswer::Waiting(id, cause),
         Ok(Taken::Launched) => {
             lane.pass.retire(ring, shown);
-            lane.served.push_reserved(served(shown));
-            lane.pending.push_reserved(id);
+            lane.kept.push_reserved(served(&shown));
+            lane.pending.push_reserved(pending(&shown));
             ServeAnswer::Launched(id)
         }
         Ok(Taken::Denied(error)) => {
             lane.pass.retire(ring, shown);
-            lane.served.push_reserved(served(shown));
+            lane.kept.push_reserved(served(&shown));
             ServeAnswer::Denied(error)
         }
     }
 }
 
+// A packet that was shown, as one that is pending.
+fn pending(shown: &Shown) -> PendingPacket
+    ensures { result ≡ record { id = shown.now.id; is_barrier = is_some_barrier (decoded shown.now.bytes) } }
+{
+    PendingPacket {
+        id: shown.id,
+        is_barrier: lays_out_barrier(&shown.bytes),
+    }
+}
+
 // A packet that was shown, as one that is served.
-fn served(shown: Shown) -> Served
-    ensures { result ≡ served_of shown }
+fn served(shown: &Shown) -> Served
+    ensures { result ≡ served_of shown.now }
 {
     let bytes = shown.bytes;
     Served {

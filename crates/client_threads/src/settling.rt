@@ -4,6 +4,7 @@
 ghost use Rattle.std.specs.Prelude.{◌≡◌, ◌≢◌, ◌↔◌, ◌==◌, ◌&&◌, ℕ, ◌+◌, ◌<◌, ◌≤◌, [], ◌++◌, IfOk, IfErr, All, Some, None, true, false, length, map, is_some, slice_index_or, vec_capacity};
 ghost use Rattle.ring.specs.Settling.{has_pass, has_passes};
 ghost use Rattle.client_threads.specs.Desks.{seen};
+ghost use Rattle.client_threads.specs.HandedOver.{AreSettledWith};
 ghost use Rattle.client_threads.specs.Rings.{AreApart};
 ghost use Rattle.client_threads.specs.Running.{IsEndOf, IsLaneOf};
 ghost use Rattle.client_threads.specs.Lanes.{LaneSeen};
@@ -23,9 +24,10 @@ use crate::client_end::ClientEnd;
 use crate::lane::Lane;
 use crate::mismatch::{find_lane, find_mismatch};
 use crate::room::{Held, Room};
+use crate::settled_parts::SettledParts;
 use access_core::AccessCore;
 use aql_packet::{PacketId, QueueId};
-use core_model::{Part, lead_to};
+use core_model::Part;
 use ring::{ProducerPass, Ring, SettleRoom, settle_in};
 use std::alloc::{AllocError, Global};
 use std::sync::Mutex;
@@ -144,13 +146,13 @@ fn has_all_passes(desks: &[Desk], ends: &[ClientEnd], lanes: &[Lane]) -> bool
     true
 }
 
-// Whether parts lead to a core's audit, which is legal.
-fn leads(parts: &[Part], core: &AccessCore) -> bool
+// Whether settled parts and then others lead to a core's audit, which is legal.
+fn leads(settled: &SettledParts, parts: &[Part], core: &AccessCore) -> bool
     ensures legal { IsLegal (beginning core.now.history) core.now.history.entries }
-    ensures lead { result ≡ true ↔ LeadTo parts.now core.now.history.origin }
+    ensures lead { result ≡ true ↔ LeadTo (settled.now ++ parts.now) core.now.history.origin }
 {
     core.audit();
-    lead_to(parts, core.start())
+    settled.lead_to(parts, core.start())
 }
 
 // Room to settle the ring of a queue: for the words of its slots, and for its producers' passes.
@@ -419,21 +421,23 @@ impl<B: Room> Held<B> {
 // Settles a broker whose passes are all there, and to whose core the parts lead, in rooms that were got for it.
 fn settle_in_rooms(
     core: AccessCore,
+    settled: &SettledParts,
     parts: &[Part],
     desks: Vec<Desk>,
     rooms: (Vec<QueueRoom>, Vec<SettledQueue>),
     ends: Vec<ClientEnd>,
     lanes: Vec<Lane>,
 ) -> Settlement
-    requires led { IsLedTo parts.now core }
+    requires led { IsLedTo (settled.now ++ parts.now) core }
+    requires settled { AreSettledWith settled.now lanes.items }
     requires apart { AreApart (map seen desks.items) }
     requires ready { AreReady ends.items lanes.items (map seen desks.items) rooms.0.items ends.items lanes.items }
     requires none { rooms.1.items ≡ [] }
     requires room { length desks.items ≤ vec_capacity rooms.1 }
-    ensures settled { IsSettlement (map seen desks.items) parts.now ends.items lanes.items result }
+    ensures settled { IsSettlement (map seen desks.items) (settled.now ++ parts.now) ends.items lanes.items result }
     ensures core { core_of result ≡ core }
 {
-    if let Some((queue, id)) = find_mismatch(parts, core.audit(), lanes.as_slice()) {
+    if let Some((queue, id)) = find_mismatch(settled, parts, core.audit(), lanes.as_slice()) {
         return Settlement::Mismatch { core, queue, id };
     }
     let (rooms, room) = rooms;
@@ -442,19 +446,21 @@ fn settle_in_rooms(
 }
 
 /// Settles a broker once its threads have ended, all its ends and lanes have come back, and with all parts that
-/// were handed out of its core, in order. The core is the one that the broker was opened with, as the last section
-/// left it: what the front has seen stands before, and what each lane served stands, in order, among all that it took. Where these parts and the audit have
-/// of each queue just the packets that its lane served, ids and bytes, in order, each ring is settled: they are the
-/// packets that were published under the ids below its read index, and every other published packet stands whole in
-/// its slot. Else it names the least queue and the least id at which they differ. Refused in this order: a pass is
-/// missing; the first part doesn't begin with nothing before it, a later one doesn't begin where the one before it
-/// ends, or the audit doesn't begin where the last ends (without parts: the audit has entries before it); memory
-/// isn't to be had. All then comes back as it was.
+/// were handed out of its core, in order: those that were settled as they came, and then these. The core is the one that
+/// the broker was opened with, as the last section left it: what the front has seen stands before, and what each lane
+/// served stands, in order, among all that it took. Where all parts and the audit have of each queue just the packets
+/// that its lane served, ids and bytes, in order, each ring is settled: they are the packets that were published under
+/// the ids below its read index, and every other published packet stands whole in its slot. Else it names the least
+/// queue and the least id at which they differ. Refused in this order: a pass is missing; the first of all parts doesn't
+/// begin with nothing before it, a later one doesn't begin where the one before it ends, or the audit doesn't begin
+/// where the last ends (without parts: the audit has entries before it); memory isn't to be had. All then comes back as
+/// it was.
 #[tactic(auto, using(crate::proofs::Readiness::all_ready))]
 pub fn settle_all<B: Room>(
     alloc: Global,
     broker: Broker<B>,
     front: &mut Front,
+    settled: &SettledParts,
     parts: &[Part],
     ends: Vec<ClientEnd>,
     lanes: Vec<Lane>,
@@ -462,11 +468,12 @@ pub fn settle_all<B: Room>(
     requires front { front.old.board ≡ B.board }
     requires ends { All (λ end. IsEndOf broker end) ends.items }
     requires lanes { All (λ lane. IsLaneOf B.board broker lane) lanes.items }
+    requires settled { AreSettledWith settled.now lanes.items }
     ensures front { front.new ≡ front.old }
     ensures end { IfOk result (λ settlement. IsEnd B.opened front.old.left lanes.items (core_of settlement)) }
-    ensures settled { IfOk result (IsSettlement broker parts.now ends.items lanes.items) }
+    ensures settled { IfOk result (IsSettlement broker (settled.now ++ parts.now) ends.items lanes.items) }
     ensures all { IfOk result (λ _. has_all_passes broker ends.items lanes.items ≡ true) }
-    ensures fault { IfErr result (λ u. IsUnsettledFor B.opened front.old.left broker parts.now ends.items lanes.items u.fault) }
+    ensures fault { IfErr result (λ u. IsUnsettledFor B.opened front.old.left broker (settled.now ++ parts.now) ends.items lanes.items u.fault) }
     ensures back { IfErr result (λ u. (u.broker ≡ broker) × (u.ends.items ≡ ends.items) × (u.lanes.items ≡ lanes.items)) }
 {
     let Broker {
@@ -482,7 +489,7 @@ pub fn settle_all<B: Room>(
         let why = SettleAllFault::MissingPass;
         return Err(unsettled(why, held, board, desks, openings, ends, lanes));
     }
-    if !leads(parts, held.core()) {
+    if !leads(settled, parts, held.core()) {
         let why = SettleAllFault::NotNext;
         return Err(unsettled(why, held, board, desks, openings, ends, lanes));
     }
@@ -493,7 +500,7 @@ pub fn settle_all<B: Room>(
         }
         Ok(rooms) => {
             let core = held.into_core();
-            Ok(settle_in_rooms(core, parts, desks, rooms, ends, lanes))
+            Ok(settle_in_rooms(core, settled, parts, desks, rooms, ends, lanes))
         }
     }
 }

@@ -8,6 +8,7 @@ use Rattle.atomic_table.specs.Seated.{TableId}
 use Rattle.aql_packet.specs.declared.ids.QueueId.{QueueId}
 use Rattle.client_threads.specs.declared.client_end.ClientEnd.{ClientEnd}
 use Rattle.client_threads.specs.Boards.{PassSeen}
+use Rattle.client_threads.specs.HandedOver.{KeepsAll}
 use Rattle.client_threads.specs.Lanes.{LaneSeen}
 use Rattle.client_threads.specs.Opening.{IsOpened}
 use Rattle.client_threads.specs.Rings.{QueueRing}
@@ -31,6 +32,16 @@ pub kept_lanes : (board : TableId) (old new : List QueueRing) (size producers : 
     → IsOpened old size producers front queue ends lane new → All (λ lane. IsLaneOf board old lane) before → All (λ lane. IsLaneOf board new lane) before
 kept_lanes board old new size producers front queue ends lane before h all k d lt =
     let one = all k d lt in record { is = kept old new size producers front queue ends lane h _ _ one.is; board_is = one.board_is; stands = one.stands }
+
+-- a queue's lane keeps all that it served when it is opened, as the lanes before it do
+pub all_keep : (old new : List QueueRing) (size producers : ℕ) (front : PassSeen) (queue : QueueId) (ends : List ClientEnd) (lane : LaneSeen) (before more : List LaneSeen)
+    → IsOpened old size producers front queue ends lane new → more ≡ before ++ lane ∷ [] → All KeepsAll before → All KeepsAll more
+all_keep old new size producers front queue ends lane before more h is all =
+    let keeps : KeepsAll lane = ap (λ (l : LaneSeen). l.kept) h.lane_is ∙ sym (ap (λ (l : LaneSeen). l.served) h.lane_is) in
+    subst (λ (ls : List LaneSeen). All KeepsAll ls) (sym is) (All-push KeepsAll before lane all keeps)
+
+pub none_keep : (lanes : List LaneSeen) → lanes ≡ [] → All KeepsAll lanes
+none_keep lanes none = subst (λ (ls : List LaneSeen). All KeepsAll ls) (sym none) (λ k d lt. absurd (omega (arith, lt)))
 
 -- ends behind others, or the others alone, where there was no memory
 pub more_ends : (rings : List QueueRing) (made : Bool) (others more ends : List ClientEnd) → All (λ end. IsEndOf rings end) others → All (λ end. IsEndOf rings end) more

@@ -21,9 +21,9 @@ use Rattle.threads_load.specs.declared.load.Load.{Load}
 use Rattle.threads_load.specs.declared.load.TheConstants.{PLACES}
 use Rattle.threads_load.specs.declared.plan.PlannedQueue.{PlannedQueue}
 use Rattle.threads_load.specs.declared.report.Ending.{Ending}
-use Rattle.threads_load.specs.Counts.{are_finished}
+use Rattle.threads_load.specs.Counts.{AreCounts, are_finished}
 use Rattle.threads_load.specs.Grantings.{HasAllAllowed}
-use Rattle.threads_load.specs.Loads.{EndsAs, EndsBy, EndsLoad, EndsWith, TellsLoad, TellsPlan, ending_if, wanted_of}
+use Rattle.threads_load.specs.Loads.{EndsAs, EndsBy, EndsLoad, EndsWith, TellsLoad, TellsPlan, ending_if, parts_in, wanted_of}
 use Rattle.threads_load.specs.Plans.{planned}
 use Rattle.threads_load.specs.Reports.{text_of_report}
 use Rattle.threads_load.specs.Stages.{AreOf, HasQueues, WasLeft}
@@ -49,8 +49,9 @@ pub ends_load : (opened : Core) (plan : List PlannedQueue) (wanted : ℕ) (seen 
     → All (IsLegalPart opened.history.kernels) parts
     → WasLeft seen (λ left. HasAllAllowed left.history) → WasLeft seen (λ left. HasQueues left plan) → AreOf (length plan) lanes
     → IsSettlement rings parts ends lanes came → IsEnd opened seen lanes (core_of came)
-    → ended.core ≡ core_of came → ended.parts.items ≡ parts → EndsBy plan wanted parts came ended.ending → EndsLoad opened plan wanted ended
-ends_load opened plan wanted seen parts rings ends lanes came ended legal granted queues are is end core_is parts_are by =
+    → ended.core ≡ core_of came → parts_in ended ≡ parts → AreCounts (entries_in (parts_in ended) ++ ended.core.history.entries) (length plan) ended.counts.items
+    → EndsBy plan wanted parts came ended.ending → EndsLoad opened plan wanted ended
+ends_load opened plan wanted seen parts rings ends lanes came ended legal granted queues are is end core_is parts_are counts by =
     let both = ends_as plan wanted parts rings ends lanes came ended.ending is by in
     let own : EndsWith opened plan wanted parts (core_of came) ended.ending = record {
       legal = both.0.legal;
@@ -64,19 +65,21 @@ ends_load opened plan wanted seen parts rings ends lanes came ended legal grante
       end = end;
       ends = both.1;
     } in
-    subst (λ (ps : List Part). EndsWith opened plan wanted ps ended.core ended.ending) (sym parts_are)
-    (subst (λ (c : Core). EndsWith opened plan wanted parts c ended.ending) (sym core_is) own)
+    record {
+      ends = subst (λ (ps : List Part). EndsWith opened plan wanted ps ended.core ended.ending) (sym parts_are) (subst (λ (c : Core). EndsWith opened plan wanted parts c ended.ending) (sym core_is) own);
+      counts = counts;
+    }
 
 -- a load tells its plan by the report of the core and the parts that it left
 pub tells_plan : {X E F : Type 0} (opened : Core) (plan : List PlannedQueue) (wanted : ℕ) (ended : Ended) (bytes : X → List ℕ) (report : Result X E) (made : Result Load F) (text : Load → X)
     → EndsLoad opened plan wanted ended
-    → IfOk report (λ x. bytes x ≡ text_of_report (beginning ended.core.history) (entries_in ended.parts.items) ended.core.history.entries plan ended.ending)
+    → IfOk report (λ x. bytes x ≡ text_of_report (beginning ended.core.history) (entries_in (parts_in ended)) ended.core.history.entries plan ended.ending)
     → IfOk made (λ load. (report ≡ Ok (text load)) × (load.ending ≡ ended.ending))
     → IfOk made (λ load. (parts : List Part) × (core : Core) × EndsWith opened plan wanted parts core load.ending × (bytes (text load) ≡ text_of_report (beginning core.history) (entries_in parts) core.history.entries plan load.ending))
 tells_plan opened plan wanted ended bytes report (Err why) text ends told is = tt
 tells_plan opened plan wanted ended bytes report (Ok load) text ends told is =
-    let own : bytes (text load) ≡ text_of_report (beginning ended.core.history) (entries_in ended.parts.items) ended.core.history.entries plan ended.ending = subst (λ r. IfOk r (λ x. bytes x ≡ text_of_report (beginning ended.core.history) (entries_in ended.parts.items) ended.core.history.entries plan ended.ending)) is.0 told in
-    (ended.parts.items, ended.core, subst (λ e. EndsWith opened plan wanted ended.parts.items ended.core e) (sym is.1) ends, subst (λ e. bytes (text load) ≡ text_of_report (beginning ended.core.history) (entries_in ended.parts.items) ended.core.history.entries plan e) (sym is.1) own)
+    let own : bytes (text load) ≡ text_of_report (beginning ended.core.history) (entries_in (parts_in ended)) ended.core.history.entries plan ended.ending = subst (λ r. IfOk r (λ x. bytes x ≡ text_of_report (beginning ended.core.history) (entries_in (parts_in ended)) ended.core.history.entries plan ended.ending)) is.0 told in
+    (parts_in ended, ended.core, subst (λ e. EndsWith opened plan wanted (parts_in ended) ended.core e) (sym is.1) ends.ends, subst (λ e. bytes (text load) ≡ text_of_report (beginning ended.core.history) (entries_in (parts_in ended)) ended.core.history.entries plan e) (sym is.1) own)
 
 pub tells_load : {E : Type 0} (policy : Declared) (kernels : List Kernel) (packets producers : ℕ) (plan : List PlannedQueue) (opened : Core) (result : Result Load E) → IsOpening opened.history policy (map program_of kernels) PLACES → plan ≡ planned policy
     → IfOk result (TellsPlan opened plan (wanted_of packets producers)) → IfOk result (TellsLoad policy kernels packets producers)
@@ -87,8 +90,9 @@ pub finishes : {F : Type 0} (opened : Core) (plan : List PlannedQueue) (wanted :
     → All (IsLegalPart opened.history.kernels) parts
     → WasLeft seen (λ left. HasAllAllowed left.history) → WasLeft seen (λ left. HasQueues left plan) → AreOf (length plan) lanes
     → IsSettlement rings parts ends lanes came → IsEnd opened seen lanes (core_of came)
-    → IfOk made (λ ended. ended.core ≡ core_of came) → IfOk made (λ ended. ended.parts.items ≡ parts) → IfOk made (λ ended. EndsBy plan wanted parts came ended.ending)
+    → IfOk made (λ ended. ended.core ≡ core_of came) → IfOk made (λ ended. parts_in ended ≡ parts)
+    → IfOk made (λ ended. AreCounts (entries_in (parts_in ended) ++ ended.core.history.entries) (length plan) ended.counts.items) → IfOk made (λ ended. EndsBy plan wanted parts came ended.ending)
     → IfOk made (EndsLoad opened plan wanted)
-finishes opened plan wanted seen parts rings ends lanes came (Ok ended) legal granted queues are is end core_is parts_are by =
-    ends_load opened plan wanted seen parts rings ends lanes came ended legal granted queues are is end core_is parts_are by
-finishes opened plan wanted seen parts rings ends lanes came (Err why) legal granted queues are is end core_is parts_are by = tt
+finishes opened plan wanted seen parts rings ends lanes came (Ok ended) legal granted queues are is end core_is parts_are counts by =
+    ends_load opened plan wanted seen parts rings ends lanes came ended legal granted queues are is end core_is parts_are counts by
+finishes opened plan wanted seen parts rings ends lanes came (Err why) legal granted queues are is end core_is parts_are counts by = tt

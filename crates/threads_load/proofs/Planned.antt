@@ -13,7 +13,8 @@ use Rattle.core_model.specs.declared.origin.Opening.{Opening}
 use Rattle.core_model.specs.declared.outcome.Outcome.TheVariants as outcome
 use Rattle.access_core.specs.Cores.{Core}
 use Rattle.client_threads.specs.Lanes.{LaneSeen}
-use Rattle.client_threads.specs.Opening.{judged_size, opening_event}
+use Rattle.client_threads.specs.Opening.{opening_event}
+use Rattle.ring_core.specs.Machine.{judged_size}
 use Rattle.client_threads.specs.Rings.{QueueRing}
 use Rattle.client_threads.specs.Running.{EachGoesOn}
 use Rattle.client_threads.specs.Sections.{AllFollow, IsSection, last_of}

@@ -1,5 +1,5 @@
 -- What became of the packets of a queue, as an audit tells it (own).
-use Rattle.std.specs.Prelude.{ℕ, Bool, true, false, ◌==◌, ◌&&◌, count_by, List}
+use Rattle.std.specs.Prelude.{◌≡◌, ℕ, ◌+◌, ◌<◌, Bool, true, false, ◌==◌, ◌&&◌, count_by, length, slice_get, slice_index_or, List, [], Option, Some, None}
 use Rattle.std.specs.List.{list_all, range_with_len}
 use Rattle.core_model.specs.declared.event.Event.{Event}
 use Rattle.core_model.specs.declared.event.Event.TheVariants.{Take, Call}
@@ -57,3 +57,16 @@ is_finished entries wanted queue = (packet_counts entries queue).finished == wan
 -- of each of so many queues, which are numbered from 1 on (own)
 abbrev pub are_finished : List Entry → ℕ → ℕ → Bool
 are_finished entries wanted queues = list_all (is_finished entries wanted) (range_with_len 1 queues)
+
+-- these are the counts of so many queues, which are numbered from 1 on, by these entries (own)
+pub record AreCounts (entries : List Entry) (queues : ℕ) (counts : List PacketCounts) : Type 0 where
+  pub count : length counts ≡ queues
+  pub each : (place : ℕ) (d : PacketCounts) → place < length counts → slice_index_or counts place d ≡ packet_counts entries (place + 1)
+
+abbrev pub counts_in : Option PacketCounts → PacketCounts
+counts_in None = packet_counts [] 0
+counts_in (Some one) = one
+
+-- what was counted of the queue at a place among these; of one behind them, nothing (own)
+abbrev pub counts_at : List PacketCounts → ℕ → PacketCounts
+counts_at counts place = counts_in (slice_get counts place)

@@ -1,5 +1,5 @@
 -- What a load comes to (own).
-use Rattle.std.specs.Prelude.{◌≡◌, ℕ, ◌*◌, ◌^◌, ◌-◌, min, Bool, true, false, List, [], ◌∷◌, ◌++◌, All, length, map, string_bytes}
+use Rattle.std.specs.Prelude.{◌≡◌, ℕ, ◌*◌, ◌^◌, ◌-◌, min, Bool, true, false, List, [], ◌∷◌, ◌++◌, All, length, map, option_to_list, string_bytes}
 use Rattle.policy.specs.Policy.{Declared}
 use Rattle.core_model.specs.History.{Part, beginning}
 use Rattle.core_model.specs.Rotation.{LeadTo, entries_in}
@@ -19,7 +19,7 @@ use Rattle.threads_load.specs.declared.load.TheConstants.{PLACES}
 use Rattle.threads_load.specs.declared.plan.PlannedQueue.{PlannedQueue}
 use Rattle.threads_load.specs.declared.report.Ending.{Ending}
 use Rattle.threads_load.specs.declared.report.Ending.TheVariants as ending
-use Rattle.threads_load.specs.Counts.{are_finished}
+use Rattle.threads_load.specs.Counts.{AreCounts, are_finished}
 use Rattle.threads_load.specs.Grantings.{HasAllAllowed}
 use Rattle.threads_load.specs.Plans.{planned}
 use Rattle.threads_load.specs.Reports.{text_of_report}
@@ -56,9 +56,14 @@ pub record EndsWith (opened : Core) (plan : List PlannedQueue) (wanted : ℕ) (p
   pub end : IsEnd opened seen lanes core
   pub ends : EndsAs (entries_in parts ++ core.history.entries) lanes (are_finished (entries_in parts ++ core.history.entries) wanted (length plan)) ended
 
--- a load ended, with the core that it left and the parts that were handed out (own)
-abbrev pub EndsLoad : Core → List PlannedQueue → ℕ → Ended → Type 0
-EndsLoad opened plan wanted ended = EndsWith opened plan wanted ended.parts.items ended.core ended.ending
+-- all parts that were handed out, in order (own)
+abbrev pub parts_in : Ended → List Part
+parts_in ended = ended.settled ++ option_to_list ended.left
+
+-- a load ended, with the core that it left and the parts that were handed out, and all their entries are counted (own)
+pub record EndsLoad (opened : Core) (plan : List PlannedQueue) (wanted : ℕ) (ended : Ended) : Type 0 where
+  pub ends : EndsWith opened plan wanted (parts_in ended) ended.core ended.ending
+  pub counts : AreCounts (entries_in (parts_in ended) ++ ended.core.history.entries) (length plan) ended.counts.items
 
 -- how a load ended whose broker came to this (own)
 abbrev pub EndsBy : List PlannedQueue → ℕ → List Part → Settlement → Ending → Type 0

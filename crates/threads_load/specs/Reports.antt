@@ -16,7 +16,7 @@ use Rattle.threads_load.specs.declared.plan.PlannedQueue.{PlannedQueue}
 use Rattle.threads_load.specs.declared.plan.TheConstants.{COUNTED_BYTES}
 use Rattle.threads_load.specs.declared.report.Ending.{Ending}
 use Rattle.threads_load.specs.declared.report.Ending.TheVariants as ending
-use Rattle.threads_load.specs.Counts.{packet_counts}
+use Rattle.threads_load.specs.Counts.{counts_at, packet_counts}
 
 -- whose a queue is (own)
 abbrev pub text_of_names : Declared → ℕ → PlannedQueue → List ℕ
@@ -36,6 +36,12 @@ text_of_queue start entries queue planned = text_of_names start.policy queue pla
 abbrev pub text_of_queues : Start → List Entry → ℕ → List PlannedQueue → List ℕ
 text_of_queues start entries queue [] = []
 text_of_queues start entries queue (planned ∷ plan) = text_of_queue start entries queue planned ++ text_of_queues start entries (queue + 1) plan
+
+-- the lines of planned queues by what was counted of them, of which the first stands at a place (own)
+abbrev pub text_of_lines : Declared → List PacketCounts → ℕ → List PlannedQueue → List ℕ
+text_of_lines policy counts place [] = []
+text_of_lines policy counts place (planned ∷ plan) =
+    (text_of_names policy (place + 1) planned ++ text_of_counts (counts_at counts place)) ++ text_of_lines policy counts (place + 1) plan
 
 -- the bytes of a region that the load counts in, after these entries (own)
 abbrev pub counted_bytes : Start → List Entry → ℕ → List ℕ

@@ -3,9 +3,10 @@ use Rattle.std.specs.Prelude.{◌≡◌, ℕ, ◌<◌, ◌+◌, List, [], ◌∷
 use mathlib.Core.List.{IsPrefix}
 use Rattle.atomic_table.specs.Seated.{TableId}
 use Rattle.access_core.specs.Cores.{Core}
-use Rattle.core_model.specs.History.{beginning}
+use Rattle.core_model.specs.History.{Part, beginning}
 use Rattle.core_model.specs.Queues.{owner}
 use Rattle.core_model.specs.declared.origin.Opening.{Opening}
+use Rattle.client_threads.specs.HandedOver.{AreSettledWith}
 use Rattle.client_threads.specs.Lanes.{LaneSeen}
 use Rattle.client_threads.specs.declared.client_end.ClientEnd.{ClientEnd}
 use Rattle.client_threads.specs.Rings.{QueueRing}
@@ -14,11 +15,16 @@ use Rattle.threads_load.specs.Grantings.{HasAllAllowed}
 use Rattle.threads_load.specs.declared.opening.Stage.{Stage}
 use Rattle.threads_load.specs.declared.plan.PlannedQueue.{PlannedQueue}
 
--- of a broker with this board are the front, each end and each lane of a stage (own)
-pub record IsStage {B : Type 0} (board : TableId) (stage : Stage B) : Type 0 where
+-- of a broker with this board are the front, each end and each lane of a stage, and its lanes handed over what these parts took (own)
+pub record IsStageWith {B : Type 0} (board : TableId) (parts : List Part) (stage : Stage B) : Type 0 where
   pub front : stage.front.board ≡ board
   pub ends : All (λ end. IsEndOf stage.broker end) stage.ends.items
   pub lanes : All (λ lane. IsLaneOf board stage.broker lane) stage.lanes.items
+  pub settled : AreSettledWith parts stage.lanes.items
+
+-- the same, where nothing was handed out (own)
+abbrev pub IsStage : {B : Type 0} → TableId → Stage B → Type 0
+IsStage board stage = IsStageWith board [] stage
 
 -- an end became one that is of the broker's ring for its queue (own)
 pub record StaysOf (rings : List QueueRing) (old new : ClientEnd) : Type 0 where

@@ -6,7 +6,7 @@ use client_threads::{Broker, Gate, LaneAnswer, Room};
 use std::sync::Wait;
 
 /// The load's gate, where a lane that has had nothing to do for some turns waits at its queue's doorbell. It rings when a
-/// packet is published, and when a producer has published all or gives up.
+/// packet is published, when a producer has published all or gives up, and when a round is over.
 #[derive(Drop)]
 pub(crate) struct BellGate<'a, B: Room, R> {
     pub rt: &'a R,
@@ -18,6 +18,13 @@ pub(crate) struct BellGate<'a, B: Room, R> {
 pub(crate) fn ring<B: Room>(broker: &Broker<B>, queue: QueueId) {
     if let Some(bell) = broker.doorbell(queue) {
         bell.ring(0);
+    }
+}
+
+// Rings the doorbells of so many lanes: of all.
+fn ring_all<B: Room>(broker: &Broker<B>, lanes: usize) {
+    for before in 0..lanes {
+        ring(broker, QueueId(before as u64 + 1));
     }
 }
 
@@ -39,5 +46,8 @@ impl<B: Room, R: Wait> Gate for BellGate<'_, B, R> {
 
     fn leave(&self, lane: u32, turn: u64, done: LaneAnswer) {
         self.gate.leave(lane, turn, done);
+        if self.gate.is_round_over() {
+            ring_all(self.broker, self.gate.lanes());
+        }
     }
 }

@@ -1,13 +1,13 @@
 //! What became of packets is counted in the audit.
 
-ghost use Rattle.std.specs.Prelude.{◌≡◌, ◌++◌, ◌+◌, IfOk, List, count_by};
+ghost use Rattle.std.specs.Prelude.{◌≡◌, ◌==◌, ℕ, [], ◌++◌, ◌+◌, IfOk, List, OnOk, count_by};
+ghost use Rattle.std.specs.List.{list_all};
 ghost use Rattle.core_model.specs.declared.entry.Entry.{Entry};
-ghost use Rattle.core_model.specs.Rotation.{entries_in};
-ghost use Rattle.threads_load.specs.Counts.{are_finished, is_completion, is_denial, is_denied, is_finished, is_launch, is_launched, packet_counts};
+ghost use Rattle.threads_load.specs.Counts.{AreCounts, are_finished, counts_at, is_completion, is_denial, is_denied, is_launch, is_launched, packet_counts};
 
 use aql_packet::QueueId;
-use core_model::{Call, Entry, Event, Outcome, Part, Taken};
-use std::alloc::AllocError;
+use core_model::{Call, Entry, Event, Outcome, Taken};
+use std::alloc::{AllocError, Global};
 
 /// How many packets of a queue were launched, finished and denied.
 #[derive(Clone, Copy, Debug, PartialEq, Eq)]
@@ -137,63 +137,55 @@ fn count_more(
     sum_of(counts, count_packets(entries, queue))
 }
 
-// Counts it in parts that were handed out of an audit.
-fn count_parts(parts: &[Part], queue: QueueId) -> Result<PacketCounts, AllocError>
-    ensures { IfOk result (λ counts. counts ≡ packet_counts (entries_in parts.now) queue.0) }
+// What is counted of no packet.
+const NONE: PacketCounts = PacketCounts {
+    launched: 0,
+    finished: 0,
+    denied: 0,
+};
+
+/// What is counted of the packets of so many queues, which are numbered from 1 on, before the first entry.
+#[tactic(auto, using(crate::proofs::Counted::no_counts, crate::proofs::Counted::one_more))]
+pub fn count_none(alloc: Global, queues: usize) -> Result<Vec<PacketCounts>, AllocError>
+    ensures { IfOk result (λ counts. AreCounts [] queues counts.items) }
 {
-    let mut counts = PacketCounts {
-        launched: 0,
-        finished: 0,
-        denied: 0,
-    };
-    for part in parts {
-        counts = count_more(counts, part.entries(), queue)?;
+    let mut counts = Vec::with_capacity(alloc, queues)?;
+    for _queue in 0..queues {
+        counts.push(NONE)?;
     }
     Ok(counts)
 }
 
-/// Counts what became of the packets of a queue in the parts that were handed out of an audit, and in the entries since.
-pub fn count_all(
-    parts: &[Part],
-    audit: &[Entry],
-    queue: QueueId,
-) -> Result<PacketCounts, AllocError>
-    ensures { IfOk result (λ counts. counts ≡ packet_counts (entries_in parts.now ++ audit.now) queue.0) }
+/// Counts on in the next entries. It takes no memory, and is refused only where a count is greater than entries can be.
+pub fn count_on(counts: &mut Vec<PacketCounts>, entries: &[Entry]) -> Result<(), AllocError>
+    ensures { (before : List Entry) (queues : ℕ) → AreCounts before queues counts.old.items → OnOk result (AreCounts (before ++ entries.now) queues counts.new.items) }
 {
-    match count_parts(parts, queue) {
-        Ok(counts) => count_more(counts, audit, queue),
-        Err(want) => Err(want),
+    for place in 0..counts.len() {
+        counts[place] = count_more(counts[place], entries, QueueId(place as u64 + 1))?;
+    }
+    Ok(())
+}
+
+/// What was counted of the queue at a place among these, from 0 on; of one behind them, nothing.
+pub fn counts_at(counts: &[PacketCounts], place: usize) -> PacketCounts
+    ensures { result ≡ counts_at counts.now place }
+{
+    match counts.get(place) {
+        Some(one) => *one,
+        None => NONE,
     }
 }
 
-// Whether so many packets of a queue are finished.
-fn is_finished(
-    parts: &[Part],
-    audit: &[Entry],
-    queue: QueueId,
-    wanted: u64,
-) -> Result<bool, AllocError>
-    ensures { IfOk result (λ done. done ≡ is_finished (entries_in parts.now ++ audit.now) wanted queue.0) }
+/// Whether of each of the queues that were counted so many packets are finished.
+pub fn are_finished(counts: &[PacketCounts], wanted: u64) -> bool
+    ensures { (entries : List Entry) (queues : ℕ) → AreCounts entries queues counts.now → result ≡ are_finished entries wanted queues }
 {
-    match count_all(parts, audit, queue) {
-        Ok(counts) => Ok(counts.finished as u64 == wanted),
-        Err(want) => Err(want),
-    }
+    all_counted(counts, wanted)
 }
 
-/// Whether of each of so many queues so many packets are finished, by these parts and the entries since.
-pub fn are_finished(
-    parts: &[Part],
-    audit: &[Entry],
-    queues: usize,
-    wanted: u64,
-) -> Result<bool, AllocError>
-    ensures { IfOk result (λ done. done ≡ are_finished (entries_in parts.now ++ audit.now) wanted queues) }
+// The same, by the counts alone.
+fn all_counted(counts: &[PacketCounts], wanted: u64) -> bool
+    ensures { result ≡ list_all (λ one. one.finished == wanted) counts.now }
 {
-    let mut all = true;
-    for before in 0..queues {
-        let done = is_finished(parts, audit, QueueId(before as u64 + 1), wanted)?;
-        all &= done;
-    }
-    Ok(all)
+    counts.iter().all(|one| one.finished as u64 == wanted)
 }

@@ -1,14 +1,19 @@
-//! The gate that ends the load's lanes.
+//! The gate that ends the load's lanes, and parts their work into rounds.
 
 use crate::limits::LoadLimits;
 use aql_packet::QueueId;
 use client_threads::{Advanced, Gate, LaneAnswer, ServeAnswer};
+use core_model::Refusal;
 use std::alloc::{AllocError, Global};
 use std::sync::atomic::{AtomicU64, Ordering};
 use std::thread;
 
-/// How often it is looked at the most whether a packet is finished.
-const MOST_LOOKS: u64 = 1_000_000;
+/// In how many turns lanes do something, all together, until a round ends. A turn leaves at most two entries in the
+/// audit, so that it is half full then.
+const TURNS_A_ROUND: u64 = 32_768;
+
+/// After how many of these a lane adds them to what all did.
+const TURNS_AT_ONCE: u64 = 16;
 
 /// After how many turns in a row with nothing to do a lane waits at its doorbell.
 const IDLE_TURNS: u64 = 64;
@@ -20,10 +25,11 @@ struct Tally {
     finished: AtomicU64,
     // In how many of its turns it did something.
     worked: AtomicU64,
-    // Behind which turn its turns are counted.
+    // How many turns it made in earlier rounds.
+    made: AtomicU64,
+    // Behind which turn, of all rounds, its turns are counted.
     counted_from: AtomicU64,
-    // Whether it has begun, and whether it has ended: 1 then.
-    begun: AtomicU64,
+    // Whether it has ended for good: 1 then.
     ended: AtomicU64,
     // In how many turns in a row its ring was empty and none of its packets pending.
     idle: AtomicU64,
@@ -36,8 +42,8 @@ impl Tally {
         Tally {
             finished: AtomicU64::new(0),
             worked: AtomicU64::new(0),
+            made: AtomicU64::new(0),
             counted_from: AtomicU64::new(0),
-            begun: AtomicU64::new(0),
             ended: AtomicU64::new(0),
             idle: AtomicU64::new(0),
             producing: AtomicU64::new(0),
@@ -46,7 +52,8 @@ impl Tally {
 }
 
 /// Ends a lane of the load where as many of its packets are finished as its producers publish, and else behind
-/// 10,000,000 turns, or as many as it is made for.
+/// 10,000,000 turns, or as many as it is made for. Lanes may work in rounds: all of them rest when the first packet is
+/// finished, when the audit may be half full, and when it is full. Turns are counted over all rounds.
 #[derive(Drop)]
 pub struct LoadGate {
     // What is counted of each lane, by its queue.
@@ -57,6 +64,12 @@ pub struct LoadGate {
     most_turns: u64,
     // Whether they are counted anew behind each packet that is finished.
     are_renewed: bool,
+    // In how many turns of this round lanes did something, all together, by what they told so far.
+    worked: AtomicU64,
+    // Which round this is, from 1 on; 0 where lanes don't work in rounds.
+    round: AtomicU64,
+    // Whether it is over: 1 then.
+    over: AtomicU64,
     // Whether a lane met its turns, and whether all are to end: 1 then.
     unsettled: AtomicU64,
     stopped: AtomicU64,
@@ -98,6 +111,9 @@ impl LoadGate {
             wanted,
             most_turns: limits.turns,
             are_renewed: limits.are_renewed,
+            worked: AtomicU64::new(0),
+            round: AtomicU64::new(0),
+            over: AtomicU64::new(0),
             unsettled: AtomicU64::new(0),
             stopped: AtomicU64::new(0),
         })
@@ -118,16 +134,6 @@ impl LoadGate {
         self.stopped.load(Ordering::SeqCst) != 0
     }
 
-    /// Waits until a packet is finished, where there is a lane, and else behind 1,000,000 looks.
-    pub fn wait_for_first(&self) {
-        for _look in 0..MOST_LOOKS {
-            if self.tallies.is_empty() || self.finished() != 0 {
-                return;
-            }
-            thread::yield_now();
-        }
-    }
-
     /// How many packets are finished, of all lanes.
     pub fn finished(&self) -> u64 {
         let mut count = 0u64;
@@ -142,26 +148,39 @@ impl LoadGate {
         self.wanted.saturating_mul(self.tallies.len() as u64)
     }
 
-    /// In how many turns lanes did something, all together.
-    pub fn worked(&self) -> u64 {
-        let mut count = 0u64;
-        for tally in &self.tallies {
-            count = count.saturating_add(tally.worked.load(Ordering::SeqCst));
-        }
-        count
+    /// Lanes work in rounds from now on, and this is the first.
+    pub fn begin_rounds(&self) {
+        self.round.store(1, Ordering::SeqCst);
     }
 
-    /// Whether lanes are at work: some have begun, and not all have ended.
-    pub fn is_running(&self) -> bool {
-        let begun = self
-            .tallies
-            .iter()
-            .any(|tally| tally.begun.load(Ordering::SeqCst) != 0);
-        let ended = self
+    /// Once lanes rest: whether the load goes on with another round, which may begin then. It doesn't where all lanes
+    /// have ended for good.
+    pub fn begin_next(&self) -> bool {
+        let is_over = self
             .tallies
             .iter()
             .all(|tally| tally.ended.load(Ordering::SeqCst) != 0);
-        begun && !ended
+        self.worked.store(0, Ordering::SeqCst);
+        self.round.fetch_add(1, Ordering::SeqCst);
+        self.over.store(0, Ordering::SeqCst);
+        !is_over
+    }
+
+    /// How many lanes there are.
+    pub(crate) fn lanes(&self) -> usize {
+        self.tallies.len()
+    }
+
+    /// Whether lanes rest until the next round.
+    pub(crate) fn is_round_over(&self) -> bool {
+        self.over.load(Ordering::SeqCst) != 0
+    }
+
+    // This round is over, if it is one.
+    fn end_round(&self) {
+        if self.round.load(Ordering::SeqCst) != 0 {
+            self.over.store(1, Ordering::SeqCst);
+        }
     }
 
     /// A producer of a queue begins.
@@ -179,13 +198,14 @@ impl LoadGate {
     }
 
     /// Whether a lane is to wait at its doorbell: it has had nothing to do in turns enough, and a producer that rings is
-    /// at work.
+    /// at work. The end of a round rings as well.
     pub(crate) fn is_to_wait(&self, lane: u32) -> bool {
         let Some(tally) = self.tally(lane) else {
             return false;
         };
         IDLE_TURNS <= tally.idle.load(Ordering::SeqCst)
             && tally.producing.load(Ordering::SeqCst) != 0
+            && !self.is_round_over()
             && !self.is_stopped()
     }
 
@@ -206,13 +226,13 @@ impl LoadGate {
         self.tally_of(QueueId(u64::from(lane)))
     }
 
-    // Whether a lane has turns left.
+    // Whether a lane has turns left, before the turn with this number of all rounds.
     fn has_turns(&self, tally: &Tally, turn: u64) -> bool {
         let counted = turn.saturating_sub(tally.counted_from.load(Ordering::SeqCst));
         counted <= self.most_turns
     }
 
-    // Whether a lane makes a turn.
+    // Whether a lane has not ended for good, before this turn.
     fn lets_in(&self, tally: &Tally, turn: u64) -> bool {
         if self.wanted <= tally.finished.load(Ordering::SeqCst) || self.is_stopped() {
             return false;
@@ -236,19 +256,32 @@ impl LoadGate {
         thread::yield_now();
     }
 
-    // A lane did something in a turn.
-    fn work(&self, tally: &Tally) {
-        if tally.idle.load(Ordering::SeqCst) != 0 {
-            tally.idle.store(0, Ordering::SeqCst);
-        }
-        tally.worked.fetch_add(1, Ordering::SeqCst);
-    }
-
     // A packet of a lane is finished.
     fn count(&self, tally: &Tally, turn: u64) {
         tally.finished.fetch_add(1, Ordering::SeqCst);
         if self.are_renewed {
-            tally.counted_from.store(turn, Ordering::SeqCst);
+            let made = tally.made.load(Ordering::SeqCst);
+            tally
+                .counted_from
+                .store(made.saturating_add(turn), Ordering::SeqCst);
+        }
+        if self.round.load(Ordering::SeqCst) == 1 {
+            self.end_round();
+        }
+    }
+
+    // A lane did something in a turn. So many turns end the round.
+    fn work(&self, tally: &Tally) {
+        if tally.idle.load(Ordering::SeqCst) != 0 {
+            tally.idle.store(0, Ordering::SeqCst);
+        }
+        let before = tally.worked.fetch_add(1, Ordering::SeqCst);
+        if before % TURNS_AT_ONCE != TURNS_AT_ONCE - 1 {
+            return;
+        }
+        let told = self.worked.fetch_add(TURNS_AT_ONCE, Ordering::SeqCst);
+        if TURNS_A_ROUND <= told.saturating_add(TURNS_AT_ONCE) {
+            self.end_round();
         }
     }
 }
@@ -279,22 +312,33 @@ fn has_nothing(done: LaneAnswer) -> bool {
     matches!(done.served, ServeAnswer::Empty) && matches!(done.advanced, Advanced::Idle)
 }
 
+// Whether the audit is full: a call of the turn was refused for that.
+fn is_full(done: LaneAnswer) -> bool {
+    matches!(done.served, ServeAnswer::Refused(_, Refusal::AuditFull))
+        || matches!(done.advanced, Advanced::Refused(_, Refusal::AuditFull))
+}
+
 impl Gate for LoadGate {
     fn enter(&self, lane: u32, turn: u64) -> bool {
         let Some(tally) = self.tally(lane) else {
             return false;
         };
-        if turn == 1 {
-            tally.begun.store(1, Ordering::SeqCst);
-        }
-        if self.lets_in(tally, turn) {
+        let turn = tally.made.load(Ordering::SeqCst).saturating_add(turn);
+        let goes_on = self.lets_in(tally, turn);
+        if goes_on && !self.is_round_over() {
             return true;
         }
-        tally.ended.store(1, Ordering::SeqCst);
+        if !goes_on {
+            tally.ended.store(1, Ordering::SeqCst);
+        }
+        tally.made.store(turn.saturating_sub(1), Ordering::SeqCst);
         false
     }
 
     fn leave(&self, lane: u32, turn: u64, done: LaneAnswer) {
+        if is_full(done) {
+            self.end_round();
+        }
         if is_idle(done) {
             self.rest(lane, done);
             return;

@@ -18,7 +18,7 @@ mod report;
 mod running;
 mod watch;
 
-pub use counting::{PacketCounts, are_finished, count_all, count_packets};
+pub use counting::{PacketCounts, are_finished, count_none, count_on, count_packets, counts_at};
 pub use fault::LoadFault;
 pub use gate::LoadGate;
 pub use granting::grant_all;
@@ -30,5 +30,5 @@ pub use opening::{Stage, open_stage};
 pub use plan::{PlannedQueue, plan_load};
 pub use producing::{Share, addition, produce};
 pub use report::{Ending, report_load};
-pub use running::{run_rotated, run_stage};
+pub use running::{HandedOut, run_rotated, run_stage};
 pub use watch::{Unwatched, Watch};

@@ -1,19 +1,23 @@
 //! The load, from a policy to its report.
 
-ghost use Rattle.std.specs.Prelude.{◌≡◌, ℕ, [], ◌++◌, All, IfOk, Ok, OnOk, length, map};
+ghost use Rattle.std.specs.Prelude.{◌≡◌, ℕ, [], ◌++◌, All, IfOk, List, Ok, OnOk, length, map};
+ghost use Rattle.core_model.specs.History.{Part};
+ghost use Rattle.core_model.specs.declared.entry.Entry.{Entry};
 ghost use Rattle.core_model.specs.Legal.{IsLegalPart, IsOpening};
 ghost use Rattle.core_model.specs.Rotation.{entries_in};
 ghost use Rattle.access_core.specs.Cores.{Core};
 ghost use Rattle.access_core.specs.Opening.{program_of};
 ghost use Rattle.client_threads.specs.Sections.{IsSection};
 ghost use Rattle.client_threads.specs.Settling.{IsEnd, IsSettlement, core_of};
-ghost use Rattle.threads_load.specs.Counts.{are_finished};
+ghost use Rattle.threads_load.specs.Counts.{AreCounts};
 ghost use Rattle.threads_load.specs.Grantings.{HasAllAllowed};
-ghost use Rattle.threads_load.specs.Loads.{EndsBy, EndsLoad, TellsLoad, TellsPlan, ending_if, wanted_of};
-ghost use Rattle.threads_load.specs.Stages.{IsReady, IsStage, WasLeft};
+ghost use Rattle.threads_load.specs.Loads.{EndsBy, EndsLoad, TellsLoad, TellsPlan, ending_if, parts_in, wanted_of};
+ghost use Rattle.threads_load.specs.Rounds.{parts_of};
+ghost use Rattle.threads_load.specs.Stages.{IsReady, IsStage, IsStageWith, WasLeft};
+ghost use Rattle.threads_load.specs.declared.plan.PlannedQueue.{PlannedQueue};
 ghost use Rattle.threads_load.specs.declared.limits.TheConstants.{PACKETS};
 
-use crate::counting::are_finished;
+use crate::counting::{PacketCounts, are_finished, count_none, count_on};
 use crate::fault::LoadFault;
 use crate::gate::LoadGate;
 use crate::granting::grant_all;
@@ -22,11 +26,12 @@ use crate::opening::{Stage, open_stage};
 use crate::plan::{PlannedQueue, plan_load};
 use crate::producing::Share;
 use crate::report::{Ending, report_load};
-use crate::running::run_rotated;
+use crate::running::{HandedOut, run_rotated};
 use crate::watch::{Unwatched, Watch};
 use access_core::{AccessCore, Kernel};
 use client_threads::{
-    Broker, Front, Room, SettleAllFault, Settlement, UnnamedBroker, UnsettledBroker, settle_all,
+    Broker, Front, Room, SettleAllFault, SettledParts, Settlement, UnnamedBroker, UnsettledBroker,
+    settle_all,
 };
 use core_model::{Part, Refusal};
 use policy::Policy;
@@ -45,11 +50,14 @@ pub struct Load {
     pub ending: Ending,
 }
 
-// What a broker came to: its core, the parts that were handed out of its audit, and how the load ended.
+// What a broker came to: its core, what was handed out of its audit, what all entries of its history tell of the packets
+// of each queue, and how the load ended.
 #[derive(Drop)]
 pub(crate) struct Ended {
     pub core: AccessCore,
-    pub parts: Vec<Part>,
+    pub settled: SettledParts,
+    pub left: Option<Part>,
+    pub counts: Vec<PacketCounts>,
     pub ending: Ending,
 }
 
@@ -64,48 +72,67 @@ fn ending_by(all: bool) -> Ending
     }
 }
 
-// The same, of a core that took as many packets of each queue of a plan.
-fn ending_of(
-    parts: &[Part],
-    core: &AccessCore,
-    plan: &[PlannedQueue],
-    wanted: u64,
-) -> Result<Ending, AllocError>
-    ensures { IfOk result (λ ending. ending ≡ ending_if (are_finished (entries_in parts.now ++ core.now.history.entries) wanted (length plan.now))) }
+// Counts what the audit has of the core that a broker came to.
+fn count_last(counts: &mut Vec<PacketCounts>, settlement: &Settlement) -> Result<(), AllocError>
+    ensures { (before : List Entry) (queues : ℕ) → AreCounts before queues counts.old.items → OnOk result (AreCounts (before ++ (core_of settlement.now).history.entries) queues counts.new.items) }
 {
-    match are_finished(parts, core.audit(), plan.len(), wanted) {
-        Ok(all) => Ok(ending_by(all)),
-        Err(want) => Err(want),
+    match settlement {
+        Settlement::Settled { core, .. } => count_on(counts, core.audit()),
+        Settlement::Mismatch { core, .. } => count_on(counts, core.audit()),
+    }
+}
+
+// How a load ended, by what its broker came to and what all entries tell.
+fn ending_of(settlement: &Settlement, counts: &[PacketCounts], wanted: u64) -> Ending
+    ensures { (plan : List PlannedQueue) (parts : List Part) → AreCounts (entries_in parts ++ (core_of settlement.now).history.entries) (length plan) counts.now
+        → EndsBy plan wanted parts settlement.now result }
+{
+    match settlement {
+        Settlement::Settled { .. } => ending_by(are_finished(counts, wanted)),
+        Settlement::Mismatch { queue, id, .. } => Ending::Mismatch {
+            queue: *queue,
+            packet: *id,
+        },
+    }
+}
+
+// The core that a broker came to.
+fn core_of(settlement: Settlement) -> AccessCore
+    ensures { result ≡ core_of settlement }
+{
+    match settlement {
+        Settlement::Settled { core, .. } => core,
+        Settlement::Mismatch { core, .. } => core,
     }
 }
 
 // How a load ended, by what its broker came to.
-fn ended_by(
-    settlement: Settlement,
-    parts: Vec<Part>,
-    plan: &[PlannedQueue],
-    wanted: u64,
-) -> Result<Ended, LoadFault>
+fn ended_by(settlement: Settlement, out: HandedOut, wanted: u64) -> Result<Ended, LoadFault>
     ensures core { IfOk result (λ ended. ended.core ≡ core_of settlement) }
-    ensures parts { IfOk result (λ ended. ended.parts.items ≡ parts.items) }
-    ensures ends { IfOk result (λ ended. EndsBy plan.now wanted parts.items settlement ended.ending) }
+    ensures parts { IfOk result (λ ended. parts_in ended ≡ parts_of out) }
+    ensures counts { (queues : ℕ) → AreCounts (entries_in (parts_of out)) queues out.counts.items
+        → IfOk result (λ ended. AreCounts (entries_in (parts_in ended) ++ ended.core.history.entries) queues ended.counts.items) }
+    ensures ends { (plan : List PlannedQueue) → AreCounts (entries_in (parts_of out)) (length plan) out.counts.items
+        → IfOk result (λ ended. EndsBy plan wanted (parts_of out) settlement ended.ending) }
 {
-    match settlement {
-        Settlement::Settled { core, .. } => {
-            match ending_of(parts.as_slice(), &core, plan, wanted) {
-                Ok(ending) => Ok(Ended {
-                    core,
-                    parts,
-                    ending,
-                }),
-                Err(want) => Err(LoadFault::from(want)),
-            }
+    let HandedOut {
+        settled,
+        left,
+        counts,
+    } = out;
+    let mut counts = counts;
+    match count_last(&mut counts, &settlement) {
+        Ok(()) => {
+            let ending = ending_of(&settlement, counts.as_slice(), wanted);
+            Ok(Ended {
+                core: core_of(settlement),
+                settled,
+                left,
+                counts,
+                ending,
+            })
         }
-        Settlement::Mismatch { core, queue, id } => Ok(Ended {
-            core,
-            parts,
-            ending: Ending::Mismatch { queue, packet: id },
-        }),
+        Err(want) => Err(LoadFault::from(want)),
     }
 }
 
@@ -118,14 +145,14 @@ fn fault_of<B: Room>(back: UnsettledBroker<B>) -> LoadFault {
     }
 }
 
-// Settles a broker whose threads have ended, and of whose audit parts were handed out.
+// Settles a broker whose threads have ended, and of whose audit this was handed out.
 fn settle<B: Room>(
     alloc: Global,
     stage: Stage<B>,
-    parts: &[Part],
+    out: &HandedOut,
 ) -> Result<Settlement, UnsettledBroker<B>>
-    requires { IsStage B.board stage }
-    ensures settled { IfOk result (IsSettlement stage.broker parts.now stage.ends.items stage.lanes.items) }
+    requires { IsStageWith B.board out.now.settled stage }
+    ensures settled { IfOk result (IsSettlement stage.broker (parts_of out.now) stage.ends.items stage.lanes.items) }
     ensures end { IfOk result (λ settlement. IsEnd B.opened stage.front.left stage.lanes.items (core_of settlement)) }
 {
     let Stage {
@@ -135,24 +162,33 @@ fn settle<B: Room>(
         lanes,
     } = stage;
     let mut front = front;
-    settle_all(alloc, broker, &mut front, parts, ends, lanes)
+    settle_all(
+        alloc,
+        broker,
+        &mut front,
+        &out.settled,
+        out.left(),
+        ends,
+        lanes,
+    )
 }
 
 // Settles it, and tells how the load ended.
 fn finish<B: Room>(
     alloc: Global,
     stage: Stage<B>,
-    parts: Vec<Part>,
+    out: HandedOut,
     plan: &[PlannedQueue],
     wanted: u64,
 ) -> Result<Ended, LoadFault>
-    requires stage { IsStage B.board stage }
+    requires stage { IsStageWith B.board out.settled stage }
     requires ready { IsReady plan.now stage }
-    requires parts { All (IsLegalPart B.opened.history.kernels) parts.items }
+    requires parts { All (IsLegalPart B.opened.history.kernels) (parts_of out) }
+    requires counts { AreCounts (entries_in (parts_of out)) (length plan.now) out.counts.items }
     ensures { IfOk result (EndsLoad B.opened plan.now wanted) }
 {
-    match settle(alloc, stage, parts.as_slice()) {
-        Ok(settlement) => ended_by(settlement, parts, plan, wanted),
+    match settle(alloc, stage, &out) {
+        Ok(settlement) => ended_by(settlement, out, wanted),
         Err(back) => Err(fault_of(back)),
     }
 }
@@ -201,17 +237,19 @@ pub fn name_broker<B: Room>(unnamed: UnnamedBroker) -> Result<(Broker<B>, Front)
 fn finish_rotated<B: Room>(
     alloc: Global,
     stage: Stage<B>,
-    rotated: Result<Vec<Part>, LoadFault>,
+    out: HandedOut,
+    run: Result<(), LoadFault>,
     plan: &[PlannedQueue],
     wanted: u64,
 ) -> Result<Ended, LoadFault>
-    requires stage { IsStage B.board stage }
+    requires stage { IsStageWith B.board out.settled stage }
     requires ready { IsReady plan.now stage }
-    requires parts { IfOk rotated (λ parts. All (IsLegalPart B.opened.history.kernels) parts.items) }
+    requires parts { All (IsLegalPart B.opened.history.kernels) (parts_of out) }
+    requires counts { IfOk run (λ _. AreCounts (entries_in (parts_of out)) (length plan.now) out.counts.items) }
     ensures { IfOk result (EndsLoad B.opened plan.now wanted) }
 {
-    match rotated {
-        Ok(parts) => finish(alloc, stage, parts, plan, wanted),
+    match run {
+        Ok(()) => finish(alloc, stage, out, plan, wanted),
         Err(why) => Err(why),
     }
 }
@@ -224,15 +262,17 @@ fn run_over<B: Room + Send + Sync, R: Threads + Wait + Sync, W: Watch>(
     plan: &[PlannedQueue],
     share: Share,
     gate: &LoadGate,
+    counts: Vec<PacketCounts>,
     wanted: u64,
     watch: &mut W,
 ) -> Result<Ended, LoadFault>
     requires stage { IsStage B.board stage }
     requires ready { IsReady plan.now stage }
+    requires counts { AreCounts [] (length plan.now) counts.items }
     ensures { IfOk result (EndsLoad B.opened plan.now wanted) }
 {
-    let (stage, rotated) = run_rotated(rt, alloc, stage, plan, share, gate, watch);
-    finish_rotated(alloc, stage, rotated, plan, wanted)
+    let (stage, out, run) = run_rotated(rt, alloc, stage, plan, share, gate, counts, watch);
+    finish_rotated(alloc, stage, out, run, plan, wanted)
 }
 
 // Names a broker, opens the queues of a plan, and runs its load.
@@ -254,9 +294,10 @@ fn run_named<B: Room + Send + Sync, R: Threads + Wait + Sync, W: Watch>(
         tries: terms.limits.tries,
         are_renewed: terms.limits.are_renewed,
     };
+    let counts = count_none(alloc, plan.len())?;
     let (broker, front) = name_broker::<B>(unnamed)?;
     let stage = open_stage(alloc, broker, front, plan, terms.producers)?;
-    run_over(rt, alloc, stage, plan, share, gate, wanted, watch)
+    run_over(rt, alloc, stage, plan, share, gate, counts, wanted, watch)
 }
 
 // A load with its report, if there is one.
@@ -273,8 +314,8 @@ fn load_of(report: Result<String, Refusal>, ending: Ending) -> Result<Load, Load
 fn tell(alloc: Global, ended: Ended, plan: &[PlannedQueue]) -> Result<Load, LoadFault>
     ensures { (opened : Core) (wanted : ℕ) → EndsLoad opened plan.now wanted ended → IfOk result (TellsPlan opened plan.now wanted) }
 {
-    let parts = ended.parts.as_slice();
-    let report = report_load(alloc, parts, &ended.core, plan, ended.ending);
+    let counts = ended.counts.as_slice();
+    let report = report_load(alloc, counts, &ended.core, plan, ended.ending);
     load_of(report, ended.ending)
 }
 

@@ -2,6 +2,7 @@
 
 ghost use Rattle.std.specs.Prelude.{◌≡◌, ◌∷◌, ◌++◌, [], All, IfErr, IfOk, List, OnOk, length};
 ghost use mathlib.Core.List.{IsPrefix};
+ghost use Rattle.client_threads.specs.HandedOver.{KeepsAll};
 ghost use Rattle.client_threads.specs.Opening.{IsOpened, opening_event};
 ghost use Rattle.client_threads.specs.Running.{IsEndOf, IsLaneOf};
 ghost use Rattle.client_threads.specs.Sections.{IsSection};
@@ -125,6 +126,7 @@ fn open_next<B: Room>(
     ensures begins { IsPrefix front.old.left front.new.left }
     ensures ends { OnOk result (All (λ end. IsEndOf broker.new end) ends.new.items) }
     ensures lanes { OnOk result (All (λ lane. IsLaneOf B.board broker.new lane) lanes.new.items) }
+    ensures keeps { All KeepsAll lanes.old.items → OnOk result (All KeepsAll lanes.new.items) }
     ensures queues { (before : List PlannedQueue) → WasLeft front.old.left (λ left. HasQueues left before) → AreOf (length before) lanes.old.items
         → OnOk result (WasLeft front.new.left (λ left. HasQueues left (before ++ planned ∷ [])) × AreOf (length (before ++ planned ∷ [])) lanes.new.items) }
 {
@@ -160,6 +162,7 @@ fn open_queues<B: Room>(
     ensures begins { IsPrefix front.old.left front.new.left }
     ensures ends { OnOk result (All (λ end. IsEndOf broker.new end) ends.new.items) }
     ensures lanes { OnOk result (All (λ lane. IsLaneOf B.board broker.new lane) lanes.new.items) }
+    ensures keeps { All KeepsAll lanes.old.items → OnOk result (All KeepsAll lanes.new.items) }
     ensures queues { WasLeft front.old.left (λ left. HasQueues left []) → AreOf 0 lanes.old.items
         → OnOk result (WasLeft front.new.left (λ left. HasQueues left plan.now) × AreOf (length plan.now) lanes.new.items) }
 {

@@ -1,16 +1,17 @@
 //! What is told of a load.
 
-ghost use Rattle.std.specs.Prelude.{◌≡◌, ◌++◌, IfOk, OnOk, string_bytes, length};
+ghost use Rattle.std.specs.Prelude.{◌≡◌, ◌++◌, IfOk, List, OnOk, string_bytes, length};
 ghost use Rattle.core_model.specs.History.{beginning};
-ghost use Rattle.core_model.specs.Rotation.{entries_in};
+ghost use Rattle.core_model.specs.declared.entry.Entry.{Entry};
 ghost use Rattle.std.specs.Option.{option_copied};
-ghost use Rattle.threads_load.specs.Reports.{counted_bytes, text_of_counts, text_of_ending, text_of_names, text_of_queue, text_of_queues, text_of_region, text_of_regions, text_of_report, text_of_used, user_of};
+ghost use Rattle.threads_load.specs.Counts.{AreCounts};
+ghost use Rattle.threads_load.specs.Reports.{counted_bytes, text_of_counts, text_of_ending, text_of_lines, text_of_names, text_of_region, text_of_regions, text_of_report, text_of_used, user_of};
 
-use crate::counting::{PacketCounts, count_all};
+use crate::counting::{PacketCounts, counts_at};
 use crate::plan::{COUNTED_BYTES, PlannedQueue};
 use access_core::AccessCore;
 use aql_packet::{Address, ClientId, PacketId, QueueId, REGION_SPAN, RegionHandle};
-use core_model::{Part, Refusal};
+use core_model::Refusal;
 use policy::{Kind, Object, Policy};
 use sequences::Sequence;
 use std::alloc::{AllocError, Global};
@@ -58,32 +59,32 @@ fn write_counts(counts: PacketCounts, out: &mut String) -> Result<(), AllocError
 
 // Writes a queue's line.
 fn write_queue(
-    parts: &[Part],
-    core: &AccessCore,
+    policy: &Policy,
+    counts: PacketCounts,
     queue: QueueId,
     planned: PlannedQueue,
     out: &mut String,
 ) -> Result<(), AllocError>
-    ensures { OnOk result (string_bytes out.new ≡ string_bytes out.old ++ text_of_queue (beginning core.now.history) (entries_in parts.now ++ core.now.history.entries) queue.0 planned) }
+    ensures { OnOk result (string_bytes out.new ≡ string_bytes out.old ++ (text_of_names policy.now queue.0 planned ++ text_of_counts counts)) }
 {
-    let counts = count_all(parts, core.audit(), queue)?;
-    write_names(core.policy(), queue, planned, out)?;
+    write_names(policy, queue, planned, out)?;
     write_counts(counts, out)
 }
 
 // Writes the lines of all queues, which are numbered from 1 in the order of the plan.
 fn write_queues(
-    parts: &[Part],
-    core: &AccessCore,
+    policy: &Policy,
+    counts: &[PacketCounts],
     plan: &[PlannedQueue],
     out: &mut String,
 ) -> Result<(), AllocError>
-    ensures { OnOk result (string_bytes out.new ≡ string_bytes out.old ++ text_of_queues (beginning core.now.history) (entries_in parts.now ++ core.now.history.entries) 1 plan.now) }
+    ensures { OnOk result (string_bytes out.new ≡ string_bytes out.old ++ text_of_lines policy.now counts.now 0 plan.now) }
 {
-    let mut number = 1;
+    let mut place = 0;
     for planned in plan {
-        write_queue(parts, core, QueueId(number), *planned, out)?;
-        number += 1;
+        let counted = counts_at(counts, place);
+        write_queue(policy, counted, QueueId(place as u64 + 1), *planned, out)?;
+        place += 1;
     }
     Ok(())
 }
@@ -178,33 +179,34 @@ fn write_ending(ending: Ending, out: &mut String) -> Result<(), AllocError>
 // Writes all lines.
 fn write_lines(
     alloc: Global,
-    parts: &[Part],
+    counts: &[PacketCounts],
     core: &AccessCore,
     plan: &[PlannedQueue],
     ending: Ending,
     out: &mut String,
 ) -> Result<(), Refusal>
-    ensures { OnOk result (string_bytes out.new ≡ string_bytes out.old ++ text_of_report (beginning core.now.history) (entries_in parts.now) core.now.history.entries plan.now ending) }
+    ensures { OnOk result (string_bytes out.new ≡ string_bytes out.old ++ (text_of_lines (beginning core.now.history).policy counts.now 0 plan.now ++ text_of_regions (beginning core.now.history) core.now.history.entries plan.now ++ text_of_ending ending)) }
 {
-    write_queues(parts, core, plan, out)?;
+    write_queues(core.policy(), counts, plan, out)?;
     write_regions(alloc, core, plan, out)?;
     write_ending(ending, out)?;
     Ok(())
 }
 
-/// The report of a load, from the parts that were handed out of its core's audit and the core that it left: a line for
-/// each queue of the plan, with how many of its packets were launched, finished and denied; a line for each region that
-/// is counted in, with its first eight bytes; and how the load ended.
+/// The report of a load, from what was counted in all entries of its history and the core that it left: a line for each
+/// queue of the plan, with how many of its packets were launched, finished and denied; a line for each region that is
+/// counted in, with its first eight bytes; and how the load ended.
 pub fn report_load(
     alloc: Global,
-    parts: &[Part],
+    counts: &[PacketCounts],
     core: &AccessCore,
     plan: &[PlannedQueue],
     ending: Ending,
 ) -> Result<String, Refusal>
-    ensures { IfOk result (λ text. string_bytes text ≡ text_of_report (beginning core.now.history) (entries_in parts.now) core.now.history.entries plan.now ending) }
+    ensures { (handed_out : List Entry) → AreCounts (handed_out ++ core.now.history.entries) (length plan.now) counts.now
+        → IfOk result (λ text. string_bytes text ≡ text_of_report (beginning core.now.history) handed_out core.now.history.entries plan.now ending) }
 {
     let mut text = String::new(alloc);
-    write_lines(alloc, parts, core, plan, ending, &mut text)?;
+    write_lines(alloc, counts, core, plan, ending, &mut text)?;
     Ok(text)
 }

@@ -1,16 +1,24 @@
 //! Producers and lanes run, each on a thread of its own.
 
-ghost use Rattle.std.specs.Prelude.{◌≡◌, ◌<◌, ℕ, List, All, IfOk, length};
+ghost use Rattle.std.specs.Prelude.{◌≡◌, ◌↔◌, ◌<◌, ℕ, [], ◌∷◌, ◌++◌, List, All, IfErr, IfOk, None, Ok, OnOk, length, option_to_list, true};
 ghost use Rattle.std.specs.Thread.{IsSend, IsSync};
 ghost use mathlib.Core.List.{IsPrefix};
+ghost use Rattle.atomic_table.specs.Seated.{TableId};
+ghost use Rattle.client_threads.specs.HandedOver.{AreSettledWith};
+ghost use Rattle.client_threads.specs.Rings.{QueueRing};
 ghost use Rattle.client_threads.specs.Running.{EachGoesOn, IsEndOf, IsLaneOf};
 ghost use Rattle.client_threads.specs.Sections.{IsSection};
 ghost use Rattle.core_model.specs.Legal.{IsLegalPart};
-ghost use Rattle.core_model.specs.Rotation.{Rotates};
-ghost use Rattle.threads_load.specs.Stages.{AreOf, EachStaysOf, IsReady, IsStage};
+ghost use Rattle.core_model.specs.History.{Part};
+ghost use Rattle.core_model.specs.Rotation.{Rotates, entries_in};
+ghost use Rattle.core_model.specs.declared.entry.Entry.{Entry};
+ghost use Rattle.threads_load.specs.Counts.{AreCounts};
+ghost use Rattle.threads_load.specs.Rounds.{IsHandedOut, parts_of};
+ghost use Rattle.threads_load.specs.Stages.{AreOf, EachStaysOf, IsReady, IsStage, IsStageWith};
 ghost use Rattle.threads_load.specs.declared.plan.PlannedQueue.{PlannedQueue};
 
 use crate::bells::BellGate;
+use crate::counting::{PacketCounts, count_on};
 use crate::fault::LoadFault;
 use crate::gate::LoadGate;
 use crate::limits::MOST_TRIES;
@@ -18,16 +26,32 @@ use crate::opening::Stage;
 use crate::plan::PlannedQueue;
 use crate::producing::{Share, produce};
 use crate::watch::Watch;
-use client_threads::{Broker, ClientEnd, Front, Lane, Room, run_lanes};
+use client_threads::{Broker, ClientEnd, Front, Lane, Room, SettledParts, run_lanes};
 use core_model::{Part, Refusal};
 use std::alloc::Global;
 use std::sync::Wait;
 use std::thread;
 use std::thread::Threads;
 
-/// In how many turns lanes do something, all together, until the audit is rotated again. A turn leaves at most two
-/// entries in it, so that it is half full then.
-const TURNS_A_PART: u64 = 32_768;
+/// What was handed out of an audit while lanes ran, a part between two rounds.
+#[derive(Drop)]
+pub struct HandedOut {
+    /// The parts that were settled as they came.
+    pub settled: SettledParts,
+    /// The part behind them, if it has something else than the lanes served.
+    pub left: Option<Part>,
+    /// What all of them tell of the packets of each queue.
+    pub counts: Vec<PacketCounts>,
+}
+
+impl HandedOut {
+    // The part that was not settled, if there is one.
+    pub(crate) fn left(&self) -> &[Part]
+        ensures { result.now ≡ option_to_list self.now.left }
+    {
+        self.left.as_slice()
+    }
+}
 
 // Producers publish, each on a thread of its own.
 fn produce_each<B: Room + Send + Sync, R: Threads + Sync>(
@@ -98,6 +122,7 @@ fn run_all<B: Room + Send + Sync, R: Threads + Wait + Sync>(
     requires { All (λ lane. IsLaneOf B.board broker.now lane) lanes.items }
     ensures lanes { All (λ lane. IsLaneOf B.board broker.now lane) result.items }
     ensures queues { (queues : ℕ) → AreOf queues lanes.items → AreOf queues result.items }
+    ensures settled { (parts : List Part) → AreSettledWith parts lanes.items → AreSettledWith parts result.items }
 {
     let bells = BellGate { rt, broker, gate };
     run_lanes(rt, alloc, broker, lanes, &bells)
@@ -118,7 +143,7 @@ fn run_both<B: Room + Send + Sync, R: Threads + Wait + Sync>(
     requires lanes { All (λ lane. IsLaneOf B.board broker.now lane) lanes.items }
     ensures ends { All (λ end. IsEndOf broker.now end) result.0.items }
     ensures lanes { All (λ lane. IsLaneOf B.board broker.now lane) result.1.items }
-    ensures queues { (queues : ℕ) → AreOf queues lanes.items → AreOf queues result.1.items }
+    ensures settled { (parts : List Part) → AreSettledWith parts lanes.items → AreSettledWith parts result.1.items }
 {
     thread::join(
         rt,
@@ -128,7 +153,7 @@ fn run_both<B: Room + Send + Sync, R: Threads + Wait + Sync>(
         { produce_all(rt, broker, plan, share, gate, ends) },
         move || -> Vec<Lane>
             requires { IsSend B.row × IsSync B.row × IsSync R.row × All (λ lane. IsLaneOf B.board broker.now lane) lanes.items }
-            ensures { All (λ lane. IsLaneOf B.board broker.entry.now lane) result.items × ((queues : ℕ) → AreOf queues lanes.items → AreOf queues result.items) }
+            ensures { All (λ lane. IsLaneOf B.board broker.entry.now lane) result.items × ((parts : List Part) → AreSettledWith parts lanes.items → AreSettledWith parts result.items) }
         { run_all(rt, alloc, broker, lanes, gate) },
     )
 }
@@ -165,128 +190,219 @@ fn rotate_next<B: Room, R: Wait>(
     rotate(rt, alloc, broker, front)
 }
 
-// Puts a part behind the others, once it was shown.
-fn put_part<B: Room, W: Watch>(
-    part: Part,
-    parts: &mut Vec<Part>,
+// Shows a part, and counts what it tells.
+fn show_and_count<W: Watch>(
+    part: &Part,
+    counts: &mut Vec<PacketCounts>,
     watch: &mut W,
 ) -> Result<(), LoadFault>
-    requires part { IsLegalPart B.opened.history.kernels part }
-    requires parts { All (IsLegalPart B.opened.history.kernels) parts.old.items }
-    ensures { All (IsLegalPart B.opened.history.kernels) parts.new.items }
+    ensures { (before : List Entry) (queues : ℕ) → AreCounts before queues counts.old.items → OnOk result (AreCounts (before ++ part.now.entries) queues counts.new.items) }
 {
-    match watch.take(part.entries()) {
-        Ok(()) => match parts.push(part) {
-            Ok(()) => Ok(()),
-            Err(_) => Err(LoadFault::OutOfMemory),
-        },
+    watch.take(part.entries())?;
+    match count_on(counts, part.entries()) {
+        Ok(()) => Ok(()),
+        Err(want) => Err(LoadFault::from(want)),
+    }
+}
+
+// Settles a part with what the lanes hand over. One that doesn't settle comes back.
+fn settle_part(part: Part, settled: &mut SettledParts, lanes: &mut Vec<Lane>) -> Option<Part>
+    requires { AreSettledWith settled.old lanes.old.items }
+    ensures settled { AreSettledWith settled.new lanes.new.items }
+    ensures parts { settled.new ++ option_to_list result ≡ settled.old ++ part ∷ [] }
+    ensures of { (board : TableId) (rings : List QueueRing) → All (λ lane. IsLaneOf board rings lane) lanes.old.items → All (λ lane. IsLaneOf board rings lane) lanes.new.items }
+    ensures queues { (queues : ℕ) → AreOf queues lanes.old.items → AreOf queues lanes.new.items }
+{
+    match settled.settle(part, lanes) {
+        Ok(()) => None,
+        Err(unsettled) => Some(unsettled.part),
+    }
+}
+
+// Shows a part, counts what it tells, and settles it with what the lanes hand over. One that doesn't settle comes back.
+fn take_part<B: Room, W: Watch>(
+    part: Part,
+    lanes: &mut Vec<Lane>,
+    settled: &mut SettledParts,
+    counts: &mut Vec<PacketCounts>,
+    watch: &mut W,
+) -> Result<Option<Part>, LoadFault>
+    requires part { IsLegalPart B.opened.history.kernels part }
+    requires settled { AreSettledWith settled.old lanes.old.items }
+    requires parts { All (IsLegalPart B.opened.history.kernels) settled.old }
+    ensures of { (board : TableId) (rings : List QueueRing) → All (λ lane. IsLaneOf board rings lane) lanes.old.items → All (λ lane. IsLaneOf board rings lane) lanes.new.items }
+    ensures queues { (queues : ℕ) → AreOf queues lanes.old.items → AreOf queues lanes.new.items }
+    ensures settled { AreSettledWith settled.new lanes.new.items }
+    ensures parts { All (IsLegalPart B.opened.history.kernels) settled.new }
+    ensures left { IfOk result (λ left. All (IsLegalPart B.opened.history.kernels) (settled.new ++ option_to_list left)) }
+    ensures counts { (queues : ℕ) → AreCounts (entries_in settled.old) queues counts.old.items
+        → IfOk result (λ left. AreCounts (entries_in (settled.new ++ option_to_list left)) queues counts.new.items) }
+{
+    match show_and_count(&part, counts, watch) {
+        Ok(()) => Ok(settle_part(part, settled, lanes)),
         Err(why) => Err(why),
     }
 }
 
-// Hands out the next part, shows it, and puts it behind the others.
+// Hands out the next part, and takes it.
 fn hand_out<B: Room, R: Wait, W: Watch>(
     rt: &R,
     alloc: Global,
     broker: &Broker<B>,
     front: &mut Front,
-    parts: &mut Vec<Part>,
+    lanes: &mut Vec<Lane>,
+    settled: &mut SettledParts,
+    counts: &mut Vec<PacketCounts>,
     watch: &mut W,
-) -> Result<(), LoadFault>
+) -> Result<Option<Part>, LoadFault>
     requires front { front.old.board ≡ B.board }
-    requires parts { All (IsLegalPart B.opened.history.kernels) parts.old.items }
+    requires lanes { All (λ lane. IsLaneOf B.board broker.now lane) lanes.old.items }
+    requires settled { AreSettledWith settled.old lanes.old.items }
+    requires parts { All (IsLegalPart B.opened.history.kernels) settled.old }
     ensures front { front.new.board ≡ B.board }
     ensures begins { IsPrefix front.old.left front.new.left }
-    ensures parts { All (IsLegalPart B.opened.history.kernels) parts.new.items }
+    ensures lanes { All (λ lane. IsLaneOf B.board broker.now lane) lanes.new.items }
+    ensures queues { (queues : ℕ) → AreOf queues lanes.old.items → AreOf queues lanes.new.items }
+    ensures settled { AreSettledWith settled.new lanes.new.items }
+    ensures parts { All (IsLegalPart B.opened.history.kernels) settled.new }
+    ensures left { IfOk result (λ left. All (IsLegalPart B.opened.history.kernels) (settled.new ++ option_to_list left)) }
+    ensures counts { (queues : ℕ) → AreCounts (entries_in settled.old) queues counts.old.items
+        → IfOk result (λ left. AreCounts (entries_in (settled.new ++ option_to_list left)) queues counts.new.items) }
 {
     match rotate_next(rt, alloc, broker, front) {
-        Ok(part) => put_part::<B, W>(part, parts, watch),
+        Ok(part) => take_part::<B, W>(part, lanes, settled, counts, watch),
         Err(why) => Err(LoadFault::from(why)),
     }
 }
 
-// Waits until lanes did something in so many turns that the audit is rotated again; false where they have ended before.
-fn wait_for_more<W: Watch>(gate: &LoadGate, watch: &mut W) -> bool {
-    let before = gate.worked();
-    for _look in 0..u64::MAX {
-        if TURNS_A_PART <= gate.worked().saturating_sub(before) {
-            return true;
-        }
-        if !gate.is_running() {
-            return false;
-        }
-        watch.see(gate.finished(), gate.wanted());
-        thread::yield_now();
+// Whether a part was handed out and settled, so that the next round may begin.
+fn goes_on(handed_out: &Result<Option<Part>, LoadFault>) -> bool
+    ensures { result ≡ true → handed_out.now ≡ Ok None }
+{
+    match handed_out {
+        Ok(None) => true,
+        _ => false,
     }
-    false
 }
 
-// Hands out part after part while lanes run: the first once a packet is finished.
-#[tactic(auto, using(client_threads::proofs::Fronts::prefix_self, client_threads::proofs::Fronts::prefix_trans))]
-fn hand_out_all<B: Room, R: Wait, W: Watch>(
+// Runs lanes round after round, until their gate says that the load is over. Between two rounds it hands out a part. One
+// that doesn't settle ends the rounds, and comes back.
+fn run_rounds<B: Room + Send + Sync, R: Threads + Wait + Sync, W: Watch>(
     rt: &R,
     alloc: Global,
     broker: &Broker<B>,
     front: &mut Front,
-    parts: &mut Vec<Part>,
+    lanes: Vec<Lane>,
+    settled: &mut SettledParts,
+    counts: &mut Vec<PacketCounts>,
     gate: &LoadGate,
     watch: &mut W,
-) -> Result<(), LoadFault>
+) -> (Vec<Lane>, Result<Option<Part>, LoadFault>)
     requires front { front.old.board ≡ B.board }
-    requires parts { All (IsLegalPart B.opened.history.kernels) parts.old.items }
+    requires lanes { All (λ lane. IsLaneOf B.board broker.now lane) lanes.items }
+    requires settled { AreSettledWith settled.old lanes.items }
+    requires parts { All (IsLegalPart B.opened.history.kernels) settled.old }
     ensures front { front.new.board ≡ B.board }
     ensures begins { IsPrefix front.old.left front.new.left }
-    ensures parts { All (IsLegalPart B.opened.history.kernels) parts.new.items }
+    ensures lanes { All (λ lane. IsLaneOf B.board broker.now lane) result.0.items }
+    ensures queues { (queues : ℕ) → AreOf queues lanes.items → AreOf queues result.0.items }
+    ensures settled { AreSettledWith settled.new result.0.items }
+    ensures parts { All (IsLegalPart B.opened.history.kernels) settled.new }
+    ensures left { IfOk result.1 (λ left. All (IsLegalPart B.opened.history.kernels) (settled.new ++ option_to_list left)) }
+    ensures counts { (queues : ℕ) → AreCounts (entries_in settled.old) queues counts.old.items
+        → IfOk result.1 (λ left. AreCounts (entries_in (settled.new ++ option_to_list left)) queues counts.new.items) }
 {
-    gate.wait_for_first();
-    for _part in 0..u64::MAX {
-        hand_out(rt, alloc, broker, front, parts, watch)?;
-        if !wait_for_more(gate, watch) {
-            return Ok(());
+    let mut lanes = lanes;
+    gate.begin_rounds();
+    for _round in 0..u64::MAX {
+        lanes = run_all(rt, alloc, broker, lanes, gate);
+        watch.see(gate.finished(), gate.wanted());
+        if !gate.begin_next() {
+            return (lanes, Ok(None));
+        }
+        let handed_out = hand_out(rt, alloc, broker, front, &mut lanes, settled, counts, watch);
+        if !goes_on(&handed_out) {
+            return (lanes, handed_out);
         }
     }
-    Ok(())
+    (lanes, Ok(None))
 }
 
-// The parts that were handed out, if all were; else all lanes are to end.
-fn parts_or_stop(
-    handed_out: Result<(), LoadFault>,
-    parts: Vec<Part>,
+// What was handed out in rounds, and whether all went well. Where a part was not to be had, or didn't settle, the
+// producers are to give up.
+fn end_rounds(
+    settled: SettledParts,
+    counts: Vec<PacketCounts>,
+    handed_out: Result<Option<Part>, LoadFault>,
     gate: &LoadGate,
-) -> Result<Vec<Part>, LoadFault>
-    ensures { IfOk result (λ own. own ≡ parts) }
+) -> (HandedOut, Result<(), LoadFault>)
+    ensures settled { result.0.settled ≡ settled }
+    ensures counts { result.0.counts.items ≡ counts.items }
+    ensures left { IfOk result.1 (λ _. handed_out ≡ Ok result.0.left) }
+    ensures none { IfErr result.1 (λ _. result.0.left ≡ None) }
 {
+    if !goes_on(&handed_out) {
+        gate.stop();
+    }
     match handed_out {
-        Ok(()) => Ok(parts),
+        Ok(left) => {
+            let out = HandedOut {
+                settled,
+                left,
+                counts,
+            };
+            (out, Ok(()))
+        }
         Err(why) => {
-            gate.stop();
-            Err(why)
+            let out = HandedOut {
+                settled,
+                left: None,
+                counts,
+            };
+            (out, Err(why))
         }
     }
 }
 
-// Hands out part after part, and ends the lanes where that fails.
-#[tactic(auto, using(crate::proofs::Handing::none_legal))]
-fn rotate_along<B: Room, R: Wait, W: Watch>(
+// Runs lanes in rounds, of whose audit nothing was handed out yet.
+fn run_along<B: Room + Send + Sync, R: Threads + Wait + Sync, W: Watch>(
     rt: &R,
     alloc: Global,
     broker: &Broker<B>,
     front: Front,
+    lanes: Vec<Lane>,
+    counts: Vec<PacketCounts>,
     gate: &LoadGate,
     watch: &mut W,
-) -> (Front, Result<Vec<Part>, LoadFault>)
-    requires { front.board ≡ B.board }
+) -> (Front, Vec<Lane>, HandedOut, Result<(), LoadFault>)
+    requires front { front.board ≡ B.board }
+    requires lanes { All (λ lane. IsLaneOf B.board broker.now lane) lanes.items }
+    requires settled { AreSettledWith [] lanes.items }
     ensures front { (result.0.board ≡ B.board) × IsPrefix front.left result.0.left }
-    ensures parts { IfOk result.1 (λ parts. All (IsLegalPart B.opened.history.kernels) parts.items) }
+    ensures lanes { All (λ lane. IsLaneOf B.board broker.now lane) result.1.items }
+    ensures queues { (queues : ℕ) → AreOf queues lanes.items → AreOf queues result.1.items }
+    ensures out { IsHandedOut B.opened.history.kernels result.1.items result.2 }
+    ensures counts { (queues : ℕ) → AreCounts [] queues counts.items → IfOk result.3 (λ _. AreCounts (entries_in (parts_of result.2)) queues result.2.counts.items) }
 {
     let mut front = front;
-    let mut parts = Vec::new(alloc);
-    let handed_out = hand_out_all(rt, alloc, broker, &mut front, &mut parts, gate, watch);
-    let parts = parts_or_stop(handed_out, parts, gate);
-    (front, parts)
+    let mut counts = counts;
+    let mut settled = SettledParts::none();
+    let (lanes, handed_out) = run_rounds(
+        rt,
+        alloc,
+        broker,
+        &mut front,
+        lanes,
+        &mut settled,
+        &mut counts,
+        gate,
+        watch,
+    );
+    let (out, run) = end_rounds(settled, counts, handed_out, gate);
+    (front, lanes, out, run)
 }
 
-// Producers and lanes run at once, and this thread rotates the audit meanwhile.
+// Producers run, and this thread runs the lanes in rounds meanwhile.
 fn run_beside<B: Room + Send + Sync, R: Threads + Wait + Sync, W: Watch>(
     rt: &R,
     alloc: Global,
@@ -297,30 +413,35 @@ fn run_beside<B: Room + Send + Sync, R: Threads + Wait + Sync, W: Watch>(
     front: Front,
     ends: Vec<ClientEnd>,
     lanes: Vec<Lane>,
+    counts: Vec<PacketCounts>,
     watch: &mut W,
 ) -> (
-    (Vec<ClientEnd>, Vec<Lane>),
-    (Front, Result<Vec<Part>, LoadFault>),
+    Vec<ClientEnd>,
+    (Front, Vec<Lane>, HandedOut, Result<(), LoadFault>),
 )
     requires front { front.board ≡ B.board }
     requires ends { All (λ end. IsEndOf broker.now end) ends.items }
     requires lanes { All (λ lane. IsLaneOf B.board broker.now lane) lanes.items }
-    ensures ends { All (λ end. IsEndOf broker.now end) result.0.0.items }
-    ensures lanes { All (λ lane. IsLaneOf B.board broker.now lane) result.0.1.items }
-    ensures queues { (queues : ℕ) → AreOf queues lanes.items → AreOf queues result.0.1.items }
+    requires settled { AreSettledWith [] lanes.items }
+    ensures ends { All (λ end. IsEndOf broker.now end) result.0.items }
     ensures front { (result.1.0.board ≡ B.board) × IsPrefix front.left result.1.0.left }
-    ensures parts { IfOk result.1.1 (λ parts. All (IsLegalPart B.opened.history.kernels) parts.items) }
+    ensures lanes { All (λ lane. IsLaneOf B.board broker.now lane) result.1.1.items }
+    ensures queues { (queues : ℕ) → AreOf queues lanes.items → AreOf queues result.1.1.items }
+    ensures out { IsHandedOut B.opened.history.kernels result.1.1.items result.1.2 }
+    ensures counts { (queues : ℕ) → AreCounts [] queues counts.items → IfOk result.1.3 (λ _. AreCounts (entries_in (parts_of result.1.2)) queues result.1.2.counts.items) }
 {
     thread::join(
         rt,
-        move || -> (Vec<ClientEnd>, Vec<Lane>)
-            requires { IsSend B.row × IsSync B.row × IsSync R.row × All (λ end. IsEndOf broker.now end) ends.items × All (λ lane. IsLaneOf B.board broker.now lane) lanes.items }
-            ensures { All (λ end. IsEndOf broker.entry.now end) result.0.items × All (λ lane. IsLaneOf B.board broker.entry.now lane) result.1.items × ((queues : ℕ) → AreOf queues lanes.items → AreOf queues result.1.items) }
-        { run_both(rt, alloc, broker, plan, share, gate, ends, lanes) },
-        move || -> (Front, Result<Vec<Part>, LoadFault>)
-            requires { front.board ≡ B.board }
-            ensures { ((result.0.board ≡ B.board) × IsPrefix front.left result.0.left) × IfOk result.1 (λ parts. All (IsLegalPart B.opened.history.kernels) parts.items) }
-        { rotate_along(rt, alloc, broker, front, gate, watch) },
+        move || -> Vec<ClientEnd>
+            requires { IsSend B.row × IsSync B.row × IsSync R.row × All (λ end. IsEndOf broker.now end) ends.items }
+            ensures { All (λ end. IsEndOf broker.entry.now end) result.items }
+        { produce_all(rt, broker, plan, share, gate, ends) },
+        move || -> (Front, Vec<Lane>, HandedOut, Result<(), LoadFault>)
+            requires { IsSend B.row × IsSync B.row × IsSync R.row × (front.board ≡ B.board) × All (λ lane. IsLaneOf B.board broker.now lane) lanes.items × AreSettledWith [] lanes.items }
+            ensures { ((result.0.board ≡ B.board) × IsPrefix front.left result.0.left) × All (λ lane. IsLaneOf B.board broker.entry.now lane) result.1.items
+                × ((queues : ℕ) → AreOf queues lanes.items → AreOf queues result.1.items) × IsHandedOut B.opened.history.kernels result.1.items result.2
+                × ((queues : ℕ) → AreCounts [] queues counts.items → IfOk result.3 (λ _. AreCounts (entries_in (parts_of result.2)) queues result.2.counts.items)) }
+        { run_along(rt, alloc, broker, front, lanes, counts, gate, watch) },
     )
 }
 
@@ -357,9 +478,12 @@ pub fn run_stage<B: Room + Send + Sync, R: Threads + Wait + Sync>(
     }
 }
 
-/// Runs them just so, while this thread rotates the audit: when the first packet is finished, and then as it fills. Each
-/// part is a legal one, and is shown as it comes; they tell in order what the audit told until the last rotation. Each
-/// lane stays that of its queue. Where a part can't be had, or isn't taken, all lanes are ended.
+/// Runs them just so, while this thread hands out the audit in parts: when the first packet is finished, and then as the
+/// audit fills, the lanes rest, and it is rotated. What it told is shown, counted, and settled with what the lanes hand
+/// over, so that of each part and its packets nothing is kept but the last part. A part that doesn't settle ends the
+/// lanes, and is left. All parts are legal, and tell in order what the audit told until the last rotation. Each lane
+/// stays that of its queue. Where a part can't be had, or isn't taken, all lanes are ended. The counts are of no entry
+/// yet.
 #[tactic(auto, using(crate::proofs::Planned::ready_still))]
 pub fn run_rotated<B: Room + Send + Sync, R: Threads + Wait + Sync, W: Watch>(
     rt: &R,
@@ -368,12 +492,14 @@ pub fn run_rotated<B: Room + Send + Sync, R: Threads + Wait + Sync, W: Watch>(
     plan: &[PlannedQueue],
     share: Share,
     gate: &LoadGate,
+    counts: Vec<PacketCounts>,
     watch: &mut W,
-) -> (Stage<B>, Result<Vec<Part>, LoadFault>)
+) -> (Stage<B>, HandedOut, Result<(), LoadFault>)
     requires { IsStage B.board stage }
-    ensures stage { IsStage B.board result.0 }
+    ensures stage { IsStageWith B.board result.1.settled result.0 }
     ensures ready { (plan : List PlannedQueue) → IsReady plan stage → IsReady plan result.0 }
-    ensures parts { IfOk result.1 (λ parts. All (IsLegalPart B.opened.history.kernels) parts.items) }
+    ensures parts { All (IsLegalPart B.opened.history.kernels) (parts_of result.1) }
+    ensures counts { (queues : ℕ) → AreCounts [] queues counts.items → IfOk result.2 (λ _. AreCounts (entries_in (parts_of result.1)) queues result.1.counts.items) }
 {
     let Stage {
         broker,
@@ -381,8 +507,8 @@ pub fn run_rotated<B: Room + Send + Sync, R: Threads + Wait + Sync, W: Watch>(
         ends,
         lanes,
     } = stage;
-    let ((ends, lanes), (front, parts)) = run_beside(
-        rt, alloc, &broker, plan, share, gate, front, ends, lanes, watch,
+    let (ends, (front, lanes, out, run)) = run_beside(
+        rt, alloc, &broker, plan, share, gate, front, ends, lanes, counts, watch,
     );
     let stage = Stage {
         broker,
@@ -390,5 +516,5 @@ pub fn run_rotated<B: Room + Send + Sync, R: Threads + Wait + Sync, W: Watch>(
         ends,
         lanes,
     };
-    (stage, parts)
+    (stage, out, run)
 }

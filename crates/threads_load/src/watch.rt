@@ -3,13 +3,13 @@
 use crate::fault::LoadFault;
 use core_model::Entry;
 
-/// Is told what a load does while it runs, on the thread that rotates its audit.
+/// Is told what a load does while it runs, on the thread that rotates its audit between rounds.
 pub trait Watch {
     /// These are the next entries of the load's history: what a rotation handed out, and at the end what the audit has.
     /// A fault ends the load.
     fn take(&mut self, entries: &[Entry]) -> Result<(), LoadFault>;
 
-    /// So many packets are finished, of so many. It is told again and again while lanes run, and may wait a little.
+    /// So many packets are finished, of so many. It is told while lanes rest, at the end of each round.
     fn see(&mut self, finished: u64, wanted: u64);
 }
 

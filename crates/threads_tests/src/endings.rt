@@ -9,8 +9,8 @@ use crate::stages::{packet, publish_last, run_with, split_last_end, stage, unnam
 use access_core::AccessCore;
 use aql_packet::{AgentHandle, ClientId, PacketId, QueueId, RegionHandle};
 use client_threads::{
-    Broker, ClientEnd, Gate, LaneAnswer, Room, SettleAllFault, SettledQueue, Settlement,
-    UnnamedBroker, settle_all,
+    Broker, ClientEnd, Gate, LaneAnswer, Room, SettleAllFault, SettledParts, SettledQueue,
+    Settlement, UnnamedBroker, settle_all,
 };
 use core_model::Part;
 use std::alloc::Global;
@@ -62,7 +62,15 @@ fn settled_indices<B: Room>(alloc: Global, stage: Stage<B>) -> Option<(u64, u64)
         lanes,
     } = stage;
     let mut front = front;
-    match settle_all(alloc, broker, &mut front, &[], ends, lanes) {
+    match settle_all(
+        alloc,
+        broker,
+        &mut front,
+        &SettledParts::none(),
+        &[],
+        ends,
+        lanes,
+    ) {
         Ok(Settlement::Settled { rings, .. }) => indices(rings.as_slice()),
         _ => None,
     }
@@ -79,7 +87,15 @@ fn mismatch<B: Room>(alloc: Global, stage: Stage<B>) -> Option<(QueueId, PacketI
         lanes,
     } = stage;
     let mut front = front;
-    match settle_all(alloc, broker, &mut front, &[], ends, lanes) {
+    match settle_all(
+        alloc,
+        broker,
+        &mut front,
+        &SettledParts::none(),
+        &[],
+        ends,
+        lanes,
+    ) {
         Ok(Settlement::Mismatch { queue, id, .. }) => Some((queue, id)),
         _ => None,
     }
@@ -196,7 +212,15 @@ pub(crate) fn unsettled<B: Room>(
         lanes,
     } = stage;
     let mut front = front;
-    match settle_all(alloc, broker, &mut front, parts, ends, lanes) {
+    match settle_all(
+        alloc,
+        broker,
+        &mut front,
+        &SettledParts::none(),
+        parts,
+        ends,
+        lanes,
+    ) {
         Err(back) => Some((
             back.fault,
             Stage {

@@ -10,7 +10,8 @@ use crate::waking::{EACH, PRODUCERS, WakingGate, publish_turns};
 use access_core::AccessCore;
 use aql_packet::PacketId;
 use client_threads::{
-    Broker, ClientEnd, Lane, Room, Served, Settlement, UnnamedBroker, run_lanes, settle_all,
+    Broker, ClientEnd, Lane, Room, Served, SettledParts, Settlement, UnnamedBroker, run_lanes,
+    settle_all,
 };
 use core_model::Part;
 use std::alloc::Global;
@@ -190,7 +191,15 @@ pub(crate) fn settled_core<B: Room>(
         lanes,
     } = stage;
     let mut front = front;
-    match settle_all(alloc, broker, &mut front, parts, ends, lanes) {
+    match settle_all(
+        alloc,
+        broker,
+        &mut front,
+        &SettledParts::none(),
+        parts,
+        ends,
+        lanes,
+    ) {
         Ok(Settlement::Settled { core, .. }) => Some(core),
         _ => None,
     }

@@ -1,20 +1,21 @@
-//! Audits that are rotated while lanes run, and what settles with the part that was handed out.
+//! Audits that are rotated while lanes rest, and what settles with the parts that were handed out.
 
 ghost use Rattle.std.specs.Prelude.{◌≡◌, IfSome};
-ghost use Rattle.threads_load.specs.Stages.{IsStage};
+ghost use Rattle.threads_load.specs.Stages.{IsStage, IsStageWith};
 
 use crate::endings::unsettled;
 use crate::many::settled_core;
 use crate::stages::{FOUR_AGENTS, LOOKS, read, unnamed};
-use client_threads::{Room, SettleAllFault, UnnamedBroker};
-use core_model::Part;
+use access_core::AccessCore;
+use client_threads::{Room, SettleAllFault, Settlement, UnnamedBroker, settle_all};
+use core_model::{Entry, Part, Refusal};
 use std::alloc::Global;
 use std::marker::Brand;
 use std::sync::Wait;
 use std::thread::Threads;
 use threads_load::{
-    LoadGate, PlannedQueue, Share, Stage, Unwatched, name_broker, open_stage, plan_load,
-    run_rotated,
+    HandedOut, LoadFault, LoadGate, PlannedQueue, Share, Stage, Watch, count_none, name_broker,
+    open_stage, plan_load, run_rotated, run_stage,
 };
 
 /// How many packets each of two producers publishes to each of two queues.
@@ -27,41 +28,104 @@ const SHARE: Share = Share {
     are_renewed: false,
 };
 
-// Runs a plan, and rotates meanwhile.
+/// Counts the entries that it is shown.
+#[derive(Drop)]
+struct Counted(usize);
+
+impl Watch for Counted {
+    fn take(&mut self, entries: &[Entry]) -> Result<(), LoadFault> {
+        self.0 = self.0.saturating_add(entries.len());
+        Ok(())
+    }
+
+    fn see(&mut self, _finished: u64, _wanted: u64) {}
+}
+
+// Opens two queues of two producers, with their plan.
+fn open_two_queues<B: Room>(
+    alloc: Global,
+    unnamed: UnnamedBroker,
+) -> Option<(Stage<B>, Vec<PlannedQueue>)>
+    requires { (unnamed.board ≡ B.board) × (unnamed.core ≡ B.opened) }
+    ensures { IfSome result (λ opened. IsStage B.board opened.0) }
+{
+    let policy = read(alloc, FOUR_AGENTS).ok()?;
+    let mut plan = plan_load(alloc, &policy).ok()?;
+    plan.truncate(2);
+    let (broker, front) = name_broker::<B>(unnamed).ok()?;
+    match open_stage(alloc, broker, front, plan.as_slice(), 2) {
+        Ok(stage) => Some((stage, plan)),
+        Err(_) => None,
+    }
+}
+
+// Runs a plan in rounds, and rotates between two of them. Answers how many entries were handed out as well.
 fn run_planned<B: Room + Send + Sync, R: Threads + Wait + Sync>(
     rt: &R,
     alloc: Global,
     stage: Stage<B>,
     plan: &[PlannedQueue],
-    gate: &LoadGate,
-) -> Option<(Stage<B>, Vec<Part>)>
+) -> Option<(Stage<B>, HandedOut, usize)>
     requires { IsStage B.board stage }
-    ensures { IfSome result (λ run. IsStage B.board run.0) }
+    ensures { IfSome result (λ run. IsStageWith B.board run.1.settled run.0) }
 {
-    match run_rotated(rt, alloc, stage, plan, SHARE, gate, &mut Unwatched) {
-        (stage, Ok(parts)) => Some((stage, parts)),
-        (_, Err(_)) => None,
+    let gate = LoadGate::new(alloc, 2, 2 * PACKETS).ok()?;
+    let counts = count_none(alloc, 2).ok()?;
+    let mut shown = Counted(0);
+    match run_rotated(rt, alloc, stage, plan, SHARE, &gate, counts, &mut shown) {
+        (stage, out, Ok(())) => Some((stage, out, shown.0)),
+        (_, _, Err(_)) => None,
     }
 }
 
-// Runs two queues of two producers, and rotates meanwhile.
-fn run_two_queues<B: Room + Send + Sync, R: Threads + Wait + Sync>(
+// The core, if the broker settles with what was handed out.
+fn core_settled_with<B: Room>(alloc: Global, stage: Stage<B>, out: &HandedOut) -> Option<AccessCore>
+    requires { IsStageWith B.board out.now.settled stage }
+{
+    let Stage {
+        broker,
+        front,
+        ends,
+        lanes,
+    } = stage;
+    let mut front = front;
+    let left = out.left.as_slice();
+    match settle_all(alloc, broker, &mut front, &out.settled, left, ends, lanes) {
+        Ok(Settlement::Settled { core, .. }) => Some(core),
+        _ => None,
+    }
+}
+
+// Whether a finished packet was handed out, and how many entries there are in all.
+fn named_run_in_rounds<B: Room + Send + Sync, R: Threads + Wait + Sync>(
     rt: &R,
     alloc: Global,
     unnamed: UnnamedBroker,
-) -> Option<(Stage<B>, Vec<Part>)>
+) -> Option<(bool, usize)>
     requires { (unnamed.board ≡ B.board) × (unnamed.core ≡ B.opened) }
-    ensures { IfSome result (λ run. IsStage B.board run.0) }
 {
-    let policy = read(alloc, FOUR_AGENTS).ok()?;
-    let mut plan = plan_load(alloc, &policy).ok()?;
-    plan.truncate(2);
-    let gate = LoadGate::new(alloc, 2, 2 * PACKETS).ok()?;
-    let (broker, front) = name_broker::<B>(unnamed).ok()?;
-    match open_stage(alloc, broker, front, plan.as_slice(), 2) {
-        Ok(stage) => run_planned(rt, alloc, stage, plan.as_slice(), &gate),
-        Err(_) => None,
-    }
+    let (stage, plan) = open_two_queues::<B>(alloc, unnamed)?;
+    let (stage, out, handed_out) = run_planned(rt, alloc, stage, plan.as_slice())?;
+    let core = core_settled_with(alloc, stage, &out)?;
+    Some((
+        11 <= handed_out,
+        handed_out.checked_add(core.audit().len())?,
+    ))
+}
+
+// The same, of a broker that is opened for it.
+fn run_in_rounds<R: Threads + Wait + Sync>(rt: &R, alloc: Global) -> Option<(bool, usize)> {
+    named_run_in_rounds::<Brand, R>(rt, alloc, unnamed(alloc)?)
+}
+
+// Rotates the audit of a stage.
+#[tactic(auto, using(threads_load::proofs::Handing::rotation_follows))]
+fn rotate_in<B: Room>(alloc: Global, stage: &mut Stage<B>) -> Result<Part, Refusal>
+    requires { IsStage B.board stage.old }
+    ensures { IsStage B.board stage.new }
+{
+    let Stage { broker, front, .. } = stage;
+    broker.with_core_alone(front, |core| core.rotate(alloc))
 }
 
 // How many entries came behind the parts that were handed out, where the broker settles with them, and without them is
@@ -77,27 +141,35 @@ fn entries_behind<B: Room>(alloc: Global, stage: Stage<B>, parts: &[Part]) -> Op
     Some(core.audit().len())
 }
 
-// Whether a finished packet was handed out, and how many entries there are in all.
+// How many entries were handed out, and how many came behind them.
 fn named_run_with_part<B: Room + Send + Sync, R: Threads + Wait + Sync>(
     rt: &R,
     alloc: Global,
     unnamed: UnnamedBroker,
-) -> Option<(bool, usize)>
+) -> Option<(usize, usize)>
     requires { (unnamed.board ≡ B.board) × (unnamed.core ≡ B.opened) }
 {
-    let (stage, parts) = run_two_queues::<B, R>(rt, alloc, unnamed)?;
-    let handed_out = parts.first()?.entries().len();
-    let since = entries_behind(alloc, stage, parts.as_slice())?;
-    Some((11 <= handed_out, handed_out.checked_add(since)?))
+    let (stage, plan) = open_two_queues::<B>(alloc, unnamed)?;
+    let gate = LoadGate::new(alloc, 2, 2 * PACKETS).ok()?;
+    let mut stage = run_stage(rt, alloc, stage, plan.as_slice(), PACKETS, &gate);
+    let part = rotate_in(alloc, &mut stage).ok()?;
+    let handed_out = part.entries().len();
+    let parts = [part];
+    Some((handed_out, entries_behind(alloc, stage, &parts)?))
 }
 
 // The same, of a broker that is opened for it.
-fn run_with_part<R: Threads + Wait + Sync>(rt: &R, alloc: Global) -> Option<(bool, usize)> {
+fn run_with_part<R: Threads + Wait + Sync>(rt: &R, alloc: Global) -> Option<(usize, usize)> {
     named_run_with_part::<Brand, R>(rt, alloc, unnamed(alloc)?)
 }
 
 // Six grants, two openings, and of each packet a launch, a run and a completion.
 #[test]
+fn a_broker_settles_with_the_parts_that_were_settled_between_rounds(rt: HostRuntime) {
+    assert!(rt; run_in_rounds(&rt, rt.alloc()) == Some((true, 6_008)));
+}
+
+#[test]
 fn a_broker_settles_with_the_part_that_was_handed_out(rt: HostRuntime) {
-    assert!(rt; run_with_part(&rt, rt.alloc()) == Some((true, 6_008)));
+    assert!(rt; run_with_part(&rt, rt.alloc()) == Some((6_008, 0)));
 }

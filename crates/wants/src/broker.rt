@@ -9,8 +9,8 @@ use crate::telling::{tell_one, tell_two, tell_want};
 use access_core::Kernel;
 use aql_packet::{AgentHandle, ClientId, QueueId, RegionHandle};
 use client_threads::{
-    Broker, Front, Opened, Room, SettleAllFault, SettledQueue, Settlement, UnnamedBroker,
-    run_lanes, settle_all,
+    Broker, Front, Opened, Room, SettleAllFault, SettledParts, SettledQueue, Settlement,
+    UnnamedBroker, run_lanes, settle_all,
 };
 use core_model::Refusal;
 use policy::{Policy, ReadPolicyError, read_policy};
@@ -169,7 +169,15 @@ fn settle_stage<B: Room>(
         lanes,
     } = stage;
     let mut front = front;
-    match settle_all(alloc, broker, &mut front, &[], ends, lanes) {
+    match settle_all(
+        alloc,
+        broker,
+        &mut front,
+        &SettledParts::none(),
+        &[],
+        ends,
+        lanes,
+    ) {
         Ok(settlement) => Ok(settlement),
         Err(back) => Err((
             back.fault,

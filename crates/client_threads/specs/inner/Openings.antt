@@ -30,7 +30,7 @@ pub record IsBeside (queue : QueueId) (size producers : ℕ) (front : PassSeen) 
   pub producers_is : (seen made.desk).ring.producers ≡ producers
   pub few : is_producer_count producers ≡ true
   pub ends_are : made.ends.items ≡ map (as_end queue) (dealt (seen made.desk).ring.table producers)
-  pub lane_is : made.lane ≡ record { queue = queue; pass = new_processor_pass (seen made.desk).ring.table; served = []; pending = []; front = front }
+  pub lane_is : made.lane ≡ record { queue = queue; pass = new_processor_pass (seen made.desk).ring.table; served = []; kept = []; pending = []; front = front }
 
 -- it is the broker's from now on
 pub record HasEntered (made : Beside) (old new : List QueueRing) (queue : QueueId) (ends : List ClientEnd) (lane : LaneSeen) : Type 0 where

@@ -32,6 +32,7 @@ pub record ServesIn (old : LaneSeen) (before : History) (new : LaneSeen) (after 
   pub entries : List Entry
   pub history : after ≡ record before { entries = before.entries ++ entries }
   pub served : new.served ≡ old.served ++ takes entries old.queue.0
+  pub kept : new.kept ≡ old.kept ++ takes entries old.queue.0
 
 -- what a lane served stands among what it has seen
 abbrev pub StandsIn : LaneSeen → Type 0
@@ -42,11 +43,11 @@ abbrev pub IsFoundBy : Peeked → ProcessorSeen → Type 0
 IsFoundBy peeked.Empty pass = ⊤
 IsFoundBy (peeked.Shown shown) pass = IsShownBy shown pass
 
--- the packet that the pass had collected was taken: the audit gains the entry that is due, the slot is retired, and the packet is served
+-- the packet that the pass had collected was taken: the audit gains the entry that is due, the slot is retired, and the packet is served and kept
 pub record IsHanded (ring : RingSeen) (shown : Shown) (old : LaneSeen) (before : History) (became : Taken) (pending : List PacketId) (new : LaneSeen) (after : History) : Type 0 where
   pub taken : Meets (take_of old shown) before after (Ok (outcome.Taken became))
   pub retired : ProcessorGains ring old.pass (retiring (length old.pass.part.retired)) new.pass
-  pub lane : new ≡ record { queue = old.queue; pass = new.pass; served = old.served ++ served_of shown ∷ []; pending = pending; front = old.front }
+  pub lane : new ≡ record { queue = old.queue; pass = new.pass; served = old.served ++ served_of shown ∷ []; kept = old.kept ++ served_of shown ∷ []; pending = pending; front = old.front }
 
 -- it was not taken, and all stays
 pub record IsKeptBack (shown : Shown) (old : LaneSeen) (before : History) (reply : Result Taken Refusal) (new : LaneSeen) (after : History) : Type 0 where

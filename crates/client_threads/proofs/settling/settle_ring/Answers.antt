@@ -7,5 +7,5 @@ returns c =
     rw (← c.lane.view_is)
     (record {
       settled = c.settle_in.ensures;
-      served = are_served c.args.ring c.args.passes.items (lane_of c.lane.inside) c.settle_in.result.write_index c.settle_in.result.read_index c.settle_in.result.slots c.lane.invariant c.settle_in.ensures;
+      served = are_served c.args.ring c.args.passes.items (lane_of c.lane.inside) c.settle_in.result.write_index c.settle_in.result.read_index c.settle_in.result.slots c.lane.invariant.lane c.settle_in.ensures;
     })

@@ -1,6 +1,6 @@
 use Rattle.std.proofs.Common.{◌≡◌, ◌+◌, ap, length, rules}
 use Rattle.client_threads.specs.Lanes.{LaneSeen}
-use Rattle.threads_load.proofs.Belonging.{kept_ends, kept_lanes, new_ends, new_lane}
+use Rattle.threads_load.proofs.Belonging.{all_keep, kept_ends, kept_lanes, new_ends, new_lane}
 use Rattle.threads_load.proofs.Planned.{opened_next}
 use Rattle.threads_load.proofs.opening.open_next.Goals as goal
 
@@ -21,3 +21,6 @@ returns-in-Ok-put_queue-clause-queues g c = λ before w are.
     let number : c.in-Ok.opened.0.0 ≡ length c.args.lanes.now.items + 1 = search rules in
     opened_next g.B.Room.opened c.args.front.now.left c.open_queue.new.front.left c.args.planned _ c.args.producers c.in-Ok.opened.0 before c.args.lanes.now.items c.put_queue.new.lanes.items c.in-Ok.opened.2
     c.in-Ok.ensures.section number (ap (λ (l : LaneSeen). l.queue) c.in-Ok.ensures.opened.lane_is) c.in-Ok-put_queue.ensures.put w are
+
+pub returns-in-Ok-put_queue-clause-keeps : goal.returns-in-Ok-put_queue-clause-keeps
+returns-in-Ok-put_queue-clause-keeps g c = all_keep _ _ _ _ _ _ _ _ c.args.lanes.now.items c.put_queue.new.lanes.items c.in-Ok.ensures.opened c.in-Ok-put_queue.ensures.put

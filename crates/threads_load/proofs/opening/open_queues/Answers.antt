@@ -18,6 +18,7 @@ loop-planned-preserved g c = (
       next_too (λ (ps : List PlannedQueue). WasLeft c.open_next.new.front.left (λ left. HasQueues left ps) × AreOf (length ps) c.open_next.new.lanes.items)
       c.args.plan.now c.loop-planned.planned-index _ within
       (c.in_ok-open_next.ensures.queues (take c.loop-planned.planned-index c.args.plan.now) so_far.0 so_far.1),
+  λ keep. c.in_ok-open_next.ensures.keeps (c.loop-planned.invariant.5 keep),
 )
 
 pub returns-clause-queues : goal.returns-clause-queues

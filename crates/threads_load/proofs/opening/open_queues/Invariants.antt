@@ -2,6 +2,7 @@
 use Rattle.std.proofs.Common.{◌≡◌, [], take, length}
 use Rattle.std.specs.Prelude.{All}
 use mathlib.Core.List.{IsPrefix}
+use Rattle.client_threads.specs.HandedOver.{KeepsAll}
 use Rattle.client_threads.specs.Running.{IsEndOf, IsLaneOf}
 use Rattle.threads_load.specs.Stages.{AreOf, HasQueues, WasLeft}
 use Rattle.threads_load.proofs.opening.open_queues.Given as goal
@@ -12,3 +13,4 @@ invariant-loop-planned g l =
     × IsPrefix l.initial.front.left l.front.left
     × (WasLeft l.initial.front.left (λ left. HasQueues left []) → AreOf 0 l.initial.lanes.items
     → WasLeft l.front.left (λ left. HasQueues left (take l.planned-index l.plan)) × AreOf (length (take l.planned-index l.plan)) l.lanes.items)
+    × (All KeepsAll l.initial.lanes.items → All KeepsAll l.lanes.items)

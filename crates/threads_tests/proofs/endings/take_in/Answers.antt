@@ -10,4 +10,5 @@ returns g c =
       front = c.with_core_alone.ensures.front;
       ends = subst (λ (rings : List QueueRing). All (λ end. IsEndOf rings end) c.args.stage.now.ends.items) (sym c.with_core_alone.ensures.rings) c.requires.ends;
       lanes = subst (λ (rings : List QueueRing). All (λ lane. IsLaneOf g.B.Room.board rings lane) c.args.stage.now.lanes.items) (sym c.with_core_alone.ensures.rings) c.requires.lanes;
+      settled = c.requires.settled;
     }

@@ -7,6 +7,7 @@ returns-clause-stage g c = record {
   front = c.requires.front;
   ends = before_last c.args.stage.broker c.args.stage.ends.items c.pop.new.self.items c.pop.result c.pop.ensures.items c.requires.ends;
   lanes = c.requires.lanes;
+  settled = c.requires.settled;
 }
 
 pub returns-clause-end : goal.returns-clause-end

@@ -11,4 +11,5 @@ returns-in-Ok g c = record {
   ends = subst (λ (ends : List ClientEnd). All (λ end. IsEndOf c.args.stage.broker end) ends) (sym c.in-Ok.ensures.items)
       (All-push (λ end. IsEndOf c.args.stage.broker end) c.args.stage.ends.items c.args.end c.requires.stage.ends c.requires.end);
   lanes = c.requires.stage.lanes;
+  settled = c.requires.stage.settled;
 }

@@ -1,7 +1,8 @@
-use Rattle.std.proofs.Common.{List, sym, subst, ap, ◌∙◌}
+use Rattle.std.proofs.Common.{List, [], sym, subst, ap, ◌∙◌}
 use Rattle.std.specs.Prelude.{All}
 use Rattle.client_threads.specs.declared.client_end.ClientEnd.{ClientEnd}
 use Rattle.client_threads.specs.Boards.{PassSeen}
+use Rattle.client_threads.specs.HandedOver.{AreSettledWith}
 use Rattle.client_threads.specs.Lanes.{LaneSeen}
 use Rattle.client_threads.specs.Rings.{QueueRing}
 use Rattle.client_threads.specs.Running.{IsEndOf, IsLaneOf}
@@ -16,4 +17,5 @@ returns-in-Err g c =
           (subst (λ (ends : List ClientEnd). All (λ end. IsEndOf c.args.stage.broker end) ends) (sym back.1) c.requires.ends);
       lanes = subst (λ (rings : List QueueRing). All (λ lane. IsLaneOf g.B.Room.board rings lane) c.in-Err.back.lanes.items) (sym back.0)
           (subst (λ (lanes : List LaneSeen). All (λ lane. IsLaneOf g.B.Room.board c.args.stage.broker lane) lanes) (sym back.2) c.requires.lanes);
+      settled = subst (λ (lanes : List LaneSeen). AreSettledWith [] lanes) (sym back.2) c.requires.settled;
     }

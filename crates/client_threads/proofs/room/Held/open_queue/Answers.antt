@@ -8,7 +8,7 @@ use Rattle.client_threads.specs.Opening.{AreOpened, IsOpened}
 use Rattle.client_threads.specs.Sections.{AllFollow, Follows, IsNext, last_of}
 use Rattle.client_threads.proofs.Fronts.{prefix_trans}
 use Rattle.client_threads.proofs.Opened.{grow_opened, next_is_fresh, opened_behind}
-use Rattle.client_threads.proofs.Sections.{all_snoc, appends_follow, last_snoc}
+use Rattle.client_threads.proofs.Sections.{all_snoc, appends_follow, last_snoc, section_of}
 use Rattle.client_threads.proofs.Turning.{call_appends}
 use Rattle.client_threads.proofs.room.Held.open_queue.Goals as goal
 
@@ -26,6 +26,18 @@ invariant_of-self g c =
       ap (λ p. last_of opened p.left) full ∙ last_snoc opened left new,
       inv.3,
     )
+
+pub returns-clause-section : goal.returns-clause-section
+returns-clause-section g c =
+    let left = c.self.inside.keeper.left in
+    let new = c.open_beside-opened.new.core in
+    let inv = c.self.invariant in
+    let full = c.leave.ensures.keeper ∙ ap (λ (p : PassSeen). record { board = p.board; left = p.left ++ new ∷ [] }) (c.check-2.ensures.kept ∙ c.check.ensures.kept) in
+    let begins : IsPrefix c.args.front.now.left left = subst (λ (t : PassSeen). IsPrefix t.left left) c.copy-begun.ensures.1 c.check.ensures.begins in
+    let follows : Follows c.self.inside.core.history new.history = appends_follow _ _ (call_appends _ _ _ _ c.open_beside-opened.ensures.due) in
+    section_of g.B.Room.opened c.args.front.now.left c.copy-last.new.front.left left c.self.inside.core new inv.3 inv.1 inv.2 begins c.audit.ensures.legal
+    (record { follows = follows; legal = c.audit-2.ensures.legal }) (rw c.with_front.ensures.number c.open_beside-opened.ensures.due)
+    (ap (λ (p : PassSeen). p.left) (c.copy-last.ensures.0 ∙ (c.copy.ensures.0 ∙ (c.leave.ensures.front ∙ full))))
 
 pub returns-clause-opened : goal.returns-clause-opened
 returns-clause-opened g c =
