@@ -1,7 +1,7 @@
 //! The commands for authors of kernels, scripts and policies.
 
 use crate::explaining::{PolicyFile, policy_told, tell};
-use crate::meanings::{UNKNOWN, explained};
+use crate::meanings::{Unknown, explained};
 use crate::perform::{failed, read_most, unread};
 use crate::writers::Nowhere;
 use assemble::{AssembleError, Book, BookError, assemble_script};
@@ -154,19 +154,30 @@ pub fn assemble_input(rt: &HostRuntime, file: PolicyFile<'_>, explains: bool) ->
     }
 }
 
-/// Tells what a rule, a refusal or a cause means; none where the word is none of them, which is told too.
-pub fn explain(rt: &HostRuntime, word: &str) -> Option<Status> {
-    let Ok(text) = explained(rt.alloc(), word) else {
-        return Some(failed(rt, "no memory"));
-    };
-    if text.is_empty() {
-        return match eprintln!(rt; "{UNKNOWN}") {
-            Ok(()) => None,
-            Err(_) => Some(Status::Failed),
-        };
+// Says what `explain` takes; none where that could be said.
+fn tell_unknown(rt: &HostRuntime) -> Option<Status> {
+    let unknown = Unknown;
+    match eprintln!(rt; "{unknown}") {
+        Ok(()) => None,
+        Err(_) => Some(Status::Failed),
     }
-    match told(&mut rt.stdout(), text.as_str(), Status::Done) {
+}
+
+// Prints what a word means, if it means something.
+fn print_meaning(rt: &HostRuntime, text: &str) -> Option<Status> {
+    if text.is_empty() {
+        return tell_unknown(rt);
+    }
+    match told(&mut rt.stdout(), text, Status::Done) {
         Status::Failed => Some(failed(rt, "write fault")),
         status => Some(status),
+    }
+}
+
+/// Tells what a rule, a refusal or a cause means; none where the word is none of them, which is told too.
+pub fn explain(rt: &HostRuntime, word: &str) -> Option<Status> {
+    match explained(rt.alloc(), word) {
+        Ok(text) => print_meaning(rt, text.as_str()),
+        Err(_) => Some(failed(rt, "no memory")),
     }
 }

@@ -1,7 +1,7 @@
 //! What the help and the version say beside the commands.
 
-use crate::meanings::causes;
-use script::{Occasion, RuleRow, line_forms, refusal_rows, rule_rows};
+use crate::meanings::{RuleNames, causes};
+use script::{line_forms, refusal_rows};
 use std::alloc::{AllocError, Global};
 
 /// The program's version, and the kit that it is proved with.
@@ -90,47 +90,10 @@ fn put_causes(alloc: Global, out: &mut String, title: &str, kind: &str) -> Resul
     out.push_str("\n")
 }
 
-// The name of the first of some rules that is asked on an occasion.
-fn first_of(rows: &[RuleRow], occasion: Occasion) -> &'static str {
-    for row in rows {
-        if row.occasion == occasion {
-            return row.name;
-        }
-    }
-    ""
-}
-
-// The name of the last of some rules that is asked on an occasion.
-fn last_of(rows: &[RuleRow], occasion: Occasion) -> &'static str {
-    for row in rows.iter().rev() {
-        if row.occasion == occasion {
-            return row.name;
-        }
-    }
-    ""
-}
-
-// Puts the names of the rules that are asked on an occasion: the first and the last.
-fn put_rules_of(out: &mut String, occasion: Occasion) -> Result<(), AllocError> {
-    let first = first_of(rule_rows(), occasion);
-    let last = last_of(rule_rows(), occasion);
-    out.push_str(first)?;
-    if first != last {
-        out.push_str(" to ")?;
-        out.push_str(last)?;
-    }
-    Ok(())
-}
-
 // Puts the names of the rules.
 fn put_rules(out: &mut String) -> Result<(), AllocError> {
-    out.push_str("  rules      ")?;
-    put_rules_of(out, Occasion::Launch)?;
-    out.push_str(", ")?;
-    put_rules_of(out, Occasion::Work)?;
-    out.push_str(", ")?;
-    put_rules_of(out, Occasion::Poll)?;
-    out.push_str("\n")
+    let rules = RuleNames;
+    writeln!(out, "  rules      {rules}")
 }
 
 // Puts the names that `explain` tells and that stand in tables.

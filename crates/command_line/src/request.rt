@@ -148,14 +148,14 @@ pub enum Invocation<'a> {
 
 /// What a command line asks for, and the further words in their order: the files of the further policies of a run or a
 /// picture, at most 16, or the digits of a packet (own).
-#[derive(Debug, Drop)]
+#[derive(Drop)]
 pub struct Asked<'a> {
     pub request: Invocation<'a>,
     pub further: Vec<&'a str>,
 }
 
 /// Why the words of a command line ask for nothing (own).
-#[derive(Debug, Drop)]
+#[derive(Drop)]
 pub enum Unread {
     /// Memory was wanted and not to be had.
     OutOfMemory,
@@ -379,6 +379,47 @@ fn has_words_behind(request: &Invocation<'_>, further: &[&str]) -> bool {
     matches!(request, Invocation::Explain { .. }) && !further.is_empty()
 }
 
+// Why the arguments of a command don't go together, if they don't.
+fn clash_in(command: &str, asked: &ArgMatches<'_>) -> Result<(), Unread> {
+    if command == RUN && asks_for_journal_by_line(asked) {
+        Err(Unread::JournalByLine)
+    } else if command == PICTURE && asks_for_room_of_journal(asked) {
+        Err(Unread::AuditOfJournal)
+    } else {
+        Ok(())
+    }
+}
+
+// Whether a request takes these further words; the digits of a packet are as many as the command line takes.
+fn take_words(command: &str, request: &Invocation<'_>, further: &[&str]) -> Result<(), Unread> {
+    if command == DECODE {
+        Ok(())
+    } else if further.len() > MOST_NEXT {
+        Err(Unread::TooManyPolicies)
+    } else if has_words_behind(request, further) {
+        Err(Unread::WordsBehind)
+    } else {
+        Ok(())
+    }
+}
+
+// A request with its further words, where it takes them.
+fn with_words<'a>(
+    command: &str,
+    request: Invocation<'a>,
+    further: Vec<&'a str>,
+) -> Result<Asked<'a>, Unread> {
+    match take_words(command, &request, further.as_slice()) {
+        Ok(()) => Ok(Asked { request, further }),
+        Err(why) => Err(why),
+    }
+}
+
+// The name of the argument that has the further words of a command.
+fn further_of(command: &str) -> &'static str {
+    if command == DECODE { DIGITS } else { NEXT }
+}
+
 // What a command with its arguments asks for.
 fn asked_by<'a>(
     alloc: Global,
@@ -386,25 +427,14 @@ fn asked_by<'a>(
     asked: &ArgMatches<'a>,
     unasked: bool,
 ) -> Result<Asked<'a>, Unread> {
-    let request = request_of(command, asked, unasked).ok_or(Unread::NoCommand)?;
-    if command == RUN && asks_for_journal_by_line(asked) {
-        return Err(Unread::JournalByLine);
+    let Some(request) = request_of(command, asked, unasked) else {
+        return Err(Unread::NoCommand);
+    };
+    clash_in(command, asked)?;
+    match words_of(alloc, further_of(command), asked) {
+        Ok(further) => with_words(command, request, further),
+        Err(_) => Err(Unread::OutOfMemory),
     }
-    if command == PICTURE && asks_for_room_of_journal(asked) {
-        return Err(Unread::AuditOfJournal);
-    }
-    if command == DECODE {
-        let further = words_of(alloc, DIGITS, asked)?;
-        return Ok(Asked { request, further });
-    }
-    let further = words_of(alloc, NEXT, asked)?;
-    if further.len() > MOST_NEXT {
-        return Err(Unread::TooManyPolicies);
-    }
-    if has_words_behind(&request, further.as_slice()) {
-        return Err(Unread::WordsBehind);
-    }
-    Ok(Asked { request, further })
 }
 
 // The page that is asked for, if one is: `help` of a command is told elsewhere.
@@ -435,10 +465,21 @@ fn named_line<'a>(alloc: Global, verb: &'a str) -> Result<Option<&'a str>, Alloc
     }
 }
 
+// Reads the words, with this text below the commands in the help.
+fn matches_in<'a>(
+    alloc: Global,
+    further: &'a str,
+    words: &'a [String],
+) -> Result<ArgMatches<'a>, Error> {
+    program(alloc, further)?.try_get_matches_from(words)
+}
+
 // Reads the words once more, with this text below the commands: they ask for nothing.
 fn told_with<'a>(alloc: Global, further: &'a str, words: &'a [String]) -> Result<Unread, Error> {
-    program(alloc, further)?.try_get_matches_from(words)?;
-    Ok(Unread::NoCommand)
+    match matches_in(alloc, further, words) {
+        Ok(_) => Ok(Unread::NoCommand),
+        Err(error) => Err(error),
+    }
 }
 
 // The help as it is told, with all that stands below the commands.
@@ -492,7 +533,7 @@ pub fn read_words<'a>(
             further: Vec::new(alloc),
         });
     }
-    match program(alloc, "")?.try_get_matches_from(words) {
+    match matches_in(alloc, "", words) {
         Ok(matches) => asked_in(alloc, &matches, unasked),
         Err(error) => Err(why_unread(alloc, words, error)),
     }

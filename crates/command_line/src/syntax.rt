@@ -116,348 +116,460 @@ const MOST_PRODUCERS: u64 = 16;
 /// How many packets a producer publishes at the most.
 const MOST_PACKETS: u64 = 1_000_000;
 
-fn policy_file<'a>(alloc: Global) -> Arg<'a> {
-    Arg::new(alloc, POLICY)
+/// What an argument takes.
+#[derive(Clone, Copy)]
+enum Takes {
+    /// A word, which must be given.
+    Word,
+    /// So many words at the most.
+    Words(usize),
+    /// Nothing: an option that is given or not.
+    Nothing,
+    /// A value of this name, behind an option.
+    Value(&'static str),
+    /// A number from 1 to this one, behind an option.
+    Number(u64),
+    /// The same, behind an option that must be given.
+    Count(u64),
+    /// When it is told why, behind an option; always, where it doesn't say.
+    When,
+}
+
+/// An argument: its name, that of an option too; what it takes; and what the help says of it.
+#[derive(Clone, Copy)]
+struct Argument {
+    name: &'static str,
+    takes: Takes,
+    help: &'static str,
+}
+
+macro_rules! argument {
+    ($name:expr, $takes:expr, $help:literal) => {
+        Argument { name: $name, takes: $takes, help: $help }
+    };
+}
+
+const POLICY_FILE: Argument = argument!(POLICY, Takes::Word, "The policy file");
+
+const FURTHER_FILES: Argument = argument!(
+    NEXT,
+    Takes::Words(MOST_NEXT),
+    "The files of further policies, at most 16: `reload N` in the script puts the N-th in force"
+);
+
+const AUDIT_PLACES: Argument = argument!(
+    AUDIT,
+    Takes::Number(MOST_PLACES),
+    "How many entries the audit has place for, 1 to 1048576; 65536 if not given"
+);
+
+const EXPLAINING: Argument = argument!(
+    EXPLAIN,
+    Takes::When,
+    "Tells on standard error after each fault, refusal and denial why, and what mends it: `always` or `never`; if not given, where standard error is a terminal"
+);
+
+const CHECK_ARGUMENTS: [Argument; 4] = [
+    POLICY_FILE,
+    argument!(
+        LIST,
+        Takes::Nothing,
+        "Lists in place of the counts what is declared, and the rights that each client may have"
+    ),
+    argument!(
+        JSON,
+        Takes::Nothing,
+        "Lists it as JSON, on one line (docs/json.md)"
+    ),
+    EXPLAINING,
+];
+
+const RUN_ARGUMENTS: [Argument; 8] = [
+    POLICY_FILE,
+    FURTHER_FILES,
+    AUDIT_PLACES,
+    argument!(
+        STRICT,
+        Takes::Nothing,
+        "Ends with status 1 after the first line that is refused, denied, faulted or failed"
+    ),
+    argument!(
+        READABLE,
+        Takes::Nothing,
+        "Takes the lines of readable scripts too, as `assemble` does, and `drain` (docs/assemble.md)"
+    ),
+    argument!(
+        JSON,
+        Takes::Nothing,
+        "Writes each reply as an object of JSON, on one line (docs/json.md)"
+    ),
+    argument!(
+        JOURNAL,
+        Takes::Value("FILE"),
+        "Writes the history into this file as it goes, for `replay`; the audit is rotated then"
+    ),
+    EXPLAINING,
+];
+
+const REPLAY_ARGUMENTS: [Argument; 4] = [
+    POLICY_FILE,
+    FURTHER_FILES,
+    argument!(
+        STATE,
+        Takes::Nothing,
+        "Prints the state after the last entry, too"
+    ),
+    EXPLAINING,
+];
+
+const PICTURE_ARGUMENTS: [Argument; 7] = [
+    POLICY_FILE,
+    FURTHER_FILES,
+    AUDIT_PLACES,
+    argument!(
+        FROM,
+        Takes::Number(MOST_ENTRY),
+        "The number of the first entry that is drawn; of more than 5000 the last 5000 are"
+    ),
+    argument!(
+        TO,
+        Takes::Number(MOST_ENTRY),
+        "The number of the last entry that is drawn"
+    ),
+    argument!(
+        JOURNAL,
+        Takes::Value("FILE"),
+        "Draws the journal in this file in place of a script's run; nothing is run"
+    ),
+    EXPLAINING,
+];
+
+const KERNEL_ARGUMENTS: [Argument; 2] = [
+    argument!(FILE, Takes::Word, "The file of the kernel's text"),
+    EXPLAINING,
+];
+
+const ASSEMBLE_ARGUMENTS: [Argument; 2] = [POLICY_FILE, EXPLAINING];
+
+const EXPLAIN_ARGUMENTS: [Argument; 3] = [
+    argument!(
+        WORD,
+        Takes::Word,
+        "A rule as L8, a refusal or a cause by its name, or a number; with --journal the policy file"
+    ),
+    argument!(
+        NEXT,
+        Takes::Words(MOST_NEXT),
+        "The files of further policies of a journal, at most 16"
+    ),
+    argument!(
+        JOURNAL,
+        Takes::Value("FILE"),
+        "Tells the journal in this file, over the policy in WORD: its entries, and why packets were denied or failed"
+    ),
+];
+
+const DECODE_ARGUMENTS: [Argument; 3] = [
+    argument!(
+        DIGITS,
+        Takes::Words(MOST_PARTS),
+        "The 128 hexadecimal digits of a packet, with blanks between them or without"
+    ),
+    argument!(
+        SLOTS,
+        Takes::Value("FILE"),
+        "Reads in their place the slots of a ring, 64 bytes each, from a file"
+    ),
+    EXPLAINING,
+];
+
+const THREADS_ARGUMENTS: [Argument; 5] = [
+    POLICY_FILE,
+    argument!(
+        PRODUCERS,
+        Takes::Count(MOST_PRODUCERS),
+        "How many producers each queue has, 1 to 16"
+    ),
+    argument!(
+        PACKETS,
+        Takes::Number(MOST_PACKETS),
+        "How many packets each producer publishes, 1 to 1000000; 8 if not given"
+    ),
+    argument!(
+        JOURNAL,
+        Takes::Value("FILE"),
+        "Writes the history into this file as it goes, for `replay`"
+    ),
+    EXPLAINING,
+];
+
+// An argument that takes a word, which must be given.
+fn word<'a>(alloc: Global, name: &'a str, help: &'a str) -> Arg<'a> {
+    Arg::new(alloc, name)
         .required(true)
         .action(ArgAction::Set)
-        .help("The policy file")
+        .help(help)
 }
 
-fn further_files<'a>(alloc: Global) -> Arg<'a> {
-    Arg::new(alloc, NEXT)
-        .num_args(0..=MOST_NEXT)
+// An argument that takes so many words at the most.
+fn words<'a>(alloc: Global, name: &'a str, most: usize, help: &'a str) -> Arg<'a> {
+    Arg::new(alloc, name)
+        .num_args(0..=most)
         .action(ArgAction::Append)
-        .help(
-            "The files of further policies, at most 16: `reload N` in the script puts the N-th in force",
-        )
+        .help(help)
 }
 
-fn audit_places<'a>(alloc: Global) -> Arg<'a> {
-    Arg::new(alloc, AUDIT)
-        .long(AUDIT)
-        .value_name("N")
-        .action(ArgAction::Set)
-        .value_parser(ValueParser::Unsigned(1, MOST_PLACES))
-        .help("How many entries the audit has place for, 1 to 1048576; 65536 if not given")
-}
-
-fn first_entry<'a>(alloc: Global) -> Arg<'a> {
-    Arg::new(alloc, FROM)
-        .long(FROM)
-        .value_name("N")
-        .action(ArgAction::Set)
-        .value_parser(ValueParser::Unsigned(1, MOST_ENTRY))
-        .help("The number of the first entry that is drawn; of more than 5000 the last 5000 are")
-}
-
-fn last_entry<'a>(alloc: Global) -> Arg<'a> {
-    Arg::new(alloc, TO)
-        .long(TO)
-        .value_name("N")
-        .action(ArgAction::Set)
-        .value_parser(ValueParser::Unsigned(1, MOST_ENTRY))
-        .help("The number of the last entry that is drawn")
-}
-
-fn strictly<'a>(alloc: Global) -> Arg<'a> {
-    Arg::new(alloc, STRICT)
-        .long(STRICT)
+// An option that takes nothing.
+fn flag<'a>(alloc: Global, name: &'a str, help: &'a str) -> Arg<'a> {
+    Arg::new(alloc, name)
+        .long(name)
         .action(ArgAction::SetTrue)
-        .help("Ends with status 1 after the first line that is refused, denied, faulted or failed")
+        .help(help)
 }
 
-fn journal_file<'a>(alloc: Global) -> Arg<'a> {
-    Arg::new(alloc, JOURNAL)
-        .long(JOURNAL)
-        .value_name("FILE")
+// An option that takes a value of this name.
+fn option<'a>(alloc: Global, name: &'a str, value: &'a str, help: &'a str) -> Arg<'a> {
+    Arg::new(alloc, name)
+        .long(name)
+        .value_name(value)
         .action(ArgAction::Set)
-        .help(
-            "Writes the history into this file as it goes, for `replay`; the audit is rotated then",
-        )
+        .help(help)
 }
 
-fn drawn_journal<'a>(alloc: Global) -> Arg<'a> {
-    Arg::new(alloc, JOURNAL)
-        .long(JOURNAL)
-        .value_name("FILE")
-        .action(ArgAction::Set)
-        .help("Draws the journal in this file in place of a script's run; nothing is run")
+// An option that takes a number from 1 to this one.
+fn number<'a>(alloc: Global, name: &'a str, most: u64, help: &'a str) -> Arg<'a> {
+    option(alloc, name, "N", help).value_parser(ValueParser::Unsigned(1, most))
 }
 
-fn told_journal<'a>(alloc: Global) -> Arg<'a> {
-    Arg::new(alloc, JOURNAL)
-        .long(JOURNAL)
-        .value_name("FILE")
-        .action(ArgAction::Set)
-        .help(
-            "Tells the journal in this file, over the policy in WORD: its entries, and why packets were denied or failed",
-        )
+// The same, which must be given.
+fn count<'a>(alloc: Global, name: &'a str, most: u64, help: &'a str) -> Arg<'a> {
+    number(alloc, name, most, help).required(true)
 }
 
-fn policies_behind<'a>(alloc: Global) -> Arg<'a> {
-    Arg::new(alloc, NEXT)
-        .num_args(0..=MOST_NEXT)
-        .action(ArgAction::Append)
-        .help("The files of further policies of a journal, at most 16")
-}
-
-fn final_state<'a>(alloc: Global) -> Arg<'a> {
-    Arg::new(alloc, STATE)
-        .long(STATE)
-        .action(ArgAction::SetTrue)
-        .help("Prints the state after the last entry, too")
-}
-
-fn explaining<'a>(alloc: Global) -> Arg<'a> {
-    Arg::new(alloc, EXPLAIN)
-        .long(EXPLAIN)
-        .value_name("WHEN")
-        .action(ArgAction::Set)
+// An option that says when it is told why.
+fn when<'a>(alloc: Global, name: &'a str, help: &'a str) -> Arg<'a> {
+    option(alloc, name, "WHEN", help)
         .num_args(0..=1)
         .require_equals(true)
         .default_missing_value(ALWAYS)
         .value_parser(ValueParser::Names(&[NEVER, ALWAYS]))
-        .help(
-            "Tells on standard error after each fault, refusal and denial why, and what mends it: `always` or `never`; if not given, where standard error is a terminal",
-        )
 }
 
-fn listing<'a>(alloc: Global) -> Arg<'a> {
-    Arg::new(alloc, LIST)
-        .long(LIST)
-        .action(ArgAction::SetTrue)
-        .help(
-            "Lists in place of the counts what is declared, and the rights that each client may have",
-        )
+// An argument as clap has it.
+fn made<'a>(alloc: Global, argument: &Argument) -> Arg<'a> {
+    let name = argument.name;
+    let help = argument.help;
+    match argument.takes {
+        Takes::Word => word(alloc, name, help),
+        Takes::Words(most) => words(alloc, name, most, help),
+        Takes::Nothing => flag(alloc, name, help),
+        Takes::Value(value) => option(alloc, name, value, help),
+        Takes::Number(most) => number(alloc, name, most, help),
+        Takes::Count(most) => count(alloc, name, most, help),
+        Takes::When => when(alloc, name, help),
+    }
 }
 
-fn as_json<'a>(alloc: Global) -> Arg<'a> {
-    Arg::new(alloc, JSON)
-        .long(JSON)
-        .action(ArgAction::SetTrue)
-        .help("Lists it as JSON, on one line (docs/json.md)")
+// A command with one argument more.
+fn with_argument<'a>(command: Command<'a>, argument: Arg<'a>) -> Result<Command<'a>, Error> {
+    Ok(command.arg(argument)?)
 }
 
-fn readably<'a>(alloc: Global) -> Arg<'a> {
-    Arg::new(alloc, READABLE)
-        .long(READABLE)
-        .action(ArgAction::SetTrue)
-        .help(
-            "Takes the lines of readable scripts too, as `assemble` does, and `drain` (docs/assemble.md)",
-        )
+// A command with these arguments more, in their order.
+fn with_arguments<'a>(
+    alloc: Global,
+    command: Command<'a>,
+    arguments: &[Argument],
+) -> Result<Command<'a>, Error> {
+    let mut command = command;
+    for argument in arguments {
+        command = with_argument(command, made(alloc, argument))?;
+    }
+    Ok(command)
 }
 
-fn replying_as_json<'a>(alloc: Global) -> Arg<'a> {
-    Arg::new(alloc, JSON)
-        .long(JSON)
-        .action(ArgAction::SetTrue)
-        .help("Writes each reply as an object of JSON, on one line (docs/json.md)")
+// A command without arguments, of which the help says this.
+fn named<'a>(alloc: Global, name: &'a str, about: &'a str) -> Command<'a> {
+    Command::new(alloc, name).about(about)
 }
 
-fn kernel_file<'a>(alloc: Global) -> Arg<'a> {
-    Arg::new(alloc, FILE)
-        .required(true)
-        .action(ArgAction::Set)
-        .help("The file of the kernel's text")
+// A program with one command more.
+fn with_command<'a>(program: Command<'a>, command: Command<'a>) -> Result<Command<'a>, Error> {
+    Ok(program.subcommand(command)?)
 }
 
-fn explained_word<'a>(alloc: Global) -> Arg<'a> {
-    Arg::new(alloc, WORD)
-        .required(true)
-        .action(ArgAction::Set)
-        .help(
-            "A rule as L8, a refusal or a cause by its name, or a number; with --journal the policy file",
-        )
+/// A command of the program.
+#[derive(Clone, Copy)]
+enum Which {
+    Check,
+    Run,
+    Picture,
+    Kernel,
+    Assemble,
+    Replay,
+    Explain,
+    Decode,
+    Threads,
 }
 
+// The commands, in the order in which the help has them.
+const DESCRIBED: [Which; 9] = [
+    Which::Check,
+    Which::Run,
+    Which::Picture,
+    Which::Kernel,
+    Which::Assemble,
+    Which::Replay,
+    Which::Explain,
+    Which::Decode,
+    Which::Threads,
+];
+
+// A command of which the help says this, with these arguments.
+fn described<'a>(
+    alloc: Global,
+    name: &'a str,
+    about: &'a str,
+    arguments: &[Argument],
+) -> Result<Command<'a>, Error> {
+    with_arguments(alloc, named(alloc, name, about), arguments)
+}
+
+// The command that checks a policy.
 fn check_command<'a>(alloc: Global) -> Result<Command<'a>, Error> {
-    let check = Command::new(alloc, CHECK)
-        .about("Checks a policy: counts its rows, or names its first fault")
-        .arg(policy_file(alloc))?
-        .arg(listing(alloc))?
-        .arg(as_json(alloc))?
-        .arg(explaining(alloc))?;
-    Ok(check)
+    described(
+        alloc,
+        CHECK,
+        "Checks a policy: counts its rows, or names its first fault",
+        &CHECK_ARGUMENTS,
+    )
 }
 
+// The command that runs a script.
 fn run_command<'a>(alloc: Global) -> Result<Command<'a>, Error> {
-    let run = Command::new(alloc, RUN)
-        .about("Runs the script on standard input over a policy, and writes the replies")
-        .arg(policy_file(alloc))?
-        .arg(further_files(alloc))?
-        .arg(audit_places(alloc))?
-        .arg(strictly(alloc))?
-        .arg(readably(alloc))?
-        .arg(replying_as_json(alloc))?
-        .arg(journal_file(alloc))?
-        .arg(explaining(alloc))?;
-    Ok(run)
+    described(
+        alloc,
+        RUN,
+        "Runs the script on standard input over a policy, and writes the replies",
+        &RUN_ARGUMENTS,
+    )
 }
 
-fn replay_command<'a>(alloc: Global) -> Result<Command<'a>, Error> {
-    let replay = Command::new(alloc, REPLAY)
-        .about("Replays the journal on standard input, and tells whether it is a legal history")
-        .arg(policy_file(alloc))?
-        .arg(further_files(alloc))?
-        .arg(final_state(alloc))?
-        .arg(explaining(alloc))?;
-    Ok(replay)
-}
-
+// The command that draws a run.
 fn picture_command<'a>(alloc: Global) -> Result<Command<'a>, Error> {
-    let picture = Command::new(alloc, PICTURE)
-        .about(
-            "Runs the script on standard input over a policy, and writes a picture of the run, an SVG page",
-        )
-        .arg(policy_file(alloc))?
-        .arg(further_files(alloc))?
-        .arg(audit_places(alloc))?
-        .arg(first_entry(alloc))?
-        .arg(last_entry(alloc))?
-        .arg(drawn_journal(alloc))?
-        .arg(explaining(alloc))?;
-    Ok(picture)
+    described(
+        alloc,
+        PICTURE,
+        "Runs the script on standard input over a policy, and writes a picture of the run, an SVG page",
+        &PICTURE_ARGUMENTS,
+    )
 }
 
+// The command that reads a kernel's text.
 fn kernel_command<'a>(alloc: Global) -> Result<Command<'a>, Error> {
-    let kernel = Command::new(alloc, KERNEL)
-        .about(
-            "Reads and checks a kernel's text, and lists its kernels with their layout and steps",
-        )
-        .arg(kernel_file(alloc))?
-        .arg(explaining(alloc))?;
-    Ok(kernel)
+    described(
+        alloc,
+        KERNEL,
+        "Reads and checks a kernel's text, and lists its kernels with their layout and steps",
+        &KERNEL_ARGUMENTS,
+    )
 }
 
+// The command that assembles a script.
 fn assemble_command<'a>(alloc: Global) -> Result<Command<'a>, Error> {
-    let assemble = Command::new(alloc, ASSEMBLE)
-        .about("Turns a script with readable packets, on standard input, into one that run takes")
-        .arg(policy_file(alloc))?
-        .arg(explaining(alloc))?;
-    Ok(assemble)
+    described(
+        alloc,
+        ASSEMBLE,
+        "Turns a script with readable packets, on standard input, into one that run takes",
+        &ASSEMBLE_ARGUMENTS,
+    )
 }
 
+// The command that replays a journal.
+fn replay_command<'a>(alloc: Global) -> Result<Command<'a>, Error> {
+    described(
+        alloc,
+        REPLAY,
+        "Replays the journal on standard input, and tells whether it is a legal history",
+        &REPLAY_ARGUMENTS,
+    )
+}
+
+// The command that tells what a word means.
 fn explain_command<'a>(alloc: Global) -> Result<Command<'a>, Error> {
-    let explain = Command::new(alloc, EXPLAIN)
-        .about(
-            "Tells what a rule, a refusal or a cause of a fault means, or what happened in a journal",
-        )
-        .arg(explained_word(alloc))?
-        .arg(policies_behind(alloc))?
-        .arg(told_journal(alloc))?;
-    Ok(explain)
+    described(
+        alloc,
+        EXPLAIN,
+        "Tells what a rule, a refusal or a cause of a fault means, or what happened in a journal",
+        &EXPLAIN_ARGUMENTS,
+    )
 }
 
-fn packet_digits<'a>(alloc: Global) -> Arg<'a> {
-    Arg::new(alloc, DIGITS)
-        .num_args(0..=MOST_PARTS)
-        .action(ArgAction::Append)
-        .help("The 128 hexadecimal digits of a packet, with blanks between them or without")
-}
-
-fn slots_file<'a>(alloc: Global) -> Arg<'a> {
-    Arg::new(alloc, SLOTS)
-        .long(SLOTS)
-        .value_name("FILE")
-        .action(ArgAction::Set)
-        .help("Reads in their place the slots of a ring, 64 bytes each, from a file")
-}
-
+// The command that tells the fields of a packet.
 fn decode_command<'a>(alloc: Global) -> Result<Command<'a>, Error> {
-    let decode = Command::new(alloc, DECODE)
-        .about(
-            "Tells a packet's 64 bytes field by field, and the first of L1 to L3 that they break",
-        )
-        .arg(packet_digits(alloc))?
-        .arg(slots_file(alloc))?
-        .arg(explaining(alloc))?;
-    Ok(decode)
+    described(
+        alloc,
+        DECODE,
+        "Tells a packet's 64 bytes field by field, and the first of L1 to L3 that they break",
+        &DECODE_ARGUMENTS,
+    )
 }
 
-fn producer_count<'a>(alloc: Global) -> Arg<'a> {
-    Arg::new(alloc, PRODUCERS)
-        .long(PRODUCERS)
-        .value_name("N")
-        .required(true)
-        .action(ArgAction::Set)
-        .value_parser(ValueParser::Unsigned(1, MOST_PRODUCERS))
-        .help("How many producers each queue has, 1 to 16")
-}
-
-fn packet_count<'a>(alloc: Global) -> Arg<'a> {
-    Arg::new(alloc, PACKETS)
-        .long(PACKETS)
-        .value_name("N")
-        .action(ArgAction::Set)
-        .value_parser(ValueParser::Unsigned(1, MOST_PACKETS))
-        .help("How many packets each producer publishes, 1 to 1000000; 8 if not given")
-}
-
-fn load_journal<'a>(alloc: Global) -> Arg<'a> {
-    Arg::new(alloc, JOURNAL)
-        .long(JOURNAL)
-        .value_name("FILE")
-        .action(ArgAction::Set)
-        .help("Writes the history into this file as it goes, for `replay`")
-}
-
+// The command that runs a load of threads.
 fn threads_command<'a>(alloc: Global) -> Result<Command<'a>, Error> {
-    let threads = Command::new(alloc, THREADS)
-        .about("Runs producers and lanes on threads over a policy, and reports what came of it")
-        .arg(policy_file(alloc))?
-        .arg(producer_count(alloc))?
-        .arg(packet_count(alloc))?
-        .arg(load_journal(alloc))?
-        .arg(explaining(alloc))?;
-    Ok(threads)
+    described(
+        alloc,
+        THREADS,
+        "Runs producers and lanes on threads over a policy, and reports what came of it",
+        &THREADS_ARGUMENTS,
+    )
 }
 
-// The program with one of its commands.
-fn with_check<'a>(alloc: Global, further: &'a str) -> Result<Command<'a>, Error> {
-    let check = check_command(alloc)?;
-    let program = Command::new(alloc, "brokerd")
-        .about("A broker for user-mode queues")
+// A command as clap has it.
+fn command<'a>(alloc: Global, which: Which) -> Result<Command<'a>, Error> {
+    match which {
+        Which::Check => check_command(alloc),
+        Which::Run => run_command(alloc),
+        Which::Picture => picture_command(alloc),
+        Which::Kernel => kernel_command(alloc),
+        Which::Assemble => assemble_command(alloc),
+        Which::Replay => replay_command(alloc),
+        Which::Explain => explain_command(alloc),
+        Which::Decode => decode_command(alloc),
+        Which::Threads => threads_command(alloc),
+    }
+}
+
+// A program with one command more.
+fn with<'a>(alloc: Global, program: Command<'a>, which: Which) -> Result<Command<'a>, Error> {
+    match command(alloc, which) {
+        Ok(command) => with_command(program, command),
+        Err(error) => Err(error),
+    }
+}
+
+// A program with these commands more, in their order.
+fn with_commands<'a>(
+    alloc: Global,
+    program: Command<'a>,
+    commands: &[Which],
+) -> Result<Command<'a>, Error> {
+    let mut program = program;
+    for which in commands {
+        program = with(alloc, program, *which)?;
+    }
+    Ok(program)
+}
+
+// The program without commands, and what its help says below them.
+fn without_commands<'a>(alloc: Global, further: &'a str) -> Command<'a> {
+    named(alloc, "brokerd", "A broker for user-mode queues")
         .version(VERSION)
         .after_help(further)
         .subcommand_required(true)
-        .subcommand(check)?;
-    Ok(program)
-}
-
-// The program with its commands on policies.
-fn with_run<'a>(alloc: Global, further: &'a str) -> Result<Command<'a>, Error> {
-    let run = run_command(alloc)?;
-    let program = with_check(alloc, further)?.subcommand(run)?;
-    Ok(program)
-}
-
-// With the one that draws a run, too.
-fn with_picture<'a>(alloc: Global, further: &'a str) -> Result<Command<'a>, Error> {
-    let picture = picture_command(alloc)?;
-    let program = with_run(alloc, further)?.subcommand(picture)?;
-    Ok(program)
-}
-
-// With those that read a kernel's text or a readable script, too.
-fn with_authoring<'a>(alloc: Global, further: &'a str) -> Result<Command<'a>, Error> {
-    let kernel = kernel_command(alloc)?;
-    let assemble = assemble_command(alloc)?;
-    let program = with_picture(alloc, further)?
-        .subcommand(kernel)?
-        .subcommand(assemble)?;
-    Ok(program)
 }
 
 /// The program with its commands, and what its help says below them.
 pub fn program<'a>(alloc: Global, further: &'a str) -> Result<Command<'a>, Error> {
-    let explain = explain_command(alloc)?;
-    let decode = decode_command(alloc)?;
-    let threads = threads_command(alloc)?;
-    let replay = replay_command(alloc)?;
-    let program = with_authoring(alloc, further)?
-        .subcommand(replay)?
-        .subcommand(explain)?
-        .subcommand(decode)?
-        .subcommand(threads)?;
-    Ok(program)
+    with_commands(alloc, without_commands(alloc, further), &DESCRIBED)
 }
