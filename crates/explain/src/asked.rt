@@ -8,7 +8,7 @@ use script::Command;
 use world::Request;
 
 /// What a line asks, without its bytes (own).
-#[derive(Clone, Copy, Debug, PartialEq, Eq)]
+#[derive(Clone, Copy)]
 pub enum Asked {
     /// To give or to take rights.
     Rights {
@@ -68,7 +68,7 @@ pub enum Asked {
 }
 
 /// What is done to a packet.
-#[derive(Clone, Copy, Debug, PartialEq, Eq)]
+#[derive(Clone, Copy, PartialEq, Eq)]
 pub enum Verb {
     Run,
     Poll,

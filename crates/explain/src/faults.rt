@@ -15,7 +15,7 @@ use queue_error::{FaultPlace, QueueError, Rule, SegmentAddress};
 use std::alloc::{AllocError, Global};
 
 /// What an instruction does to memory.
-#[derive(Clone, Copy, Debug, PartialEq, Eq)]
+#[derive(Clone, Copy)]
 enum Reach {
     /// It loads from a region.
     Load(u32),

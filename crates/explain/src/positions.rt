@@ -5,14 +5,14 @@ use toml_parser::text::{skip_blank, skip_ws};
 use toml_parser::{ParseError, dotted_key, quoted, starts_string};
 
 /// A line and a column of a text, both from 1; a column counts bytes.
-#[derive(Clone, Copy, Debug, PartialEq, Eq)]
+#[derive(Clone, Copy)]
 pub struct Position {
     pub line: u32,
     pub column: u32,
 }
 
 /// A place in a file, as far as it is known.
-#[derive(Clone, Copy, Debug, PartialEq, Eq)]
+#[derive(Clone, Copy)]
 pub enum Place {
     Unknown,
     Line(u32),

@@ -10,7 +10,7 @@ use ring_core::{RingState, SeatPart};
 use std::alloc::AllocError;
 
 /// How a ring's ids stand that aren't retired.
-#[derive(Clone, Copy, Debug, PartialEq, Eq)]
+#[derive(Clone, Copy)]
 pub struct Standing {
     /// The id at the head.
     pub head: u64,
