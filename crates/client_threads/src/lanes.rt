@@ -244,7 +244,6 @@ fn run_any<B: Room + Send + Sync, R: Threads + Wait + Sync, G: Gate + Sync>(
 /// memory of its own. The lanes come back in the order in which they were handed in, each of its queue and ring; what each
 /// served begins with what it had served, and stands, in order, among what the core took by the states that the lane has
 /// seen. What they had handed over stays so: parts that were settled with them still are.
-#[tactic(auto, using(crate::proofs::GoingOn::all_still_of))]
 pub fn run_lanes<B: Room + Send + Sync, R: Threads + Wait + Sync, G: Gate + Sync>(
     rt: &R,
     alloc: Global,

@@ -1,5 +1,10 @@
+use Rattle.client_threads.proofs.GoingOn.{all_still_of}
 use Rattle.client_threads.proofs.HandingOver.{still_settled}
 use Rattle.client_threads.proofs.lanes.run_lanes.Goals as goal
+
+pub returns-clause-lanes : goal.returns-clause-lanes
+returns-clause-lanes g c =
+    all_still_of g.B.Room.board c.args.broker.now c.args.lanes.items c.run_any.result.items c.run_any.ensures.count c.run_any.ensures.each
 
 pub returns-clause-settled : goal.returns-clause-settled
 returns-clause-settled g c parts settled =
