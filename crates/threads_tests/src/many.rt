@@ -1,7 +1,9 @@
 //! Sixteen producers on four queues, and 100,000 packets.
 
-ghost use Rattle.std.specs.Prelude.{◌≡◌, ◌<◌, All, length};
+ghost use Rattle.std.specs.Prelude.{◌≡◌, ◌<◌, List, All, length};
 ghost use Rattle.std.specs.Thread.{IsSend, IsSync};
+ghost use Rattle.core_model.specs.History.{Part};
+ghost use Rattle.client_threads.specs.HandedOver.{AreSettledWith};
 ghost use Rattle.client_threads.specs.Running.{IsEndOf, IsLaneOf};
 ghost use Rattle.threads_load.specs.Stages.{EachStaysOf, IsStage};
 
@@ -77,7 +79,8 @@ fn run_all<B: Room + Send + Sync, R: Threads + Wait + Sync>(
     lanes: Vec<Lane>,
 ) -> Vec<Lane>
     requires { All (λ lane. IsLaneOf B.board broker.now lane) lanes.items }
-    ensures { All (λ lane. IsLaneOf B.board broker.now lane) result.items }
+    ensures lanes { All (λ lane. IsLaneOf B.board broker.now lane) result.items }
+    ensures settled { (parts : List Part) → AreSettledWith parts lanes.items → AreSettledWith parts result.items }
 {
     run_lanes(rt, alloc, broker, lanes, gate)
 }
@@ -95,6 +98,7 @@ fn run_both<B: Room + Send + Sync, R: Threads + Wait + Sync>(
     requires lanes { All (λ lane. IsLaneOf B.board broker.now lane) lanes.items }
     ensures ends { All (λ end. IsEndOf broker.now end) result.0.items }
     ensures lanes { All (λ lane. IsLaneOf B.board broker.now lane) result.1.items }
+    ensures settled { (parts : List Part) → AreSettledWith parts lanes.items → AreSettledWith parts result.1.items }
 {
     thread::join(
         rt,
@@ -104,7 +108,7 @@ fn run_both<B: Room + Send + Sync, R: Threads + Wait + Sync>(
         { publish_from_all(rt, broker, gate, ends) },
         move || -> Vec<Lane>
             requires { IsSend B.row × IsSync B.row × IsSync R.row × All (λ lane. IsLaneOf B.board broker.now lane) lanes.items }
-            ensures { All (λ lane. IsLaneOf B.board broker.entry.now lane) result.items }
+            ensures { All (λ lane. IsLaneOf B.board broker.entry.now lane) result.items × ((parts : List Part) → AreSettledWith parts lanes.items → AreSettledWith parts result.items) }
         { run_all(rt, alloc, broker, gate, lanes) },
     )
 }
