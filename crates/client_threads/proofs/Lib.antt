@@ -12,6 +12,7 @@ pub mod Differences
 pub mod Lasts
 pub mod Opened
 pub mod Pendings
+pub mod Unfinished
 pub mod Ends
 pub mod Readiness
 pub mod EndsOf

@@ -28,7 +28,11 @@ pub first_removed : (pending : List PendingPacket) (p : PendingPacket) → 0 < l
 first_removed [] p lt is = absurd (omega (arith, lt))
 first_removed (q ∷ qs) p lt is = ap (λ x. x ∷ qs) (sym is)
 
-module _ (queue : QueueId) (pass : ProcessorSeen) (kept : List Served) (handed : ℕ) (front : PassSeen) (p : PendingPacket) (rest : List PendingPacket) where
+-- what is kept of the same packet
+abbrev pub IsSame : PendingPacket → PendingPacket → Type 0
+IsSame q p = (q.id ≡ p.id) × (q.is_barrier ≡ p.is_barrier)
+
+module _ (queue : QueueId) (pass : ProcessorSeen) (kept : List Served) (handed : ℕ) (front : PassSeen) (p q : PendingPacket) (same : IsSame q p) (rest : List PendingPacket) where
   others : {X : Type 0} (P : X → Type 0) (x : X) (xs : List X) → All P (x ∷ xs) → All P xs
   others P x xs h k d lt = h (suc k) d (omega (arith, lt))
 
@@ -45,20 +49,22 @@ module _ (queue : QueueId) (pass : ProcessorSeen) (kept : List Served) (handed :
   left_keeps h = keeps_so rest (others (λ id. id.0 < length (served_of_pass pass)) p.id (ids_of rest) h.lane.pending) (others (IsOfItsKind (served_of_pass pass)) p rest h.kinds) h
 
   -- or goes last
-  pub turned_keeps : Keeps queue pass kept handed (p ∷ rest) front → Keeps queue pass kept handed (rest ++ p ∷ []) front
+  pub turned_keeps : Keeps queue pass kept handed (p ∷ rest) front → Keeps queue pass kept handed (rest ++ q ∷ []) front
   turned_keeps h =
       let kept_below = others (λ id. id.0 < length (served_of_pass pass)) p.id (ids_of rest) h.lane.pending in
-      keeps_so (rest ++ p ∷ [])
-      (subst (All (λ id. id.0 < length (served_of_pass pass))) (sym (map_push (λ (q : PendingPacket). q.id) rest p)) (All-push (λ id. id.0 < length (served_of_pass pass)) (ids_of rest) p.id kept_below (h.lane.pending zero p.id (omega arith))))
-      (All-push (IsOfItsKind (served_of_pass pass)) rest p (others (IsOfItsKind (served_of_pass pass)) p rest h.kinds) (h.kinds zero p (omega arith))) h
+      let below = subst (λ (id : PacketId). id.0 < length (served_of_pass pass)) (sym same.0) (h.lane.pending zero p.id (omega arith)) in
+      let kind : IsOfItsKind (served_of_pass pass) q = same.1 ∙ (h.kinds zero p (omega arith) ∙ ap (served_barrier (served_of_pass pass)) (sym same.0)) in
+      keeps_so (rest ++ q ∷ [])
+      (subst (All (λ id. id.0 < length (served_of_pass pass))) (sym (map_push (λ (one : PendingPacket). one.id) rest q)) (All-push (λ id. id.0 < length (served_of_pass pass)) (ids_of rest) q.id kept_below below))
+      (All-push (IsOfItsKind (served_of_pass pass)) rest q (others (IsOfItsKind (served_of_pass pass)) p rest h.kinds) kind) h
 
-  ids_after : (stays : Bool) → ids_of (if stays then rest else rest ++ p ∷ []) ≡ (if stays then ids_of rest else ids_of rest ++ p.id ∷ [])
+  ids_after : (leaves : Bool) → ids_of (if leaves then rest else rest ++ q ∷ []) ≡ (if leaves then ids_of rest else ids_of rest ++ p.id ∷ [])
   ids_after true = refl
-  ids_after false = map_push (λ (q : PendingPacket). q.id) rest p
+  ids_after false = map_push (λ (one : PendingPacket). one.id) rest q ∙ ap (λ (id : PacketId). ids_of rest ++ id ∷ []) same.0
 
   -- the packet was advanced by its last call
   pub is_advanced : (before after : History) (event : Event) (reply : Result Outcome Refusal) (result : Advanced) (more : List PendingPacket)
-      → Keeps queue pass kept handed (p ∷ rest) front → IsLastCall before queue p.id p.is_barrier event reply → MeetsOrLacks event before after reply → result ≡ told p.id reply → more ≡ (if leaves reply then rest else rest ++ p ∷ [])
+      → Keeps queue pass kept handed (p ∷ rest) front → IsLastCall before queue p.id p.is_barrier event reply → MeetsOrLacks event before after reply → result ≡ told p.id reply → more ≡ (if leaves reply then rest else rest ++ q ∷ [])
       → IsAdvanced (seen_as queue pass kept (p ∷ rest) front) before result (seen_as queue pass kept more front) after
   is_advanced before after event reply result more h last met told_is are =
       let kind : p.is_barrier ≡ served_barrier (served_of_pass pass) p.id = h.kinds zero p (omega arith) in
@@ -96,7 +102,7 @@ advances old before (advanced.Refused p why) new after id reply is h = h
 
 -- ---- by the steps of the code
 
-module _ (queue : QueueId) (pass : ProcessorSeen) (kept : List Served) (handed : ℕ) (front : PassSeen) (old removed : List PendingPacket) (p : PendingPacket)
+module _ (queue : QueueId) (pass : ProcessorSeen) (kept : List Served) (handed : ℕ) (front : PassSeen) (old removed : List PendingPacket) (p q : PendingPacket) (same : IsSame q p)
     (keeps : Keeps queue pass kept handed old front) (some : 0 < length old) (first : p ≡ slice_index_or old 0 p) (are : removed ≡ remove old 0) where
   parted : old ≡ p ∷ removed
   parted = first_removed old p some first ∙ ap (λ (ps : List PendingPacket). p ∷ ps) (sym are)
@@ -105,15 +111,15 @@ module _ (queue : QueueId) (pass : ProcessorSeen) (kept : List Served) (handed :
   keeps_first = subst (λ (ps : List PendingPacket). Keeps queue pass kept handed ps front) parted keeps
 
   pub left_so : Keeps queue pass kept handed removed front
-  left_so = left_keeps queue pass kept handed front p removed keeps_first
+  left_so = left_keeps queue pass kept handed front p q same removed keeps_first
 
-  pub turned_so : (new : List PendingPacket) → new ≡ removed ++ p ∷ [] → Keeps queue pass kept handed new front
-  turned_so new is = subst (λ (ps : List PendingPacket). Keeps queue pass kept handed ps front) (sym is) (turned_keeps queue pass kept handed front p removed keeps_first)
+  pub turned_so : (new : List PendingPacket) → new ≡ removed ++ q ∷ [] → Keeps queue pass kept handed new front
+  turned_so new is = subst (λ (ps : List PendingPacket). Keeps queue pass kept handed ps front) (sym is) (turned_keeps queue pass kept handed front p q same removed keeps_first)
 
   pub advances_so : (before after : History) (event : Event) (reply : Result Outcome Refusal) (result : Advanced) (more : List PendingPacket)
-      → IsLastCall before queue p.id p.is_barrier event reply → MeetsOrLacks event before after reply → result ≡ told p.id reply → more ≡ (if leaves reply then removed else removed ++ p ∷ [])
+      → IsLastCall before queue p.id p.is_barrier event reply → MeetsOrLacks event before after reply → result ≡ told p.id reply → more ≡ (if leaves reply then removed else removed ++ q ∷ [])
       → AdvancesTo (seen_as queue pass kept old front) before result (seen_as queue pass kept more front) after
   advances_so before after event reply result more last met told_is is =
       subst (λ (ps : List PendingPacket). AdvancesTo (seen_as queue pass kept ps front) before result (seen_as queue pass kept more front) after) (sym parted)
       (advances (seen_as queue pass kept (p ∷ removed) front) before result (seen_as queue pass kept more front) after p.id reply told_is
-      (is_advanced queue pass kept handed front p removed before after event reply result more keeps_first last met told_is is))
+      (is_advanced queue pass kept handed front p q same removed before after event reply result more keeps_first last met told_is is))

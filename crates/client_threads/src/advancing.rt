@@ -5,6 +5,7 @@ ghost use Rattle.aql_packet.specs.Reading.{decoded, packet_type};
 ghost use Rattle.core_model.specs.Legal.{MeetsOrLacks};
 ghost use Rattle.core_model.specs.declared.event.Event.{Event};
 ghost use Rattle.client_threads.specs.Advancing.{AdvancesTo, IsLastCall, has_barrier_type, is_some_barrier, leaves, next_call, told};
+ghost use Rattle.client_threads.specs.inner.Turns.{RunsTo};
 
 use crate::lane::Lane;
 use crate::pending::PendingPacket;
@@ -44,7 +45,7 @@ pub fn advance_one(alloc: Global, lane: &mut Lane, core: &mut AccessCore) -> Adv
     let packet = lane.pending.remove(0);
     let reply = call(alloc, core, lane.queue, packet);
     if !leaves(&reply) {
-        lane.pending.push_reserved(packet);
+        lane.pending.push_reserved(left_by(packet, &reply));
     }
     told(packet.id, reply)
 }
@@ -73,6 +74,14 @@ pub(crate) fn lays_out_barrier(bytes: &[u8; 64]) -> bool
     if !has_barrier_type(bytes) {
         return false;
     }
+    decodes_to_barrier(bytes)
+}
+
+// Whether bytes are decoded to a barrier packet.
+#[inline(never)]
+fn decodes_to_barrier(bytes: &[u8; 64]) -> bool
+    ensures { result ≡ is_some_barrier (decoded bytes.now) }
+{
     match decode(bytes) {
         Err(_) => false,
         Ok(Packet::BarrierAnd(_)) => true,
@@ -82,8 +91,45 @@ pub(crate) fn lays_out_barrier(bytes: &[u8; 64]) -> bool
     }
 }
 
-// Finishes a packet or, where its work isn't done, polls it or runs its next group.
+// Runs the next group of a packet that has one, as far as its lane knows. Another is finished or, where its work isn't done,
+// polled, or its next group is run.
 fn call(
+    alloc: Global,
+    core: &mut AccessCore,
+    queue: QueueId,
+    packet: PendingPacket,
+) -> Result<Outcome, Refusal>
+    ensures { (event : Event) × IsLastCall core.old.history queue packet.id packet.is_barrier event result × MeetsOrLacks event core.old.history core.new.history result }
+{
+    if !packet.is_barrier && packet.has_work {
+        if let Some(reply) = run(alloc, core, queue, packet.id) {
+            return reply;
+        }
+    }
+    finish_or_next(alloc, core, queue, packet)
+}
+
+// Runs the next group of a packet. Answers what it was told, if the group ran, faulted or wanted memory: the packet's work
+// wasn't done then.
+fn run(
+    alloc: Global,
+    core: &mut AccessCore,
+    queue: QueueId,
+    id: PacketId,
+) -> Option<Result<Outcome, Refusal>>
+    ensures { RunsTo queue id core.old.history result core.new.history }
+{
+    match core.run_next(alloc, queue, id) {
+        Ok(Worked::Ran { group, left }) => Some(Ok(Outcome::Worked(Worked::Ran { group, left }))),
+        Ok(Worked::Faulted(error)) => Some(Ok(Outcome::Worked(Worked::Faulted(error)))),
+        Ok(Worked::Done) => None,
+        Err(Refusal::OutOfMemory) => Some(Err(Refusal::OutOfMemory)),
+        Err(_) => None,
+    }
+}
+
+// Finishes a packet or, where its work isn't done, polls it or runs its next group.
+fn finish_or_next(
     alloc: Global,
     core: &mut AccessCore,
     queue: QueueId,
@@ -133,6 +179,17 @@ fn leaves(reply: &Result<Outcome, Refusal>) -> bool
         Err(Refusal::NotInFlight) => true,
         Err(_) => false,
     }
+}
+
+// A packet that stays pending after this reply.
+fn left_by(packet: PendingPacket, reply: &Result<Outcome, Refusal>) -> PendingPacket
+    ensures { (result.id ≡ packet.id) × (result.is_barrier ≡ packet.is_barrier) }
+{
+    let has_work = match reply {
+        Ok(Outcome::Worked(Worked::Ran { left, .. })) => *left != 0,
+        _ => packet.has_work,
+    };
+    PendingPacket { has_work, ..packet }
 }
 
 // What is told of the reply.

@@ -15,9 +15,12 @@ use crate::serving::{ServeAnswer, serve_shown};
 use access_core::AccessCore;
 use ring::{Peeked, Ring};
 use std::alloc::Global;
-use std::sync::Wait;
+use std::sync::{MutexGuard, Wait};
 use std::thread;
 use std::thread::Threads;
+
+/// How often a lane looks whether the lock is free before it sleeps.
+const LOOKS: u32 = 64;
 
 /// What a lane did in one turn.
 #[derive(Clone, Copy, Debug, PartialEq, Eq)]
@@ -119,6 +122,18 @@ impl<B: Room> Held<B> {
 }
 
 impl<B: Room> Broker<B> {
+    // What lies under the lock, for a turn. A section is short, so a lane that finds it taken looks again for a while
+    // before it sleeps.
+    fn hold<R: Wait>(&self, rt: &R) -> MutexGuard<'_, Held<B>> {
+        for _look in 0..LOOKS {
+            if let Some(guard) = self.held.try_lock() {
+                return guard;
+            }
+            thread::yield_now();
+        }
+        self.held.lock(rt)
+    }
+
     // One turn of a lane that has something to do.
     fn turn_locked<R: Wait>(
         &self,
@@ -133,7 +148,7 @@ impl<B: Room> Broker<B> {
         requires lane { IsLaneOf B.board self.now lane.old }
         ensures { KeepsOn B.board self.now lane.old lane.new }
     {
-        let mut guard = self.held.lock(rt);
+        let mut guard = self.hold(rt);
         let held = &mut *guard;
         held.turn(alloc, &self.board, lane, ring, found)
     }

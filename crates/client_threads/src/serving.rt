@@ -1,6 +1,6 @@
 //! A lane hands the next packet to the core.
 
-ghost use Rattle.std.specs.Prelude.{◌≡◌};
+ghost use Rattle.std.specs.Prelude.{◌≡◌, true};
 ghost use Rattle.ring.specs.Showing.{IsShownBy};
 ghost use Rattle.aql_packet.specs.Reading.{decoded};
 ghost use Rattle.client_threads.specs.Advancing.{is_some_barrier};
@@ -80,11 +80,12 @@ pub(crate) fn serve_shown(
 
 // A packet that was shown, as one that is pending.
 fn pending(shown: &Shown) -> PendingPacket
-    ensures { result ≡ record { id = shown.now.id; is_barrier = is_some_barrier (decoded shown.now.bytes) } }
+    ensures { result ≡ record { id = shown.now.id; is_barrier = is_some_barrier (decoded shown.now.bytes); has_work = true } }
 {
     PendingPacket {
         id: shown.id,
         is_barrier: lays_out_barrier(&shown.bytes),
+        has_work: true,
     }
 }
 

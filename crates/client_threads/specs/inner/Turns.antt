@@ -1,6 +1,7 @@
 -- What a lane's turn does to it, and to the core.
-use Rattle.std.specs.Prelude.{◌≡◌, ◌⊎◌, ◌++◌, ◌∷◌, [], List, length, Result, Ok, Err, ⊤}
+use Rattle.std.specs.Prelude.{◌≡◌, ◌⊎◌, ◌++◌, ◌∷◌, [], List, length, Option, Some, None, Result, Ok, Err, ⊤}
 use Rattle.aql_packet.specs.declared.ids.PacketId.{PacketId}
+use Rattle.aql_packet.specs.declared.ids.QueueId.{QueueId}
 use Rattle.atomic_table.specs.Seated.{TableId}
 use Rattle.policy.specs.Results.{map_ok}
 use Rattle.ring.specs.declared.processor.Shown.{Shown}
@@ -10,8 +11,11 @@ use Rattle.ring.specs.Made.{retiring}
 use Rattle.ring.specs.Passes.{ProcessorSeen, RingSeen}
 use Rattle.ring.specs.Showing.{IsShownBy, ProcessorGains}
 use Rattle.core_model.specs.History.{History}
-use Rattle.core_model.specs.Legal.{Meets}
+use Rattle.core_model.specs.Legal.{Meets, MeetsOrLacks}
+use Rattle.core_model.specs.declared.call.Call.TheVariants.{Finish, RunNext}
 use Rattle.core_model.specs.declared.entry.Entry.{Entry}
+use Rattle.core_model.specs.declared.event.Event.TheVariants.{Call}
+use Rattle.core_model.specs.declared.outcome.Outcome.{Outcome}
 use Rattle.core_model.specs.declared.outcome.Outcome.TheVariants as outcome
 use Rattle.core_model.specs.declared.outcome.Taken.{Taken}
 use Rattle.core_model.specs.declared.outcome.Taken.TheVariants as taken
@@ -61,6 +65,13 @@ HandsTo ring shown old before (Launched id) new after = (shown.id ≡ id) × IsH
 HandsTo ring shown old before (Denied error) new after = IsHanded ring shown old before (taken.Denied error) old.pending new after
 HandsTo ring shown old before (Waiting id cause) new after = (shown.id ≡ id) × IsKeptBack shown old before (Ok (taken.Waiting cause)) new after
 HandsTo ring shown old before (Refused id why) new after = (shown.id ≡ id) × IsKeptBack shown old before (Err why) new after
+
+-- what the next group of a packet was told, if it ran, faulted or wanted memory: the packet couldn't be finished before; else all stays
+abbrev pub RunsTo : QueueId → PacketId → History → Option (Result Outcome Refusal) → History → Type 0
+RunsTo queue id before None after = after ≡ before
+RunsTo queue id before (Some reply) after =
+    MeetsOrLacks (Call (RunNext queue id)) before after reply
+    × Meets (Call (Finish queue id)) before before (Err refusal.NotFinished)
 
 -- a lane looked, and all stays but what its pass knows
 pub record Looks (old new : LaneSeen) : Type 0 where
