@@ -9,7 +9,7 @@ use Rattle.aql_packet.specs.declared.packet.Packet.TheVariants as packet
 use Rattle.executor.specs.Results.{GroupResult, broke_rule, group_result, wrote}
 use Rattle.core_model.specs.Flight.{in_flight, progress}
 use Rattle.core_model.specs.History.{History, Start, beginning}
-use Rattle.core_model.specs.Legal.{Meets, MeetsOrLacks, due, history_after, lacks_room, entry_of, may_lack_memory, reply_of, within_room}
+use Rattle.core_model.specs.Legal.{Meets, MeetsOrLacks, due, history_after, lacks_room, entry_of, reply_of, within_room}
 use Rattle.core_model.specs.Memory.{signals}
 use Rattle.core_model.specs.Owed.{Owed, answers, enters, refuses, group_owed, owed, owed_finish, owed_group}
 use Rattle.core_model.specs.Queues.{owner}
@@ -104,20 +104,3 @@ module _ (queue : QueueId) (id : PacketId) (before after : History) where
   pub done_leaves : MeetsOrLacks run before after (Ok (outcome.Worked worked.Done)) → after ≡ before
   done_leaves (inl h) = leaves_by_parts _ _ h.reply_is h.history_is (parts_of (beginning before) before.entries queue id)
   done_leaves (inr h) = let e = h.reply_is in absurd cc
-
-  met_by_parts : (owing other : Owed) → owed (beginning before) before.entries finish ≡ other → Err refusal.OutOfMemory ≡ reply_of (within_room before run owing) → Parts owing other → Meets finish before before (Err refusal.NotFinished)
-  met_by_parts owing other is e (inl (inl s)) = let t : Err refusal.OutOfMemory ≡ reply_of (within_room before run (refuses refusal.UnknownQueue)) = e ∙ ap (λ o. reply_of (within_room before run o)) s in absurd cc
-  met_by_parts owing other is e (inl (inr s)) = let t : Err refusal.OutOfMemory ≡ reply_of (within_room before run (refuses refusal.NotInFlight)) = e ∙ ap (λ o. reply_of (within_room before run o)) s in absurd cc
-  met_by_parts owing other is e (inr (inl s)) = let t : Err refusal.OutOfMemory ≡ reply_of (within_room before run (answers (outcome.Worked worked.Done))) = e ∙ ap (λ o. reply_of (within_room before run o)) s in absurd cc
-  met_by_parts owing other is e (inr (inr (told, effects, s, not, refused))) = finish_refused (is ∙ refused)
-
-  lacks_by_parts : (owing other : Owed) → owed (beginning before) before.entries finish ≡ other → may_lack_memory run (within_room before run owing) ≡ true → Parts owing other → Meets finish before before (Err refusal.NotFinished)
-  lacks_by_parts owing other is may (inl (inl s)) = let t : may_lack_memory run (within_room before run (refuses refusal.UnknownQueue)) ≡ true = sym (ap (λ o. may_lack_memory run (within_room before run o)) s) ∙ may in absurd cc
-  lacks_by_parts owing other is may (inl (inr s)) = let t : may_lack_memory run (within_room before run (refuses refusal.NotInFlight)) ≡ true = sym (ap (λ o. may_lack_memory run (within_room before run o)) s) ∙ may in absurd cc
-  lacks_by_parts owing other is may (inr (inl s)) = let t : may_lack_memory run (within_room before run (answers (outcome.Worked worked.Done))) ≡ true = sym (ap (λ o. may_lack_memory run (within_room before run o)) s) ∙ may in absurd cc
-  lacks_by_parts owing other is may (inr (inr (told, effects, s, not, refused))) = finish_refused (is ∙ refused)
-
-  -- where a group wanted memory, the packet wasn't finished
-  pub wanting : MeetsOrLacks run before after (Err refusal.OutOfMemory) → Meets finish before before (Err refusal.NotFinished)
-  wanting (inl h) = met_by_parts _ _ refl h.reply_is (parts_of (beginning before) before.entries queue id)
-  wanting (inr h) = lacks_by_parts _ _ refl h.may (parts_of (beginning before) before.entries queue id)

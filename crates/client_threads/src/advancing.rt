@@ -102,28 +102,21 @@ fn call(
     ensures { (event : Event) × IsLastCall core.old.history queue packet.id packet.is_barrier event result × MeetsOrLacks event core.old.history core.new.history result }
 {
     if !packet.is_barrier && packet.has_work {
-        if let Some(reply) = run(alloc, core, queue, packet.id) {
-            return reply;
+        if let Some(worked) = run(alloc, core, queue, packet.id) {
+            return Ok(Outcome::Worked(worked));
         }
     }
     finish_or_next(alloc, core, queue, packet)
 }
 
-// Runs the next group of a packet. Answers what it was told, if the group ran, faulted or wanted memory: the packet's work
-// wasn't done then.
-fn run(
-    alloc: Global,
-    core: &mut AccessCore,
-    queue: QueueId,
-    id: PacketId,
-) -> Option<Result<Outcome, Refusal>>
+// Runs the next group of a packet. Answers what became of it, if it ran or faulted: the packet's work wasn't done then.
+fn run(alloc: Global, core: &mut AccessCore, queue: QueueId, id: PacketId) -> Option<Worked>
     ensures { RunsTo queue id core.old.history result core.new.history }
 {
     match core.run_next(alloc, queue, id) {
-        Ok(Worked::Ran { group, left }) => Some(Ok(Outcome::Worked(Worked::Ran { group, left }))),
-        Ok(Worked::Faulted(error)) => Some(Ok(Outcome::Worked(Worked::Faulted(error)))),
+        Ok(Worked::Ran { group, left }) => Some(Worked::Ran { group, left }),
+        Ok(Worked::Faulted(error)) => Some(Worked::Faulted(error)),
         Ok(Worked::Done) => None,
-        Err(Refusal::OutOfMemory) => Some(Err(Refusal::OutOfMemory)),
         Err(_) => None,
     }
 }

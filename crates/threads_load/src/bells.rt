@@ -37,16 +37,18 @@ fn wait<B: Room, R: Wait>(rt: &R, broker: &Broker<B>, lane: u32) {
 
 impl<B: Room, R: Wait> Gate for BellGate<'_, B, R> {
     fn enter(&self, lane: u32, turn: u64) -> bool {
-        if self.gate.is_to_wait(lane) {
+        let Some(tally) = self.gate.tally(lane) else {
+            return false;
+        };
+        if self.gate.is_to_wait(tally) {
             wait(self.rt, self.broker, lane);
-            self.gate.wake(lane);
+            tally.wake();
         }
-        self.gate.enter(lane, turn)
+        self.gate.lets_in(tally, turn)
     }
 
     fn leave(&self, lane: u32, turn: u64, done: LaneAnswer) {
-        self.gate.leave(lane, turn, done);
-        if self.gate.is_round_over() {
+        if self.gate.reckon(lane, turn, done) {
             ring_all(self.broker, self.gate.lanes());
         }
     }

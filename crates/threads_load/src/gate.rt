@@ -4,6 +4,7 @@ use crate::limits::LoadLimits;
 use aql_packet::QueueId;
 use client_threads::{Advanced, Gate, LaneAnswer, ServeAnswer};
 use core_model::Refusal;
+use crossbeam_utils::CachePadded;
 use std::alloc::{AllocError, Global};
 use std::sync::atomic::{AtomicU64, Ordering};
 use std::thread;
@@ -18,17 +19,15 @@ const TURNS_AT_ONCE: u64 = 16;
 /// After how many turns in a row with nothing to do a lane waits at its doorbell.
 const IDLE_TURNS: u64 = 64;
 
-// What is counted of a lane.
+/// What is counted of a lane. Each stands in cache lines of its own, so that no lane takes them from another.
 #[derive(Drop)]
-struct Tally {
+pub(crate) struct Tally {
+    // The last turn of this round that it makes at the most: 0 once all of its packets are finished.
+    last_turn: AtomicU64,
     // How many of its packets are finished.
     finished: AtomicU64,
     // In how many of its turns it did something.
     worked: AtomicU64,
-    // How many turns it made in earlier rounds.
-    made: AtomicU64,
-    // Behind which turn, of all rounds, its turns are counted.
-    counted_from: AtomicU64,
     // Whether it has ended for good: 1 then.
     ended: AtomicU64,
     // In how many turns in a row its ring was empty and none of its packets pending.
@@ -38,16 +37,31 @@ struct Tally {
 }
 
 impl Tally {
-    fn new() -> Tally {
+    // Of a lane that makes so many turns at the most.
+    fn new(most_turns: u64) -> Tally {
         Tally {
+            last_turn: AtomicU64::new(most_turns),
             finished: AtomicU64::new(0),
             worked: AtomicU64::new(0),
-            made: AtomicU64::new(0),
-            counted_from: AtomicU64::new(0),
             ended: AtomicU64::new(0),
             idle: AtomicU64::new(0),
             producing: AtomicU64::new(0),
         }
+    }
+
+    /// The doorbell of the lane rang: it looks again, so many turns at least.
+    pub(crate) fn wake(&self) {
+        self.idle.store(0, Ordering::SeqCst);
+    }
+
+    // It did nothing in a turn.
+    fn rest(&self, done: LaneAnswer) {
+        if has_nothing(done) {
+            self.idle.fetch_add(1, Ordering::SeqCst);
+        } else {
+            self.wake();
+        }
+        thread::yield_now();
     }
 }
 
@@ -57,7 +71,7 @@ impl Tally {
 #[derive(Drop)]
 pub struct LoadGate {
     // What is counted of each lane, by its queue.
-    tallies: Vec<Tally>,
+    tallies: Vec<CachePadded<Tally>>,
     // How many packets of each lane are to be finished.
     wanted: u64,
     // How many turns a lane makes at the most.
@@ -68,7 +82,7 @@ pub struct LoadGate {
     worked: AtomicU64,
     // Which round this is, from 1 on; 0 where lanes don't work in rounds.
     round: AtomicU64,
-    // Whether it is over: 1 then.
+    // Whether it is over, or all are to end: 1 then.
     over: AtomicU64,
     // Whether a lane met its turns, and whether all are to end: 1 then.
     unsettled: AtomicU64,
@@ -102,9 +116,10 @@ impl LoadGate {
         wanted: u64,
         limits: LoadLimits,
     ) -> Result<LoadGate, AllocError> {
+        let first_turns = if wanted == 0 { 0 } else { limits.turns };
         let mut tallies = Vec::with_capacity(alloc, lanes)?;
         for _lane in 0..lanes {
-            tallies.push(Tally::new())?;
+            tallies.push(CachePadded::new(Tally::new(first_turns)))?;
         }
         Ok(LoadGate {
             tallies,
@@ -127,6 +142,7 @@ impl LoadGate {
     /// Ends all lanes, and has the producers give up.
     pub fn stop(&self) {
         self.stopped.store(1, Ordering::SeqCst);
+        self.over.store(1, Ordering::SeqCst);
     }
 
     /// Whether all are to end.
@@ -163,6 +179,9 @@ impl LoadGate {
         self.worked.store(0, Ordering::SeqCst);
         self.round.fetch_add(1, Ordering::SeqCst);
         self.over.store(0, Ordering::SeqCst);
+        if self.is_stopped() {
+            self.over.store(1, Ordering::SeqCst);
+        }
         !is_over
     }
 
@@ -171,16 +190,18 @@ impl LoadGate {
         self.tallies.len()
     }
 
-    /// Whether lanes rest until the next round.
-    pub(crate) fn is_round_over(&self) -> bool {
+    // Whether lanes rest until the next round, or for good.
+    fn is_over(&self) -> bool {
         self.over.load(Ordering::SeqCst) != 0
     }
 
-    // This round is over, if it is one.
-    fn end_round(&self) {
-        if self.round.load(Ordering::SeqCst) != 0 {
+    // This round is over, if it is one. Answers whether it is.
+    fn end_round(&self) -> bool {
+        let is_round = self.round.load(Ordering::SeqCst) != 0;
+        if is_round {
             self.over.store(1, Ordering::SeqCst);
         }
+        is_round
     }
 
     /// A producer of a queue begins.
@@ -199,90 +220,91 @@ impl LoadGate {
 
     /// Whether a lane is to wait at its doorbell: it has had nothing to do in turns enough, and a producer that rings is
     /// at work. The end of a round rings as well.
-    pub(crate) fn is_to_wait(&self, lane: u32) -> bool {
-        let Some(tally) = self.tally(lane) else {
-            return false;
-        };
+    pub(crate) fn is_to_wait(&self, tally: &Tally) -> bool {
         IDLE_TURNS <= tally.idle.load(Ordering::SeqCst)
             && tally.producing.load(Ordering::SeqCst) != 0
-            && !self.is_round_over()
-            && !self.is_stopped()
-    }
-
-    /// The doorbell of a lane rang: it looks again, so many turns at least.
-    pub(crate) fn wake(&self, lane: u32) {
-        if let Some(tally) = self.tally(lane) {
-            tally.idle.store(0, Ordering::SeqCst);
-        }
+            && !self.is_over()
     }
 
     // What is counted of the lane of a queue, if it is one of the load's.
     fn tally_of(&self, queue: QueueId) -> Option<&Tally> {
-        self.tallies.get((queue.0 as usize).checked_sub(1)?)
+        let tally = self.tallies.get((queue.0 as usize).checked_sub(1)?)?;
+        Some(tally)
     }
 
-    // The same of a lane by its number, which is its queue's.
-    fn tally(&self, lane: u32) -> Option<&Tally> {
+    /// The same of a lane by its number, which is its queue's.
+    pub(crate) fn tally(&self, lane: u32) -> Option<&Tally> {
         self.tally_of(QueueId(u64::from(lane)))
     }
 
-    // Whether a lane has turns left, before the turn with this number of all rounds.
-    fn has_turns(&self, tally: &Tally, turn: u64) -> bool {
-        let counted = turn.saturating_sub(tally.counted_from.load(Ordering::SeqCst));
-        counted <= self.most_turns
+    /// Whether a lane makes this turn.
+    pub(crate) fn lets_in(&self, tally: &Tally, turn: u64) -> bool {
+        if turn <= tally.last_turn.load(Ordering::SeqCst) && !self.is_over() {
+            return true;
+        }
+        self.end_lane(tally, turn);
+        false
     }
 
-    // Whether a lane has not ended for good, before this turn.
-    fn lets_in(&self, tally: &Tally, turn: u64) -> bool {
-        if self.wanted <= tally.finished.load(Ordering::SeqCst) || self.is_stopped() {
-            return false;
-        }
-        if !self.has_turns(tally, turn) {
-            self.unsettled.store(1, Ordering::SeqCst);
-            return false;
-        }
-        true
-    }
-
-    // A lane did nothing in a turn.
-    fn rest(&self, lane: u32, done: LaneAnswer) {
-        if let Some(tally) = self.tally(lane) {
-            if has_nothing(done) {
-                tally.idle.fetch_add(1, Ordering::SeqCst);
-            } else {
-                tally.idle.store(0, Ordering::SeqCst);
-            }
-        }
-        thread::yield_now();
-    }
-
-    // A packet of a lane is finished.
-    fn count(&self, tally: &Tally, turn: u64) {
-        tally.finished.fetch_add(1, Ordering::SeqCst);
-        if self.are_renewed {
-            let made = tally.made.load(Ordering::SeqCst);
+    // A lane doesn't make this turn: it has ended for good, or rests until the next round.
+    fn end_lane(&self, tally: &Tally, turn: u64) {
+        let last = tally.last_turn.load(Ordering::SeqCst);
+        let is_done = self.wanted <= tally.finished.load(Ordering::SeqCst) || self.is_stopped();
+        if !is_done && turn <= last {
+            let made = turn.saturating_sub(1);
             tally
-                .counted_from
-                .store(made.saturating_add(turn), Ordering::SeqCst);
+                .last_turn
+                .store(last.saturating_sub(made), Ordering::SeqCst);
+            return;
         }
-        if self.round.load(Ordering::SeqCst) == 1 {
-            self.end_round();
+        if !is_done {
+            self.unsettled.store(1, Ordering::SeqCst);
+            tally.last_turn.store(0, Ordering::SeqCst);
         }
+        tally.ended.store(1, Ordering::SeqCst);
     }
 
-    // A lane did something in a turn. So many turns end the round.
-    fn work(&self, tally: &Tally) {
+    /// Reckons what a lane did in a turn. Answers whether that ends the round.
+    pub(crate) fn reckon(&self, lane: u32, turn: u64, done: LaneAnswer) -> bool {
+        let Some(tally) = self.tally(lane) else {
+            return false;
+        };
+        if is_idle(done) {
+            let is_ended = is_full(done) && self.end_round();
+            tally.rest(done);
+            return is_ended;
+        }
+        let is_enough = self.work(tally);
+        let is_first = match done.advanced {
+            Advanced::Finished(_) => self.count(tally, turn),
+            _ => false,
+        };
+        (is_enough || is_first) && self.end_round()
+    }
+
+    // A packet of a lane is finished. Answers whether that ends the round: with the first of all.
+    fn count(&self, tally: &Tally, turn: u64) -> bool {
+        let before = tally.finished.fetch_add(1, Ordering::SeqCst);
+        if self.wanted <= before.saturating_add(1) {
+            tally.last_turn.store(0, Ordering::SeqCst);
+        } else if self.are_renewed {
+            let last = turn.saturating_add(self.most_turns);
+            tally.last_turn.store(last, Ordering::SeqCst);
+        }
+        self.round.load(Ordering::SeqCst) == 1
+    }
+
+    // A lane did something in a turn. Answers whether so many turns end the round.
+    fn work(&self, tally: &Tally) -> bool {
         if tally.idle.load(Ordering::SeqCst) != 0 {
-            tally.idle.store(0, Ordering::SeqCst);
+            tally.wake();
         }
         let before = tally.worked.fetch_add(1, Ordering::SeqCst);
         if before % TURNS_AT_ONCE != TURNS_AT_ONCE - 1 {
-            return;
+            return false;
         }
         let told = self.worked.fetch_add(TURNS_AT_ONCE, Ordering::SeqCst);
-        if TURNS_A_ROUND <= told.saturating_add(TURNS_AT_ONCE) {
-            self.end_round();
-        }
+        TURNS_A_ROUND <= told.saturating_add(TURNS_AT_ONCE)
     }
 }
 
@@ -320,35 +342,13 @@ fn is_full(done: LaneAnswer) -> bool {
 
 impl Gate for LoadGate {
     fn enter(&self, lane: u32, turn: u64) -> bool {
-        let Some(tally) = self.tally(lane) else {
-            return false;
-        };
-        let turn = tally.made.load(Ordering::SeqCst).saturating_add(turn);
-        let goes_on = self.lets_in(tally, turn);
-        if goes_on && !self.is_round_over() {
-            return true;
+        match self.tally(lane) {
+            Some(tally) => self.lets_in(tally, turn),
+            None => false,
         }
-        if !goes_on {
-            tally.ended.store(1, Ordering::SeqCst);
-        }
-        tally.made.store(turn.saturating_sub(1), Ordering::SeqCst);
-        false
     }
 
     fn leave(&self, lane: u32, turn: u64, done: LaneAnswer) {
-        if is_full(done) {
-            self.end_round();
-        }
-        if is_idle(done) {
-            self.rest(lane, done);
-            return;
-        }
-        let Some(tally) = self.tally(lane) else {
-            return;
-        };
-        self.work(tally);
-        if let Advanced::Finished(_) = done.advanced {
-            self.count(tally, turn);
-        }
+        self.reckon(lane, turn, done);
     }
 }

@@ -20,6 +20,9 @@ use core_model::ADD64;
 use ring::{Publication, Ticket};
 use std::thread;
 
+/// How often a producer lets others run before it looks again whether its slot is free.
+const RESTS: u32 = 2;
+
 /// What each producer does: it publishes so many packets, and tries again so often at the most, over all of them or, if
 /// the tries are counted anew, for each.
 #[derive(Clone, Copy)]
@@ -54,7 +57,9 @@ fn tries_again(gate: &LoadGate, tries_left: &mut u64) -> bool {
         return false;
     }
     *tries_left -= 1;
-    thread::yield_now();
+    for _rest in 0..RESTS {
+        thread::yield_now();
+    }
     true
 }
 

@@ -15,10 +15,10 @@ use Rattle.core_model.specs.Legal.{Meets, MeetsOrLacks}
 use Rattle.core_model.specs.declared.call.Call.TheVariants.{Finish, RunNext}
 use Rattle.core_model.specs.declared.entry.Entry.{Entry}
 use Rattle.core_model.specs.declared.event.Event.TheVariants.{Call}
-use Rattle.core_model.specs.declared.outcome.Outcome.{Outcome}
 use Rattle.core_model.specs.declared.outcome.Outcome.TheVariants as outcome
 use Rattle.core_model.specs.declared.outcome.Taken.{Taken}
 use Rattle.core_model.specs.declared.outcome.Taken.TheVariants as taken
+use Rattle.core_model.specs.declared.outcome.Worked.{Worked}
 use Rattle.core_model.specs.declared.refusal.Refusal.{Refusal}
 use Rattle.core_model.specs.declared.refusal.Refusal.TheVariants as refusal
 use Rattle.client_threads.specs.declared.serving.ServeAnswer.{ServeAnswer}
@@ -66,11 +66,11 @@ HandsTo ring shown old before (Denied error) new after = IsHanded ring shown old
 HandsTo ring shown old before (Waiting id cause) new after = (shown.id ≡ id) × IsKeptBack shown old before (Ok (taken.Waiting cause)) new after
 HandsTo ring shown old before (Refused id why) new after = (shown.id ≡ id) × IsKeptBack shown old before (Err why) new after
 
--- what the next group of a packet was told, if it ran, faulted or wanted memory: the packet couldn't be finished before; else all stays
-abbrev pub RunsTo : QueueId → PacketId → History → Option (Result Outcome Refusal) → History → Type 0
+-- what the next group of a packet came to, if it ran or faulted: the packet couldn't be finished before; else all stays
+abbrev pub RunsTo : QueueId → PacketId → History → Option Worked → History → Type 0
 RunsTo queue id before None after = after ≡ before
-RunsTo queue id before (Some reply) after =
-    MeetsOrLacks (Call (RunNext queue id)) before after reply
+RunsTo queue id before (Some came) after =
+    MeetsOrLacks (Call (RunNext queue id)) before after (Ok (outcome.Worked came))
     × Meets (Call (Finish queue id)) before before (Err refusal.NotFinished)
 
 -- a lane looked, and all stays but what its pass knows

@@ -1,5 +1,5 @@
 use Rattle.std.proofs.Common.{◌≡◌}
-use Rattle.client_threads.proofs.Unfinished.{done_leaves, unfinished, wanting}
+use Rattle.client_threads.proofs.Unfinished.{done_leaves, unfinished}
 use Rattle.client_threads.proofs.advancing.run.Goals as goal
 
 pub returns-in-Ok-Done : goal.returns-in-Ok-Done
@@ -14,8 +14,3 @@ pub returns-in-Ok-Faulted : goal.returns-in-Ok-Faulted
 returns-in-Ok-Faulted c =
     let met = rw c.in-Ok-Faulted.field-0-is at c.in-Ok-Faulted.ensures.met in
     (met, unfinished c.args.queue c.args.id c.args.core.now.history c.run_next.new.self.history _ (λ e. absurd cc) met)
-
-pub returns-in-Err-OutOfMemory : goal.returns-in-Err-OutOfMemory
-returns-in-Err-OutOfMemory c =
-    let met = rw c.in-Err-OutOfMemory.field-0-is at c.in-Err-OutOfMemory.ensures.met in
-    (met, wanting c.args.queue c.args.id c.args.core.now.history c.run_next.new.self.history met)
