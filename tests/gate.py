@@ -78,7 +78,7 @@ def written_anew():
 
 
 def main(program=None):
-    counts = [written_anew()]
+    counts = [written_anew(), told([sys.executable, "-B", f"{HERE}/wrong_bodies.py"])]
     if not program:
         counts.append(told(["rt", "ci"]))
         build_archive()
