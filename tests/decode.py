@@ -128,6 +128,23 @@ def main(program):
 
     many = packets(60)
     trials.every("each field of a packet, and the first rule that it breaks", digits, many)
+    fill = bytes.fromhex(FILL)
+    turned = [bytes(byte ^ (1 << bit % 8) * (at == bit // 8) for at, byte in enumerate(fill)) for bit in range(512)]
+
+    def verdicts(wanted):
+        """That so many of them break L1, L2, L3 and none of these; of the others the fields that are told make up the packet."""
+        found = {"L1": 0, "L2": 0, "L3": 0, "hold": 0}
+        for packet in turned:
+            lines = run([program, "decode", packet.hex()]).out.decode().splitlines()
+            verdict = re.search(r"^breaks (L[123]): |^L1 to L3 (hold)$", lines[-1])
+            found[verdict[1] or verdict[2]] += 1
+            spelled = sum(number << 8 * first + low for first, _, low, _, _, number in told(lines)[0])
+            if verdict[2] and spelled.to_bytes(64, "little") != packet:
+                return f"{packet.hex()} is told as {spelled.to_bytes(64, 'little').hex()}"
+        return None if found == wanted else f"{found}"
+
+    trials.every("each bit turned over alone, and the first rule that it breaks", digits, turned)
+    trials.every("so many break each rule, and the others' fields make them up", verdicts, [{"L1": 7, "L2": 5, "L3": 97, "hold": 403}])
     forms = [[FILL.upper()], [FILL[it : it + 16] for it in range(0, 128, 16)], [" ".join(FILL[it : it + 2] for it in range(0, 128, 2))], [FILL[it : it + 2] for it in range(0, 128, 2)]]
     plain = run([program, "decode", FILL])
     trials.every("digits of either case, with blanks and without", lambda it: None if run([program, "decode", *it]) == plain else "it is told otherwise", forms)

@@ -252,6 +252,22 @@ def shown(trials, program, room):
 
     chance = random.Random(1)
     trials.every("one with a fault is not shown, and the fault told as replay tells it", refused, [(words, harmed(rows, chance)) for words in (["picture", SAMPLE], ["explain", SAMPLE]) for _ in range(40)])
+    bad, worse = f"{room}/bad.toml", f"{room}/worse.toml"
+    for file, content in ((bad, "version = 3\n"), (worse, "version = \n")):
+        with open(file, "w", encoding="utf-8") as it:
+            it.write(content)
+
+    def first(it):
+        words, explained = it
+        ended, checked = run([program, *words], journal), run([program, "check", bad, *explained])
+        return None if ended == checked and ended.status == 1 and ended.err else f"{ended}, and not {checked}"
+
+    why = ["--explain"]
+    trials.every(
+        "of two policies with a fault the first's is told, as check tells it",
+        first,
+        [(["replay", bad, worse], []), (["replay", bad, worse, *why], why), (["picture", bad, worse, "--journal", fill], []), (["picture", bad, worse, "--journal", fill, *why], why), (["explain", bad, worse, "--journal", fill], why), (["run", bad, worse, *why, "--journal", f"{room}/unwritten"], why)],
+    )
     wrong = [
         (["picture", SAMPLE, "--journal", fill, "--audit", "5"], 2),
         (["explain", "L8", SAMPLE], 2),

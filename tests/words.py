@@ -112,8 +112,12 @@ def policies(trials, program, room):
         it.write(b'[[client]]\nname = "alice"\n[[client]]\nname = "alice"\n')
     refused = lambda words: wants(answer(program, [*words, wrong], b"audit\n"), 1, b"", b"policy: 5 DoubleName client 2\n")
     trials.every("a policy that is refused ends with 1, before anything is read or written", refused, [["check"], ["run"], ["run", "--strict"], ["assemble"]])
-    unread = lambda words: wants(answer(program, [*words, f"{room}/nothing"]), 3, b"", b"read fault\n")
-    trials.every("a file that isn't there ends with 3", unread, [["check"], ["run"], ["run", "--strict"], ["assemble"], ["kernel"]])
+    unread = lambda words: wants(answer(program, words), 3, b"", b"read fault\n")
+    readers = (["check"], ["check", "--list"], ["check", "--json"], ["run"], ["run", "--strict"], ["run", "--readable"], ["run", "--json"], ["picture"], ["replay"], ["assemble"], ["kernel"], ["decode", "--slots"])
+    trials.every("a file that isn't there, or a directory, ends with 3", unread, [[*words, file] for words in readers for file in (f"{room}/nothing", room)])
+    trials.every("and so does a further policy's", unread, [[*words, SAMPLE, f"{room}/nothing"] for words in (["run"], ["run", "--strict"], ["picture"], ["replay"])])
+    line = lambda it: wants(answer(program, [*it[0], wrong]), 1, b"", b"policy: 5 DoubleName client 2\n") if not it[1] else None if b"line 4" in answer(program, [*it[0], wrong]).err else "the line isn't told"
+    trials.every("it is told why a policy is refused where --explain asks for it", line, [([*words, *option], told) for words in (["check"], ["run"], ["assemble"], ["picture"]) for option, told in (([], False), (["--explain=never"], False), (["--explain=always"], True), (["--explain"], True))])
     counts = b"clients 2\nagents 1\nregions 2\nsignals 2\nkernels 2\nallows 6\nok\n"
     trials.every("check counts the sample's rows", lambda it: wants(answer(program, ["check", it]), 0, counts), [SAMPLE])
 

@@ -10,7 +10,7 @@ use std::{fmt, io};
 use threads_load::LoadFault;
 
 /// Why a measurement told no figure.
-#[derive(Clone, Copy, Debug, PartialEq, Eq, thiserror::Error)]
+#[derive(Clone, Copy)]
 pub enum Fault {
     /// There was no memory.
     OutOfMemory,

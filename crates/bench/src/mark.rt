@@ -9,7 +9,7 @@ const AGENT_DISPATCH: u64 = 4;
 const STRIDE: u64 = 0x9E37_79B9_7F4A_7C15;
 
 /// A packet as its producer numbers it.
-#[derive(Clone, Copy, Debug, PartialEq, Eq)]
+#[derive(Clone, Copy, PartialEq, Eq)]
 pub struct Mark {
     /// Below 256.
     pub producer: u64,

@@ -7,7 +7,7 @@ use aql_packet::{AgentHandle, ClientId, PacketId, QueueId, RegionHandle, SignalH
 use commands::Status;
 use core_model::{Entry, Taken};
 use journal::{Chain, Head, write_end, write_entry_line, write_head};
-use journal_commands::replay_policies;
+use journal_commands::{JournalPolicies, replay_journal};
 use policy::{Object, Rights, read_policy};
 use sequences::Sequence;
 use sha2::{Digest, Sha256};
@@ -120,13 +120,23 @@ fn journal_of(alloc: Global, entries: &[Entry]) -> Result<String, Fault> {
     Ok(text)
 }
 
+// The policy of a journal, with neither kernels nor further policies.
+fn policies(alloc: Global) -> Result<JournalPolicies, Fault> {
+    let policy = read_policy(alloc, POLICY.as_bytes())?;
+    let (kernels, later) = (Vec::new(alloc), Vec::new(alloc));
+    match JournalPolicies::open(alloc, POLICY.as_bytes(), &[], policy, kernels, later) {
+        Ok(policies) => Ok(policies),
+        Err(_) => Err(Fault::Unsettled),
+    }
+}
+
 // Replays a journal, which has to be legal.
 fn replay(alloc: Global, journal: &str, entries: u64) -> Result<(), Fault> {
     let mut reader = journal.as_bytes();
     let mut out = Vec::new(alloc);
     let mut err = Vec::new(alloc);
-    let policy = POLICY.as_bytes();
-    let ended = replay_policies(alloc, policy, &[], false, &mut reader, &mut out, &mut err);
+    let policies = policies(alloc)?;
+    let ended = replay_journal(alloc, policies, false, &mut reader, &mut out, &mut err);
     let wanted = format!(in alloc; "legal {entries} entries\n")?;
     if ended == Status::Done && out.as_slice() == wanted.as_bytes() {
         Ok(())

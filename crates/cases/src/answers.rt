@@ -95,7 +95,7 @@ fn assembled_answer(alloc: Global, policy: &str, script: &[u8]) -> Result<String
     written(out, err, status)
 }
 
-// The replies to what a readable script is assembled to; its fault comes behind the replies to the lines before it.
+// The replies to what a readable script is assembled to; its fault comes after the replies to the lines before it.
 fn readable_answer(alloc: Global, settings: &Settings, script: &[u8]) -> Result<String, Error> {
     let mut assembled = Vec::new(alloc);
     let mut err = Vec::new(alloc);

@@ -158,7 +158,7 @@ fn push_wanted(
     Ok(())
 }
 
-// The lines that are wanted of a case behind its front.
+// The lines that are wanted of a case after its front.
 fn wanted_of(
     alloc: Global,
     setting: &Setting<'_>,
@@ -171,7 +171,7 @@ fn wanted_of(
     Ok(wanted)
 }
 
-// A text behind a front, as it is spelled.
+// A text after a front, as it is spelled.
 fn asked_behind(
     alloc: Global,
     setting: &Setting<'_>,
@@ -184,7 +184,7 @@ fn asked_behind(
     bytes_of(alloc, asked.as_str())
 }
 
-// What comes of a text behind a front.
+// What comes of a text after a front.
 fn answer_behind(
     alloc: Global,
     setting: &Setting<'_>,

@@ -104,7 +104,7 @@ impl<'a> Case<'a> {
         }
     }
 
-    // Adds the columns of a row behind its name: what is asked, and last what is wanted.
+    // Adds the columns of a row after its name: what is asked, and last what is wanted.
     fn add_columns(&mut self, columns: &'a str) -> Result<(), Error> {
         let (asked, wanted) = columns.rsplit_once("|").unwrap_or(("", columns));
         for column in asked.split('|') {
@@ -210,7 +210,7 @@ fn is_role(word: &str) -> bool {
     !matches!(role_of(word), Role::Role)
 }
 
-// Whether a line is a head: a kind, and behind it nothing or a role.
+// Whether a line is a head: a kind, and after it nothing or a role.
 fn is_head(line: &str) -> bool {
     let (kind, rest) = line.split_once(" ").unwrap_or((line, ""));
     let (role, _) = rest.split_once(" ").unwrap_or((rest, ""));

@@ -4,7 +4,7 @@
 use anyhow::{Error, anyhow};
 use std::alloc::{AllocError, Global};
 
-// The numbers of a range and the text behind it, as in `1..64 kernel &k{n}() {}`.
+// The numbers of a range and the text after it, as in `1..64 kernel &k{n}() {}`.
 fn range_of(inside: &str) -> Option<(u32, u32, &str)> {
     let (numbers, text) = inside.split_once(" ")?;
     let (first, last) = numbers.split_once("..")?;
@@ -83,7 +83,7 @@ pub fn chosen(alloc: Global, text: &str, choice: usize) -> Result<String, Error>
     Ok(whole)
 }
 
-/// How far a byte behind a backslash is spelled.
+/// How far a byte after a backslash is spelled.
 #[derive(Clone, Copy)]
 enum Escape {
     /// No backslash stands before.
@@ -95,7 +95,7 @@ enum Escape {
     HexadecimalDigit(u8),
 }
 
-// The byte that a letter behind a backslash stands for; any other stands for itself.
+// The byte that a letter after a backslash stands for; any other stands for itself.
 fn byte_of(letter: u8) -> u8 {
     match letter {
         b'n' => b'\n',
@@ -130,7 +130,7 @@ fn step(escape: Escape, letter: u8) -> (Escape, Option<u8>) {
     }
 }
 
-/// The bytes of a text, with those that are spelled behind a backslash.
+/// The bytes of a text, with those that are spelled after a backslash.
 pub fn bytes_of(alloc: Global, text: &str) -> Result<Vec<u8>, Error> {
     let mut bytes = Vec::new(alloc);
     let mut escape = Escape::Plain;

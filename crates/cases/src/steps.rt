@@ -1,5 +1,5 @@
 //! Steps of checked kernels as lines: the instruction's word with the type that it computes with, registers by
-//! class and number, constants as numbers of their width, a label as the number of the step behind it, an argument
+//! class and number, constants as numbers of their width, a label as the number of the step after it, an argument
 //! as its place in the block, a group variable as its place in group memory.
 
 use hsail_reader::{Comparison, WorkItemQuery};

@@ -1,8 +1,9 @@
 //! The commands for authors of kernels, scripts and policies.
 
-use crate::explaining::{PolicyFile, policy_told, tell};
+use crate::explaining::{PolicyFile, tell};
 use crate::meanings::{Unknown, explained};
 use crate::perform::{failed, read_most, unread};
+use crate::policies::{judge, name_blame};
 use crate::writers::Nowhere;
 use assemble::{AssembleError, Book, BookError, assemble_script};
 use commands::{Status, check_policy};
@@ -37,6 +38,23 @@ fn tell_fault<E: io::Write>(alloc: Global, text: &[u8], fault: TextFault, err: &
     }
 }
 
+// Writes what is told of a text, and if it has a fault, tells that on `err`.
+fn write_listing<O: io::Write, E: io::Write>(
+    alloc: Global,
+    text: &[u8],
+    listing: &Listing,
+    out: &mut O,
+    err: &mut E,
+) -> Status {
+    match listing {
+        Listing::Kernels(listing) => match told(out, listing.as_str(), Status::Done) {
+            Status::Failed => fails(err, "write fault\n"),
+            status => status,
+        },
+        Listing::Fault(fault) => tell_fault(alloc, text, *fault, err),
+    }
+}
+
 /// Lists the kernels of a text on `out`, or tells the text's fault on `err`.
 pub fn list_kernel<O: io::Write, E: io::Write>(
     alloc: Global,
@@ -45,31 +63,38 @@ pub fn list_kernel<O: io::Write, E: io::Write>(
     err: &mut E,
 ) -> Status {
     match list(alloc, text) {
-        Ok(Listing::Kernels(listing)) => match told(out, listing.as_str(), Status::Done) {
-            Status::Failed => fails(err, "write fault\n"),
-            status => status,
-        },
-        Ok(Listing::Fault(fault)) => tell_fault(alloc, text, fault, err),
+        Ok(listing) => write_listing(alloc, text, &listing, out, err),
         Err(_) => fails(err, "no memory\n"),
     }
 }
 
-// What helps with the fault of the text in a file, if it has one.
-fn help_of(alloc: Global, file: &str, text: &[u8]) -> Result<String, AllocError> {
-    match list(alloc, text)? {
-        Listing::Fault(fault) => text_help(alloc, file, text, fault),
-        Listing::Kernels(_) => Ok(String::new(alloc)),
+// Lists the kernels of the text in a file as `list_kernel` does, and tells after a fault what helps.
+fn list_explaining<O: io::Write, E: io::Write>(
+    alloc: Global,
+    file: &str,
+    text: &[u8],
+    out: &mut O,
+    err: &mut E,
+) -> Status {
+    let Ok(listing) = list(alloc, text) else {
+        return fails(err, "no memory\n");
+    };
+    match (write_listing(alloc, text, &listing, out, err), listing) {
+        (Status::Refused, Listing::Fault(fault)) => {
+            tell(err, text_help(alloc, file, text, fault), Status::Refused)
+        }
+        (status, _) => status,
     }
 }
 
-// Lists the kernels of the text in a file, and tells behind a fault what helps, if it explains.
+// Lists the kernels of the text in a file, and tells after a fault what helps, if it explains.
 fn list_file(rt: &HostRuntime, file: &str, explains: bool, text: &[u8]) -> Status {
+    let mut out = rt.stdout();
     let mut err = rt.stderr();
-    match list_kernel(rt.alloc(), text, &mut rt.stdout(), &mut err) {
-        Status::Refused if explains => {
-            tell(&mut err, help_of(rt.alloc(), file, text), Status::Refused)
-        }
-        status => status,
+    if explains {
+        list_explaining(rt.alloc(), file, text, &mut out, &mut err)
+    } else {
+        list_kernel(rt.alloc(), text, &mut out, &mut err)
     }
 }
 
@@ -127,7 +152,7 @@ pub fn assemble_policy<R: io::Read, O: io::Write, E: io::Write>(
     }
 }
 
-/// Assembles the same as `assemble_policy`, and tells behind a fault of the policy where it lies and what may stand there.
+/// Assembles the same as `assemble_policy`, and tells after a fault of the policy where it lies and what may stand there.
 pub fn assemble_explaining<R: io::Read, O: io::Write, E: io::Write>(
     alloc: Global,
     file: PolicyFile<'_>,
@@ -135,10 +160,9 @@ pub fn assemble_explaining<R: io::Read, O: io::Write, E: io::Write>(
     out: &mut O,
     err: &mut E,
 ) -> Status {
-    match check_policy(alloc, file.text, &mut Nowhere, err) {
-        Status::Done => assemble_checked(alloc, file.text, script, out, err),
-        Status::Refused => tell(err, policy_told(alloc, file), Status::Refused),
-        Status::Failed => Status::Failed,
+    match judge(alloc, file, true) {
+        Ok(_) => assemble_checked(alloc, file.text, script, out, err),
+        Err(blame) => name_blame(alloc, blame, err),
     }
 }
 

@@ -71,7 +71,7 @@ fn packet_told(alloc: Global, bytes: &[u8; 64]) -> Result<String, AllocError> {
     Ok(out)
 }
 
-// How the command ends behind a packet.
+// How the command ends after a packet.
 fn status_of(bytes: &[u8; 64]) -> Status {
     match first_failing(bytes) {
         None => Status::Done,
@@ -144,7 +144,7 @@ pub fn decode_digits<O: io::Write, E: io::Write>(
     }
 }
 
-// What is told of a slot, and how the command ends behind it.
+// What is told of a slot, and how the command ends after it.
 fn slot_told(
     alloc: Global,
     number: usize,
@@ -164,7 +164,7 @@ fn full_slot_told(alloc: Global, number: usize, bytes: &[u8; 64]) -> Result<Stri
     Ok(out)
 }
 
-// How a command ends that ended so before, and so behind one slot more.
+// How a command ends that ended so before, and so after one slot more.
 fn worse(before: Status, status: Status) -> Status {
     match (before, status) {
         (_, Status::Failed) => Status::Failed,
@@ -173,7 +173,7 @@ fn worse(before: Status, status: Status) -> Status {
     }
 }
 
-// Says that bytes are left behind the last slot.
+// Says that bytes are left after the last slot.
 fn tell_rest<E: io::Write>(alloc: Global, rest: usize, err: &mut E) -> Status {
     let text = format!(in alloc;
         "a slot has 64 bytes, and behind the last whole one {rest} are left\n"
@@ -181,7 +181,7 @@ fn tell_rest<E: io::Write>(alloc: Global, rest: usize, err: &mut E) -> Status {
     say(text, err)
 }
 
-// Tells a slot, and how the command ends behind it.
+// Tells a slot, and how the command ends after it.
 fn tell_slot<O: io::Write, E: io::Write>(
     alloc: Global,
     number: usize,

@@ -1,13 +1,16 @@
 //! A picture of a run, or of a journal, that tells beside a fault why.
 
-use crate::explained_run::{Further, faults_told};
-use crate::explaining::{PolicyFile, policy_told, tell};
+use crate::explaining::{PolicyFile, tell};
 use crate::line_reader::LineReader;
-use commands::{Span, Status, draw_policies};
+use crate::policies::{Further, name_blame, open_world, read_later, read_policies};
+use commands::{Span, Status, draw_in, tell_end};
 use explain::bad_line;
 use journal_commands::{draw_journal, tell_journal};
-use std::alloc::{AllocError, Global};
+use policy::Policy;
+use script::IoLog;
+use std::alloc::Global;
 use std::io;
+use world::World;
 
 /// What is drawn: a run with places for so many entries, and of its entries these.
 #[derive(Clone, Copy)]
@@ -16,36 +19,29 @@ pub struct Drawn {
     pub span: Span,
 }
 
-/// What is told of the policies of a run: of the first with a fault.
-pub fn policies_told(
+// Draws a run over a world, and tells after a line of no form what is wrong there.
+fn draw_lines<R: io::Read, O: io::Write, E: io::Write>(
     alloc: Global,
-    file: PolicyFile<'_>,
-    further: Further<'_>,
-) -> Result<String, AllocError> {
-    let told = policy_told(alloc, file)?;
-    if told.is_empty() {
-        faults_told(alloc, further)
-    } else {
-        Ok(told)
+    world: World,
+    later: &[Policy],
+    span: Span,
+    script: &mut R,
+    out: &mut O,
+    err: &mut E,
+) -> Status {
+    let mut lines = LineReader::new(script);
+    let mut answers = IoLog::none();
+    let ended = draw_in(alloc, world, later, span, &mut lines, out, &mut answers);
+    match tell_end(alloc, ended, err, &mut IoLog::none()) {
+        Status::Refused => {
+            let told = bad_line(alloc, lines.line(), lines.number(), later.len());
+            tell(err, told, Status::Refused)
+        }
+        status => status,
     }
 }
 
-// What is told of a run that was refused: of its policies, or of the line that was read last.
-fn refused_told<R: io::Read>(
-    alloc: Global,
-    file: PolicyFile<'_>,
-    further: Further<'_>,
-    lines: &LineReader<'_, R>,
-) -> Result<String, AllocError> {
-    let told = policies_told(alloc, file, further)?;
-    if told.is_empty() {
-        bad_line(alloc, lines.line(), lines.number(), further.texts.len())
-    } else {
-        Ok(told)
-    }
-}
-
-/// Draws a run as `draw_policies` does, and tells on `err` behind a fault of a policy or of a line what is wrong there.
+/// Draws a run as `draw_policies` does, and tells on `err` after a fault of a policy or of a line what is wrong there.
 pub fn draw_explaining<R: io::Read, O: io::Write, E: io::Write>(
     alloc: Global,
     file: PolicyFile<'_>,
@@ -55,24 +51,19 @@ pub fn draw_explaining<R: io::Read, O: io::Write, E: io::Write>(
     out: &mut O,
     err: &mut E,
 ) -> Status {
-    let mut lines = LineReader::new(script);
-    let ended = draw_policies(
-        alloc,
-        file.text,
-        further.texts,
-        drawn.places,
-        drawn.span,
-        &mut lines,
-        out,
-        err,
-    );
-    match ended {
-        Status::Refused => tell(err, refused_told(alloc, file, further, &lines), ended),
-        _ => ended,
+    let world = match open_world(alloc, file, true, drawn.places) {
+        Ok(world) => world,
+        Err(blame) => return name_blame(alloc, blame, err),
+    };
+    let mut later = Vec::new(alloc);
+    if let Err(blame) = read_later(alloc, further, true, &mut later) {
+        return name_blame(alloc, blame, err);
     }
+    draw_lines(alloc, world, later.as_slice(), drawn.span, script, out, err)
 }
 
-/// Draws a journal as `draw_journal` does, and tells on `err` behind a fault of a policy what is wrong there, if it explains.
+/// Draws a journal over the policies in files as `draw_journal` does. A fault of a policy is named on `err`, and if it
+/// explains, told after that.
 pub fn draw_recorded<R: io::Read, O: io::Write, E: io::Write>(
     alloc: Global,
     file: PolicyFile<'_>,
@@ -83,14 +74,13 @@ pub fn draw_recorded<R: io::Read, O: io::Write, E: io::Write>(
     out: &mut O,
     err: &mut E,
 ) -> Status {
-    let ended = draw_journal(alloc, file.text, further.texts, span, journal, out, err);
-    match ended {
-        Status::Refused if explains => tell(err, policies_told(alloc, file, further), ended),
-        _ => ended,
+    match read_policies(alloc, file, further, explains) {
+        Ok(policies) => draw_journal(alloc, policies, span, journal, out, err),
+        Err(blame) => name_blame(alloc, blame, err),
     }
 }
 
-/// Tells a journal as `tell_journal` does, and behind a fault of a policy what is wrong there.
+/// Tells a journal over the policies in files as `tell_journal` does, and of a fault of a policy what is wrong there.
 pub fn tell_recorded<R: io::Read, O: io::Write, E: io::Write>(
     alloc: Global,
     file: PolicyFile<'_>,
@@ -99,8 +89,8 @@ pub fn tell_recorded<R: io::Read, O: io::Write, E: io::Write>(
     out: &mut O,
     err: &mut E,
 ) -> Status {
-    match tell_journal(alloc, file.text, further.texts, journal, out, err) {
-        Status::Refused => tell(err, policies_told(alloc, file, further), Status::Refused),
-        ended => ended,
+    match read_policies(alloc, file, further, true) {
+        Ok(policies) => tell_journal(alloc, policies, journal, out, err),
+        Err(blame) => name_blame(alloc, blame, err),
     }
 }

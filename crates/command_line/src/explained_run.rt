@@ -1,14 +1,15 @@
 //! A run that tells beside each refusal, denial and failure why, and what mends it.
 
 use crate::author::told;
-use crate::explaining::{PolicyFile, policy_told, tell};
+use crate::explaining::{PolicyFile, tell};
 use crate::further::Manner;
 use crate::line_reader::LineReader;
+use crate::policies::{Further, name_blame, open_world, read_later};
 use crate::session::help_told;
 use assemble::{Book, BookError};
-use commands::{Failure, PolicyText, Status, check_kernels, name_failure, tell_end};
-use explain::{Asked, asked_by, bad_line, policy_fault, retold};
-use policy::{Policy, ReadPolicyError, read_policy};
+use commands::{Failure, Status, name_failure, tell_end};
+use explain::{Asked, asked_by, bad_line, retold};
+use policy::Policy;
 use readable::{Style, run_by_line};
 use script::{Command, Flow, IoLog, LineReply, ScriptFault, Watch, run_watched, strictly};
 use std::alloc::{AllocError, Global};
@@ -16,17 +17,10 @@ use std::io;
 use std::io::Write;
 use world::World;
 
-// The most runs in which a script is run: one behind each explanation.
+// The most runs in which a script is run: one after each explanation.
 const MOST_RUNS: u64 = 1 << 40;
 
-/// The further policies of a run: what their files are called, and the texts of those that were read, in order.
-#[derive(Clone, Copy)]
-pub struct Further<'a> {
-    pub names: &'a [&'a str],
-    pub texts: &'a [PolicyText],
-}
-
-/// Why a run ends behind a line.
+/// Why a run ends after a line.
 #[derive(Clone, Copy, PartialEq, Eq)]
 enum Cause {
     /// There is something to be told; the run goes on then.
@@ -45,7 +39,7 @@ struct Explainer<'a, 'b> {
     is_strict: bool,
     // Whether it is told why.
     tells: bool,
-    // Whether the run goes on behind a line of no form, and whether it has.
+    // Whether the run goes on after a line of no form, and whether it has.
     goes_on: bool,
     has_gone_on: bool,
     // Whether each line is done by itself, so that its number is that in the whole script; and what is wanted in a
@@ -85,7 +79,7 @@ impl<'a, 'b> Explainer<'a, 'b> {
         }
     }
 
-    // A reader of a script's lines: behind a run that isn't by line it goes back to the line at which that ended.
+    // A reader of a script's lines: after a run that isn't by line it goes back to the line at which that ended.
     fn reader_of<'c, R: io::Read>(&self, script: &'c mut R) -> LineReader<'c, R> {
         if self.is_by_line {
             LineReader::new(script)
@@ -132,7 +126,7 @@ impl<'a, 'b> Explainer<'a, 'b> {
         }
     }
 
-    // Goes on behind a line of this run.
+    // Goes on after a line of this run.
     fn go_on(&mut self, number: u64) {
         if !self.is_by_line {
             self.before = self.number_of(number);
@@ -176,7 +170,7 @@ fn name_and_tell<E: io::Write>(
     }
 }
 
-// Writes what is to be told behind a line, and says how the command ends, if it does.
+// Writes what is to be told after a line, and says how the command ends, if it does.
 fn tell_of_line<E: io::Write>(explainer: &Explainer<'_, '_>, err: &mut E) -> Option<Status> {
     let told = explainer.told.as_bytes();
     if !told.is_empty() && (err.write_all(told).is_err() || err.flush().is_err()) {
@@ -259,7 +253,7 @@ fn write_help<E: io::Write>(
     }
 }
 
-// Tells of a line of no form behind which the run goes on, and says how the command ends, if it does.
+// Tells of a line of no form after which the run goes on, and says how the command ends, if it does.
 fn tell_and_go_on<E: io::Write>(
     explainer: &mut Explainer<'_, '_>,
     line: &[u8],
@@ -295,7 +289,7 @@ fn tell_of_bad_line<R: io::Read, E: io::Write>(
     tell_and_go_on(explainer, lines.line(), whole, err)
 }
 
-// How the command ends behind the last line.
+// How the command ends after the last line.
 fn ended_with(status: Status, explainer: &Explainer<'_, '_>) -> Status {
     if status == Status::Done && explainer.has_gone_on {
         Status::Refused
@@ -391,88 +385,9 @@ fn run_as_asked<R: io::Read, O: io::Write, E: io::Write>(
     }
 }
 
-// Opens a world over a policy.
-fn open(alloc: Global, policy: Policy, places: usize) -> Result<World, Failure> {
-    match check_kernels(alloc, &policy) {
-        Ok(kernels) => match World::open(alloc, policy, kernels, places) {
-            Ok(world) => Ok(world),
-            Err(why) => Err(Failure::of_opening(why)),
-        },
-        Err(why) => Err(Failure::of_kernels(why)),
-    }
-}
-
-/// Opens a world over the policy in a text.
-pub fn open_text(alloc: Global, text: &[u8], places: usize) -> Result<World, Failure> {
-    match read_policy(alloc, text) {
-        Ok(policy) => open(alloc, policy, places),
-        Err(why) => Err(Failure::of_reading(why)),
-    }
-}
-
-// Reads a further policy, and puts it behind the others.
-fn read_one(alloc: Global, text: &[u8], later: &mut Vec<Policy>) -> Result<(), ReadPolicyError> {
-    let policy = read_policy(alloc, text)?;
-    match later.push(policy) {
-        Ok(()) => Ok(()),
-        Err(_) => Err(ReadPolicyError::OutOfMemory),
-    }
-}
-
-/// Reads the further policies: the place and the failure of the first that has one.
-pub fn read_later(
-    alloc: Global,
-    texts: &[PolicyText],
-    later: &mut Vec<Policy>,
-) -> Result<(), (usize, ReadPolicyError)> {
-    for (place, text) in texts.iter().enumerate() {
-        if let Err(why) = read_one(alloc, text.bytes(), later) {
-            return Err((place, why));
-        }
-    }
-    Ok(())
-}
-
-/// What is told of the first of the further policies that has a fault.
-pub fn faults_told(alloc: Global, further: Further<'_>) -> Result<String, AllocError> {
-    let mut later = Vec::new(alloc);
-    match read_later(alloc, further.texts, &mut later) {
-        Ok(()) => Ok(String::new(alloc)),
-        Err((place, why)) => further_told(alloc, further, place, why),
-    }
-}
-
-// What is told of a further policy with a fault.
-fn further_told(
-    alloc: Global,
-    further: Further<'_>,
-    place: usize,
-    why: ReadPolicyError,
-) -> Result<String, AllocError> {
-    match (further.names.get(place), further.texts.get(place), why) {
-        (Some(name), Some(text), ReadPolicyError::Fault(fault)) => {
-            policy_fault(alloc, name, text.bytes(), &fault)
-        }
-        _ => Ok(String::new(alloc)),
-    }
-}
-
-// What is told, if it is told why.
-fn told_if(
-    alloc: Global,
-    manner: Manner,
-    told: Result<String, AllocError>,
-) -> Result<String, AllocError> {
-    if manner.is_explaining {
-        told
-    } else {
-        Ok(String::new(alloc))
-    }
-}
-
 /// Runs a script over the policies in files as `run_policies` does, strictly as `run_strictly` does, and tells on `err`
-/// behind each reply that was refused, denied, failed, waits or found nothing why that is so, before any reply behind it.
-/// A session tells a line of no form and goes on behind it, and answers lines that ask for help; it ends as refused then.
+/// after each reply that was refused, denied, failed, waits or found nothing why that is so, before any reply after it.
+/// A session tells a line of no form and goes on after it, and answers lines that ask for help; it ends as refused then.
 pub fn run_explaining<R: io::Read, O: io::Write, E: io::Write>(
     alloc: Global,
     file: PolicyFile<'_>,
@@ -482,17 +397,14 @@ pub fn run_explaining<R: io::Read, O: io::Write, E: io::Write>(
     out: &mut O,
     err: &mut E,
 ) -> Status {
-    let mut world = match open_text(alloc, file.text, manner.places) {
+    let explains = manner.is_explaining;
+    let mut world = match open_world(alloc, file, explains, manner.places) {
         Ok(world) => world,
-        Err(failure) => {
-            let told = told_if(alloc, manner, policy_told(alloc, file));
-            return name_and_tell(alloc, err, failure, told);
-        }
+        Err(blame) => return name_blame(alloc, blame, err),
     };
     let mut later = Vec::new(alloc);
-    if let Err((place, why)) = read_later(alloc, further.texts, &mut later) {
-        let told = told_if(alloc, manner, further_told(alloc, further, place, why));
-        return name_and_tell(alloc, err, Failure::of_reading(why), told);
+    if let Err(blame) = read_later(alloc, further, explains, &mut later) {
+        return name_blame(alloc, blame, err);
     }
     run_as_asked(
         alloc,

@@ -1,11 +1,11 @@
 //! A check that tells beside a policy's fault where it lies, and what mends it.
 
-use access_core::Kernel;
-use commands::{KernelCause, KernelError, Status, check_kernels, check_policy};
-use explain::{kernel_fault, no_entry, policy_fault};
+use crate::policies::{Judged, entries_told, judge, name_blame};
+use commands::{CommandLog, KernelCause, KernelFault, Status, count_rows};
+use explain::{kernel_fault, policy_fault};
 use kernel_listing::TextFault;
 use pages::rows_of;
-use policy::{Policy, PolicyCause, PolicyFault, ReadPolicyError, read_policy};
+use policy::{Policy, PolicyCause, PolicyFault};
 use std::alloc::{AllocError, Global};
 use std::io;
 use std::io::Write;
@@ -17,18 +17,6 @@ pub struct PolicyFile<'a> {
     pub text: &'a [u8],
 }
 
-// The number of the first kernel, from 1, whose text has none of its entry's name.
-fn without_entry(kernels: &[Kernel]) -> Option<u32> {
-    let mut number = 1u32;
-    for kernel in kernels {
-        if !kernel.has_entry() {
-            return Some(number);
-        }
-        number = number.saturating_add(1);
-    }
-    None
-}
-
 // What is wrong with a kernel's text.
 fn text_fault(cause: KernelCause) -> TextFault {
     match cause {
@@ -37,27 +25,22 @@ fn text_fault(cause: KernelCause) -> TextFault {
     }
 }
 
-// What is told of a policy's kernels.
-fn kernels_told(
+/// What is told of a kernel of a policy that is refused.
+pub fn kernel_told(
     alloc: Global,
     file: PolicyFile<'_>,
     policy: &Policy,
+    fault: KernelFault,
 ) -> Result<String, AllocError> {
-    match check_kernels(alloc, policy) {
-        Ok(kernels) => match without_entry(kernels.as_slice()) {
-            Some(kernel) => no_entry(alloc, file.name, file.text, policy, kernel),
-            None => Ok(String::new(alloc)),
-        },
-        Err(KernelError::OutOfMemory) => Err(AllocError),
-        Err(KernelError::Fault(fault)) => kernel_fault(
-            alloc,
-            file.name,
-            file.text,
-            policy,
-            fault.kernel,
-            text_fault(fault.cause),
-        ),
-    }
+    let KernelFault { kernel, cause } = fault;
+    kernel_fault(
+        alloc,
+        file.name,
+        file.text,
+        policy,
+        kernel,
+        text_fault(cause),
+    )
 }
 
 // The number and the text of the first line of a text that has a word and is no remark.
@@ -86,8 +69,8 @@ fn script_told(alloc: Global, file: PolicyFile<'_>, text: &str) -> Result<String
     )
 }
 
-// What is told of a policy's first fault.
-fn fault_told(
+/// What is told of a policy's first fault.
+pub fn fault_told(
     alloc: Global,
     file: PolicyFile<'_>,
     fault: &PolicyFault,
@@ -99,15 +82,6 @@ fn fault_told(
         }
     }
     Ok(told)
-}
-
-/// What is told of a policy with a fault.
-pub fn policy_told(alloc: Global, file: PolicyFile<'_>) -> Result<String, AllocError> {
-    match read_policy(alloc, file.text) {
-        Ok(policy) => kernels_told(alloc, file, &policy),
-        Err(ReadPolicyError::OutOfMemory) => Err(AllocError),
-        Err(ReadPolicyError::Fault(fault)) => fault_told(alloc, file, &fault),
-    }
 }
 
 /// Writes an explanation, if there was memory for it, and tells how the command ends.
@@ -123,7 +97,21 @@ pub fn tell<E: io::Write>(err: &mut E, told: Result<String, AllocError>, status:
     }
 }
 
-/// Checks the policy in a file as `check_policy` does, and tells behind a fault where it lies and what may stand there; of one
+// Counts a policy that was let pass, and tells which kernel's text has none of its entry's name.
+fn count_and_tell<O: io::Write, E: io::Write>(
+    alloc: Global,
+    file: PolicyFile<'_>,
+    judged: &Judged,
+    out: &mut O,
+    err: &mut E,
+) -> Status {
+    match count_rows(alloc, &judged.policy, out, err, &mut CommandLog::none()) {
+        Status::Failed => Status::Failed,
+        status => tell(err, entries_told(alloc, file, judged), status),
+    }
+}
+
+/// Checks the policy in a file as `check_policy` does, and tells after a fault where it lies and what may stand there; of one
 /// without a fault, which kernel's text has none of its entry's name.
 pub fn check_explaining<O: io::Write, E: io::Write>(
     alloc: Global,
@@ -131,8 +119,8 @@ pub fn check_explaining<O: io::Write, E: io::Write>(
     out: &mut O,
     err: &mut E,
 ) -> Status {
-    match check_policy(alloc, file.text, out, err) {
-        Status::Failed => Status::Failed,
-        status => tell(err, policy_told(alloc, file), status),
+    match judge(alloc, file, true) {
+        Ok(judged) => count_and_tell(alloc, file, &judged, out, err),
+        Err(blame) => name_blame(alloc, blame, err),
     }
 }

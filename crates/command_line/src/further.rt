@@ -1,9 +1,10 @@
-//! Runs the script on standard input over the policy in a file, with the policies in further files behind it.
+//! Runs the script on standard input over the policy in a file, with the policies in further files after it.
 
 use crate::drawing::{Drawn, draw_explaining};
-use crate::explained_run::{Further, run_explaining};
+use crate::explained_run::run_explaining;
 use crate::explaining::PolicyFile;
 use crate::perform::{read_file, unread};
+use crate::policies::Further;
 use crate::request::Reads;
 use crate::session::GREETING;
 use crate::terminal::{Beside, TerminalReader};
@@ -18,7 +19,7 @@ const AS_SCRIPTS: Reads = Reads {
 
 /// How a script is run: with places for so many entries in the audit, up to the first line that isn't done, if it is
 /// strict, and with a text beside its replies that tells why, if it is explaining; or with a picture of these entries in
-/// place of its replies. In a session with a person it goes on behind a line of no form. Its lines may be readable, and
+/// place of its replies. In a session with a person it goes on after a line of no form. Its lines may be readable, and
 /// its replies JSON.
 #[derive(Clone, Copy)]
 pub struct Manner {

@@ -10,7 +10,7 @@ pub const VERSION: &str = "0.1.0 (rattle-kit-13f logic dac8208d650f15bf)";
 // What stands above the forms of lines.
 const FORMS_TITLE: &str = "Lines of a script (docs/scripts.md):\n";
 
-// Where the second of two forms on a line begins, behind the indent.
+// Where the second of two forms on a line begins, after the indent.
 const COLUMN: usize = 40;
 
 // What stands below the forms of lines, up to the names.
@@ -47,7 +47,7 @@ const WIDTH: usize = 120;
 // What stands before a further line of names: as much as before the first.
 const INDENT: &str = "             ";
 
-// Puts a number and a name behind those before it, of which so many bytes stand in the line.
+// Puts a number and a name after those before it, of which so many bytes stand in the line.
 fn put_name(
     alloc: Global,
     out: &mut String,
@@ -78,7 +78,7 @@ fn put_refusals(alloc: Global, out: &mut String) -> Result<(), AllocError> {
     out.push_str("\n")
 }
 
-// Puts the causes of faults of a kind in the order of their numbers, behind this title.
+// Puts the causes of faults of a kind in the order of their numbers, after this title.
 fn put_causes(alloc: Global, out: &mut String, title: &str, kind: &str) -> Result<(), AllocError> {
     out.push_str(title)?;
     let mut before = 0;
@@ -105,7 +105,7 @@ fn put_names(alloc: Global, out: &mut String) -> Result<(), AllocError> {
     put_causes(alloc, out, "  check      ", "check")
 }
 
-// Puts a form behind those before it, where the line has one of that width already, or none.
+// Puts a form after those before it, where the line has one of that width already, or none.
 fn put_form(out: &mut String, form: &str, before: usize) -> Result<usize, AllocError> {
     if before == 0 {
         out.push_str("  ")?;

@@ -19,9 +19,9 @@ const KEPT: usize = 16_385;
 
 const _: () = prove!(KEPT == LONGEST_LINE + 1);
 
-/// A reader that gives no byte behind the end of a line in the same read, so that who reads a line has read nothing
+/// A reader that gives no byte after the end of a line in the same read, so that who reads a line has read nothing
 /// else. One that looks ahead does so in the first read of a run alone, and gives all that it has in those after it: it is
-/// told behind each run at which line that ended, and goes back to the end of that. It keeps the line that it gave last.
+/// told after each run at which line that ended, and goes back to the end of that. It keeps the line that it gave last.
 #[derive(Drop)]
 pub struct LineReader<'a, R> {
     reader: &'a mut R,
@@ -48,7 +48,7 @@ fn first_of(bytes: &[u8], count: usize) -> &[u8] {
     bytes.split_at(count.min(bytes.len())).0
 }
 
-// The bytes behind so many, or none.
+// The bytes after so many, or none.
 fn behind(bytes: &[u8], count: usize) -> &[u8] {
     bytes.split_at(count.min(bytes.len())).1
 }
@@ -242,7 +242,7 @@ impl<'a, R: io::Read> LineReader<'a, R> {
         Ok(())
     }
 
-    /// Ends a run at its line of a number, from 1: that line is kept, and what was given behind it will be given again.
+    /// Ends a run at its line of a number, from 1: that line is kept, and what was given after it will be given again.
     pub fn end_run(&mut self, number: u64) {
         for _ in self.ended.saturating_add(1)..number {
             if !self.pass_line() {

@@ -23,6 +23,15 @@ use std::thread::Threads;
 /// The exit status for a command line that isn't understood.
 const NOT_UNDERSTOOD: u8 = 2;
 
+/// What is told of a run by line that is to write a journal.
+const JOURNAL_BY_LINE: &str = "--journal doesn't go with --readable or --json";
+
+/// What is told of a journal's picture for which an audit's places are asked: it has no audit of its own.
+const AUDIT_OF_JOURNAL: &str = "--audit doesn't go with the --journal of a picture";
+
+/// What is told of several words that are to be explained.
+const WORDS_BEHIND: &str = "explain takes one WORD, or policies with --journal FILE";
+
 /// Tells what failed.
 pub fn failed(rt: &HostRuntime, what: &str) -> Status {
     let _ = eprintln!(rt; "{what}");
@@ -390,7 +399,7 @@ fn perform<R: Threads + Wait + Sync>(rt: &HostRuntime, threads: &R, asked: &Aske
     }
 }
 
-// The exit status behind a text for the user: 0 for the help and the version.
+// The exit status after a text for the user: 0 for the help and the version.
 fn status_behind(error: &Error) -> u8 {
     if error.use_stderr() {
         NOT_UNDERSTOOD
@@ -423,25 +432,9 @@ fn too_many_policies(rt: &HostRuntime) -> u8 {
     }
 }
 
-// Says that the audit of a journal has no room of its own.
-fn audit_of_journal(rt: &HostRuntime) -> u8 {
-    match eprintln!(rt; "error: --audit doesn't go with the --journal of a picture") {
-        Ok(()) => NOT_UNDERSTOOD,
-        Err(why) => unprinted(rt, &why).number(),
-    }
-}
-
-// Says that one word is explained, and a journal where there are more.
-fn words_behind(rt: &HostRuntime) -> u8 {
-    match eprintln!(rt; "error: explain takes one WORD, or policies with --journal FILE") {
-        Ok(()) => NOT_UNDERSTOOD,
-        Err(why) => unprinted(rt, &why).number(),
-    }
-}
-
-// Says that a run by line writes no journal.
-fn journal_by_line(rt: &HostRuntime) -> u8 {
-    match eprintln!(rt; "error: --journal doesn't go with --readable or --json") {
+// Says which words don't go together.
+fn misused(rt: &HostRuntime, why: &str) -> u8 {
+    match eprintln!(rt; "error: {why}") {
         Ok(()) => NOT_UNDERSTOOD,
         Err(why) => unprinted(rt, &why).number(),
     }
@@ -458,9 +451,9 @@ pub fn obey<R: Threads + Wait + Sync>(rt: &HostRuntime, threads: &R, words: &[St
         Err(Unread::Text(error)) => tell(rt, &error),
         Err(Unread::NoCommand) => NOT_UNDERSTOOD,
         Err(Unread::TooManyPolicies) => too_many_policies(rt),
-        Err(Unread::JournalByLine) => journal_by_line(rt),
-        Err(Unread::AuditOfJournal) => audit_of_journal(rt),
-        Err(Unread::WordsBehind) => words_behind(rt),
+        Err(Unread::JournalByLine) => misused(rt, JOURNAL_BY_LINE),
+        Err(Unread::AuditOfJournal) => misused(rt, AUDIT_OF_JOURNAL),
+        Err(Unread::WordsBehind) => misused(rt, WORDS_BEHIND),
         Err(Unread::OutOfMemory) => out_of_memory(rt),
     }
 }

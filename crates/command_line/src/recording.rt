@@ -1,9 +1,8 @@
 //! A run that writes its history into a journal as it goes.
 
-use crate::drawing::policies_told;
-use crate::explained_run::{Further, open_text, read_later};
 use crate::explaining::{PolicyFile, tell};
 use crate::line_reader::LineReader;
+use crate::policies::{Further, name_blame, open_world, read_later};
 use commands::{Failure, Status, name_failure, tell_end};
 use explain::{Asked, asked_by, bad_line, retold};
 use journal_commands::{JournalFault, JournalWriter};
@@ -13,7 +12,7 @@ use std::alloc::Global;
 use std::io;
 use world::{Request, World};
 
-// The most runs in which a script is run: one behind each rotation.
+// The most runs in which a script is run: one after each rotation.
 const MOST_RUNS: u64 = 1 << 40;
 
 /// How a script is run with a journal: with places for so many entries in the audit, up to the first line that isn't done, if
@@ -25,7 +24,7 @@ pub struct Recorded {
     pub explains: bool,
 }
 
-/// Why a run ends behind a line.
+/// Why a run ends after a line.
 #[derive(Clone, Copy, PartialEq, Eq)]
 enum Cause {
     /// There is something to be told, and the run goes on then.
@@ -153,7 +152,7 @@ fn rotate(alloc: Global, world: &mut World) -> Option<Failure> {
     }
 }
 
-// Writes what is to be told behind a line; it fails where that can't be written.
+// Writes what is to be told after a line; it fails where that can't be written.
 fn tell_of_line<J: io::Write, E: io::Write>(
     recorder: &mut Recorder<'_, '_, J>,
     err: &mut E,
@@ -166,7 +165,7 @@ fn tell_of_line<J: io::Write, E: io::Write>(
     None
 }
 
-// Goes on behind a line where the watcher ended the run, or says how the command ends.
+// Goes on after a line where the watcher ended the run, or says how the command ends.
 fn go_on<J: io::Write, E: io::Write>(
     alloc: Global,
     world: &mut World,
@@ -293,23 +292,6 @@ fn run_world<R: io::Read, O: io::Write, E: io::Write, J: io::Write>(
     }
 }
 
-// Names a failure of a policy, tells why, if that is asked for, and says how the command ends.
-fn name_policy_fault<E: io::Write>(
-    alloc: Global,
-    file: PolicyFile<'_>,
-    further: Further<'_>,
-    explains: bool,
-    failure: Failure,
-    err: &mut E,
-) -> Status {
-    match name(alloc, err, failure) {
-        Status::Refused if explains => {
-            tell(err, policies_told(alloc, file, further), Status::Refused)
-        }
-        status => status,
-    }
-}
-
 /// Runs a script over the policies in files as `run_policies` does, strictly as `run_strictly` does, explaining as
 /// `run_explaining` does, and writes its history into a journal as it goes. Where half of the audit's places are taken, the
 /// audit is rotated. A journal that can't be written ends the run, as replies that can't be do.
@@ -323,16 +305,13 @@ pub fn run_recording<R: io::Read, O: io::Write, E: io::Write, J: io::Write>(
     err: &mut E,
     journal: &mut J,
 ) -> Status {
-    let world = match open_text(alloc, file.text, manner.places) {
+    let world = match open_world(alloc, file, manner.explains, manner.places) {
         Ok(world) => world,
-        Err(failure) => {
-            return name_policy_fault(alloc, file, further, manner.explains, failure, err);
-        }
+        Err(blame) => return name_blame(alloc, blame, err),
     };
     let mut later = Vec::new(alloc);
-    if let Err((_, why)) = read_later(alloc, further.texts, &mut later) {
-        let failure = Failure::of_reading(why);
-        return name_policy_fault(alloc, file, further, manner.explains, failure, err);
+    if let Err(blame) = read_later(alloc, further, manner.explains, &mut later) {
+        return name_blame(alloc, blame, err);
     }
     run_world(
         alloc,

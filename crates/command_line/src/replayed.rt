@@ -1,10 +1,10 @@
 //! Journals in files, and on standard input.
 
 use crate::drawing::{draw_recorded, tell_recorded};
-use crate::explained_run::Further;
 use crate::explaining::PolicyFile;
 use crate::further::{beside_input, read_files};
 use crate::perform::{STANDARD_INPUT, failed, read_file, unread};
+use crate::policies::Further;
 use crate::recording::{Recorded, run_recording};
 use crate::terminal::TerminalReader;
 use commands::{PolicyText, Span, Status};
@@ -18,7 +18,7 @@ pub enum Shown {
     Told,
 }
 
-// Reads the further policies behind a policy: the name of the file that can't be read, and why.
+// Reads the further policies after a policy: the name of the file that can't be read, and why.
 fn read_further<'a>(
     rt: &HostRuntime,
     names: &[&'a str],

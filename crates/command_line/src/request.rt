@@ -17,7 +17,7 @@ use std::alloc::{AllocError, Global};
 const PLACES: usize = 65536;
 
 /// How a run reads its lines and replies to them (own).
-#[derive(Clone, Copy, Debug, PartialEq, Eq)]
+#[derive(Clone, Copy, PartialEq, Eq)]
 pub struct Reads {
     /// Whether it takes readable lines.
     pub is_readable: bool,
@@ -26,7 +26,7 @@ pub struct Reads {
 }
 
 /// What a command line asks for (own).
-#[derive(Clone, Copy, Debug, PartialEq, Eq)]
+#[derive(Clone, Copy)]
 pub enum Invocation<'a> {
     /// `check POLICY`: to check the policy in this file.
     Check {
@@ -169,7 +169,7 @@ pub enum Unread {
     JournalByLine,
     /// They ask for room in the audit of a journal that is drawn.
     AuditOfJournal,
-    /// They have words behind the one that is to be explained, and no journal.
+    /// They have words after the one that is to be explained, and no journal.
     WordsBehind,
 }
 
@@ -374,7 +374,7 @@ fn asks_for_room_of_journal(asked: &ArgMatches<'_>) -> bool {
     asked.get_str(JOURNAL).is_some() && places.is_some()
 }
 
-// Whether a word is explained alone, and further words stand behind it.
+// Whether a word is explained alone, and further words stand after it.
 fn has_words_behind(request: &Invocation<'_>, further: &[&str]) -> bool {
     matches!(request, Invocation::Explain { .. }) && !further.is_empty()
 }

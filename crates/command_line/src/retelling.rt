@@ -1,28 +1,21 @@
 //! A replay that tells beside a fault of the policies why, and on a terminal how far it has come.
 
-use crate::drawing::policies_told;
-use crate::explained_run::Further;
-use crate::explaining::{PolicyFile, tell};
+use crate::explaining::PolicyFile;
 use crate::further::{beside_input, read_files};
 use crate::perform::{read_file, unread};
+use crate::policies::{Further, name_blame, read_policies};
 use crate::terminal::TerminalReader;
-use commands::{PolicyText, Status};
-use journal_commands::replay_policies;
+use commands::Status;
+use journal_commands::{JournalPolicies, replay_journal};
 
 // Replays the journal on standard input, and counts its lines on a terminal.
-fn replay_input(
-    rt: &HostRuntime,
-    text: &[u8],
-    further: &[PolicyText],
-    tells_state: bool,
-) -> Status {
+fn replay_input(rt: &HostRuntime, policies: JournalPolicies, tells_state: bool) -> Status {
     let mut stdin = rt.stdin();
     let mut counts = rt.stderr();
     let mut journal = TerminalReader::new(rt.alloc(), &mut stdin, &mut counts, beside_input(rt));
-    replay_policies(
+    replay_journal(
         rt.alloc(),
-        text,
-        further,
+        policies,
         tells_state,
         &mut journal,
         &mut rt.stdout(),
@@ -30,7 +23,7 @@ fn replay_input(
     )
 }
 
-// The same over the policies in files, and tells where a fault of one lies, if it explains.
+// The same over the policies in files. A fault of one is named, and if it explains, told after that.
 fn replay_over(
     rt: &HostRuntime,
     file: PolicyFile<'_>,
@@ -38,16 +31,13 @@ fn replay_over(
     tells_state: bool,
     explains: bool,
 ) -> Status {
-    match replay_input(rt, file.text, further.texts, tells_state) {
-        Status::Refused if explains => {
-            let told = policies_told(rt.alloc(), file, further);
-            tell(&mut rt.stderr(), told, Status::Refused)
-        }
-        status => status,
+    match read_policies(rt.alloc(), file, further, explains) {
+        Ok(policies) => replay_input(rt, policies, tells_state),
+        Err(blame) => name_blame(rt.alloc(), blame, &mut rt.stderr()),
     }
 }
 
-// The same behind the first policy, which was read.
+// The same after the first policy, which was read.
 fn replay_behind(
     rt: &HostRuntime,
     file: PolicyFile<'_>,

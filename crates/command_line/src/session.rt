@@ -9,7 +9,7 @@ use std::alloc::{AllocError, Global};
 pub const GREETING: &str =
     "a line is a request: `help` lists them, `help WORD` tells of one; the end of input, Ctrl-D, ends";
 
-// What is asked of `help`, if a line asks it: nothing, or the first of the words behind it.
+// What is asked of `help`, if a line asks it: nothing, or the first of the words after it.
 fn help_asked(line: &str) -> Option<&str> {
     let rest = line.trim().strip_prefix("help")?;
     if rest.is_empty() || rest.starts_with(' ') {

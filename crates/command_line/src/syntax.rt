@@ -125,13 +125,13 @@ enum Takes {
     Words(usize),
     /// Nothing: an option that is given or not.
     Nothing,
-    /// A value of this name, behind an option.
+    /// A value of this name, after an option.
     Value(&'static str),
-    /// A number from 1 to this one, behind an option.
+    /// A number from 1 to this one, after an option.
     Number(u64),
-    /// The same, behind an option that must be given.
+    /// The same, after an option that must be given.
     Count(u64),
-    /// When it is told why, behind an option; always, where it doesn't say.
+    /// When it is told why, after an option; always, where it doesn't say.
     When,
 }
 

@@ -21,7 +21,7 @@ pub enum Beside {
     Nothing,
     /// A prompt before each line.
     Prompt,
-    /// The count of lines, behind each ten thousand.
+    /// The count of lines, after each ten thousand.
     Count,
 }
 
@@ -72,7 +72,7 @@ impl<'a, R: io::Read, E: io::Write> TerminalReader<'a, R, E> {
         }
     }
 
-    // Takes note of what was read for a person, and ends the last prompt's line behind the end.
+    // Takes note of what was read for a person, and ends the last prompt's line after the end.
     fn note_prompted(&mut self, bytes: &[u8]) {
         match bytes.last() {
             Some(byte) => self.is_between = *byte == b'\n',

@@ -1,13 +1,14 @@
 //! The command that runs the load of threads over a policy.
 
 use crate::author::{fails, told};
-use crate::explaining::{PolicyFile, policy_told, tell};
+use crate::explaining::{PolicyFile, tell};
+use crate::policies::{Judged, judge, name_blame};
 use access_core::Kernel;
 use aql_packet::{PacketId, QueueId};
-use commands::{Failure, Status, check_kernels};
+use commands::{Failure, Status};
 use core_model::{Call, Entry, Event};
 use journal_commands::{JournalFault, JournalWriter};
-use policy::{Policy, read_policy};
+use policy::Policy;
 use std::alloc::{AllocError, Global};
 use std::sync::Wait;
 use std::thread::Threads;
@@ -181,7 +182,7 @@ fn unreported<E: io::Write>(alloc: Global, err: &mut E, why: LoadFault) -> Statu
     }
 }
 
-// How the command ends behind a report.
+// How the command ends after a report.
 fn status_of(ending: Ending) -> Status {
     match ending {
         Ending::Settled => Status::Done,
@@ -343,49 +344,28 @@ fn run_over<R: Threads + Wait + Sync, C: Clock, J: io::Write, E: io::Write>(
     run_shown(rt, policy, kernels, asked.terms(), &mut shown)
 }
 
-// Runs the load over a policy that was read, and reports what came of it.
-fn run_policy<R: Threads + Wait + Sync, C: Clock, J: io::Write, O: io::Write, E: io::Write>(
+// Runs the load over a policy that was let pass, and reports what came of it.
+fn run_judged<R: Threads + Wait + Sync, C: Clock, J: io::Write, O: io::Write, E: io::Write>(
     rt: &R,
     clock: &C,
     alloc: Global,
     text: &[u8],
-    policy: Policy,
+    judged: Judged,
     asked: AskedLoad,
     journal: Option<&mut J>,
     out: &mut O,
     err: &mut E,
-) -> Result<Status, Failure> {
-    match check_kernels(alloc, &policy) {
-        Err(why) => Err(Failure::of_kernels(why)),
-        Ok(kernels) => match run_over(
-            rt, clock, alloc, text, policy, kernels, asked, journal, err,
-        ) {
-            Ok(ran) => Ok(report(alloc, &ran, asked, out, err)),
-            Err(why) => Ok(unreported(alloc, err, why)),
-        },
-    }
-}
-
-// Runs the load over the policy in a text.
-fn run_text<R: Threads + Wait + Sync, C: Clock, J: io::Write, O: io::Write, E: io::Write>(
-    rt: &R,
-    clock: &C,
-    alloc: Global,
-    text: &[u8],
-    asked: AskedLoad,
-    journal: Option<&mut J>,
-    out: &mut O,
-    err: &mut E,
-) -> Result<Status, Failure> {
-    match read_policy(alloc, text) {
-        Err(why) => Err(Failure::of_reading(why)),
-        Ok(policy) => run_policy(rt, clock, alloc, text, policy, asked, journal, out, err),
+) -> Status {
+    let Judged { policy, kernels } = judged;
+    match run_over(rt, clock, alloc, text, policy, kernels, asked, journal, err) {
+        Ok(ran) => report(alloc, &ran, asked, out, err),
+        Err(why) => unreported(alloc, err, why),
     }
 }
 
 /// Runs the load of threads over the policy in a file, with so many producers a queue: its report goes to `out`. A fault
 /// of the policy or of a kernel is told on `err` as `run_policy` does. If it explains, it is told on `err` where a fault
-/// lies and what may stand there, and behind the report why it ended so and, where a number of packets is asked for, how
+/// lies and what may stand there, and after the report why it ended so and, where a number of packets is asked for, how
 /// many were finished a second. Its history goes to the journal as it comes, if there is one. A journal that can't be
 /// written ends the load, as a report that can't be does.
 pub fn run_threads<R: Threads + Wait + Sync, C: Clock, J: io::Write, O: io::Write, E: io::Write>(
@@ -398,13 +378,10 @@ pub fn run_threads<R: Threads + Wait + Sync, C: Clock, J: io::Write, O: io::Writ
     out: &mut O,
     err: &mut E,
 ) -> Status {
-    match run_text(rt, clock, alloc, file.text, asked, journal, out, err) {
-        Ok(status) => status,
-        Err(failure) => match refused(alloc, err, failure) {
-            Status::Refused if asked.explains => {
-                tell(err, policy_told(alloc, file), Status::Refused)
-            }
-            status => status,
-        },
+    match judge(alloc, file, asked.explains) {
+        Ok(judged) => run_judged(
+            rt, clock, alloc, file.text, judged, asked, journal, out, err,
+        ),
+        Err(blame) => name_blame(alloc, blame, err),
     }
 }

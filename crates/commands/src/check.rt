@@ -92,8 +92,8 @@ pub(crate) struct Setup {
     pub kernels: Vec<Kernel>,
 }
 
-// Counts the rows of a policy on `out`.
-fn count_rows<O: io::Write, E: io::Write>(
+/// Counts the rows of a policy on `out`, as `check_policy` does of one without a fault, and notes what the writers answered.
+pub fn count_rows<O: io::Write, E: io::Write>(
     alloc: Global,
     policy: &Policy,
     out: &mut O,

@@ -70,8 +70,8 @@ fn run_unheard<R: io::Read>(
     )
 }
 
-// Runs a script over a world, draws what the audit tells then, and lets the world go.
-fn draw_in<R: io::Read, O: io::Write>(
+/// Runs a script over a world, draws what the audit tells then, as `draw_policies` does, and lets the world go.
+pub fn draw_in<R: io::Read, O: io::Write>(
     alloc: Global,
     world: World,
     later: &[Policy],

@@ -67,7 +67,7 @@ impl Further {
     }
 }
 
-// Puts a policy behind the others.
+// Puts a policy after the others.
 fn put_policy(policies: &mut Vec<Policy>, policy: Policy) -> Result<(), AllocError>
     ensures { OnOk result (policies.new.items ≡ policies.old.items ++ policy ∷ []) }
 {

@@ -121,7 +121,7 @@ fn check_source(alloc: Global, number: u32, source: &KernelSource) -> Result<Ker
     }
 }
 
-// The source of the kernel behind so many others.
+// The source of the kernel after so many others.
 fn source_behind(policy: &Policy, before: usize) -> &KernelSource
     requires there { before < length policy.now.kernels }
     requires small { before < 1024 }
@@ -132,7 +132,7 @@ fn source_behind(policy: &Policy, before: usize) -> &KernelSource
         .unwrap()
 }
 
-// What packets may launch by the kernel behind so many others.
+// What packets may launch by the kernel after so many others.
 fn check_kernel(alloc: Global, policy: &Policy, before: usize) -> Result<Kernel, KernelError>
     requires there { before < length policy.now.kernels }
     requires small { before < 1024 }
@@ -141,7 +141,7 @@ fn check_kernel(alloc: Global, policy: &Policy, before: usize) -> Result<Kernel,
     check_source(alloc, before as u32 + 1, source_behind(policy, before))
 }
 
-// Puts a kernel behind the others.
+// Puts a kernel after the others.
 fn put_kernel(kernels: &mut Vec<Kernel>, kernel: Kernel) -> Result<(), AllocError>
     ensures { OnOk result (kernels.new.items ≡ kernels.old.items ++ kernel ∷ []) }
 {

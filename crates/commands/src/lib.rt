@@ -13,9 +13,9 @@ mod laws;
 mod run;
 mod status;
 
-pub use check::{check_policy, check_policy_noting};
+pub use check::{check_policy, check_policy_noting, count_rows};
 pub use command_log::CommandLog;
-pub use draw::{draw_policies, draw_policies_noting};
+pub use draw::{draw_in, draw_policies, draw_policies_noting};
 pub use failure::{Failure, name_failure, tell_end};
 pub use further::PolicyText;
 pub use kernel_judging::{KernelCause, KernelError, KernelFault, check_kernels};

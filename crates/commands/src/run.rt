@@ -156,8 +156,8 @@ pub fn run_policies_watched<R: io::Read, O: io::Write, E: io::Write, V: Watch>(
 
 /// Runs a script over the policy in a text, with places for so many entries (1 to 2^20) in the
 /// audit. Replies go to `out`. A fault of the policy or of a kernel is named on `err` as
-/// `check_policy` does, and behind all of these the first kernel whose module has none of its entry's
-/// name as `kernel 2: no entry`, and behind that the first fault of the further policies, as that of a
+/// `check_policy` does, and after all of these the first kernel whose module has none of its entry's
+/// name as `kernel 2: no entry`, and after that the first fault of the further policies, as that of a
 /// policy, before any reply; a line of no form as `line 3: bad request`, after the replies to the
 /// lines before it.
 pub fn run_policies<R: io::Read, O: io::Write, E: io::Write>(
@@ -201,7 +201,7 @@ pub fn run_policy<R: io::Read, O: io::Write, E: io::Write>(
     run_policies(alloc, text, &[], places, script, out, err)
 }
 
-/// Runs a script over the policies in texts as `run_policies` does, and ends with `Status::Refused` behind the first reply
+/// Runs a script over the policies in texts as `run_policies` does, and ends with `Status::Refused` after the first reply
 /// that tells that a line was refused, or that a packet was denied or failed, or a group faulted: no further line is served.
 pub fn run_strictly<R: io::Read, O: io::Write, E: io::Write>(
     alloc: Global,

@@ -4,10 +4,10 @@ ghost use Rattle.std.specs.Prelude.{◌≡◌, ◌<◌, ◌^◌, IfOk, length, s
 ghost use Rattle.picture.specs.Pages.{text_of_page};
 
 use crate::fault::Fault;
-use crate::policies::{digests_of, open_replay};
+use crate::policies::JournalPolicies;
 use crate::reading::JournalReader;
 use crate::replaying::pass_on;
-use commands::{Failure, PolicyText, Span, Status};
+use commands::{Failure, Span, Status};
 use core_model::{Entry, Origin};
 use picture::write_page;
 use std::alloc::{AllocError, Global};
@@ -16,7 +16,7 @@ use std::io;
 // The most entries of a page (own).
 const MOST_OF_PAGE: u32 = u32::MAX;
 
-// The page of entries behind a beginning, of which these are asked for.
+// The page of entries after a beginning, of which these are asked for.
 fn page_of(
     alloc: Global,
     start: &Origin,
@@ -68,34 +68,25 @@ fn drawn(alloc: Global, start: &Origin, entries: &[Entry], span: Span) -> Result
 // The page of a journal.
 fn page_told<R: io::Read>(
     alloc: Global,
-    text: &[u8],
-    further: &[PolicyText],
+    policies: JournalPolicies,
     span: Span,
     journal: &mut R,
 ) -> Result<String, Fault> {
-    let opened = open_replay(alloc, text, further)?;
-    let policies = digests_of(alloc, text, further)?;
-    let mut reader = JournalReader::begin(alloc, policies, journal)?;
+    let JournalPolicies { replay, digests } = policies;
+    let mut reader = JournalReader::begin(alloc, digests, journal)?;
     let entries = read_entries(alloc, &mut reader, span.last)?;
-    drawn(alloc, opened.core().start(), entries.as_slice(), span)
+    drawn(alloc, replay.core().start(), entries.as_slice(), span)
 }
 
-/// Draws a journal over the policy in a text, with the further policies that it may put in force, without making its calls:
-/// on `out` stands the page of its entries, of which these are asked for; else on `err` why there is none: a fault of the
-/// policies as `check_policy` names it, or the first line that can't be read.
+/// Draws a journal over its policies, without making its calls: on `out` stands the page of its entries, of which these are
+/// asked for; else on `err` why there is none, as the first line that can't be read.
 pub fn draw_journal<R: io::Read, O: io::Write, E: io::Write>(
     alloc: Global,
-    text: &[u8],
-    further: &[PolicyText],
+    policies: JournalPolicies,
     span: Span,
     journal: &mut R,
     out: &mut O,
     err: &mut E,
 ) -> Status {
-    pass_on(
-        alloc,
-        page_told(alloc, text, further, span, journal),
-        out,
-        err,
-    )
+    pass_on(alloc, page_told(alloc, policies, span, journal), out, err)
 }

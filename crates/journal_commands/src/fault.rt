@@ -11,7 +11,7 @@ use std::io;
 /// Why a journal isn't let pass.
 #[derive(Drop)]
 pub enum Fault {
-    /// A policy or a kernel is refused, memory is wanted, or reading or writing failed.
+    /// Memory is wanted, or reading or writing failed.
     Failure(Failure),
     /// The journal is refused: this line tells why.
     Refused(String),
@@ -46,7 +46,7 @@ impl Fault {
         refused(format!(in alloc; "line 1 column 1: {fault}\n"))
     }
 
-    /// The journal begins behind other entries, so that it can't be replayed alone.
+    /// The journal begins after other entries, so that it can't be replayed alone.
     pub fn of_part(alloc: Global, before: u64) -> Fault {
         refused(format!(in alloc; "line 1 column 1: {before} entries came before the journal\n"))
     }
@@ -57,7 +57,7 @@ impl Fault {
         refused(format!(in alloc; "line {number} column {column}: {cause}\n"))
     }
 
-    /// The journal ends before its last line, or goes on behind it.
+    /// The journal ends before its last line, or goes on after it.
     pub fn of_end(alloc: Global, number: u64, what: &str) -> Fault {
         refused(format!(in alloc; "line {number} column 1: {what}\n"))
     }

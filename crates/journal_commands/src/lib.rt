@@ -12,6 +12,7 @@ mod telling;
 mod writing;
 
 pub use drawing::draw_journal;
-pub use replaying::replay_policies;
+pub use policies::JournalPolicies;
+pub use replaying::replay_journal;
 pub use telling::tell_journal;
 pub use writing::{JournalFault, JournalWriter};

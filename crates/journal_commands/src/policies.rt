@@ -1,12 +1,19 @@
 //! The policies of a journal.
 
-use crate::fault::Fault;
-use commands::{Failure, PolicyText, check_kernels};
-use policy::{Policy, ReadPolicyError, read_policy};
+use access_core::Kernel;
+use commands::{Failure, PolicyText};
+use policy::Policy;
 use replay::Replay;
 use sequences::Sequence;
 use sha2::{Digest, Sha256};
 use std::alloc::{AllocError, Global};
+
+/// The policies that a journal is read over: a replay in which nothing has happened yet, and the digests of their texts.
+#[derive(Drop)]
+pub struct JournalPolicies {
+    pub(crate) replay: Replay,
+    pub(crate) digests: Sequence<[u8; 32]>,
+}
 
 // The digest of a policy's text.
 fn digest_of(text: &[u8]) -> [u8; 32] {
@@ -29,43 +36,33 @@ pub fn digests_of(
     Ok(digests)
 }
 
-// The policy of a text.
-fn read_one(alloc: Global, text: &[u8]) -> Result<Policy, Fault> {
-    match read_policy(alloc, text) {
-        Ok(policy) => Ok(policy),
-        Err(ReadPolicyError::OutOfMemory) => Err(Fault::Failure(Failure::OutOfMemory)),
-        Err(why) => Err(Fault::Failure(Failure::of_reading(why))),
-    }
-}
-
-// The further policies, in order.
-fn read_further(alloc: Global, further: &[PolicyText]) -> Result<Sequence<Policy>, Fault> {
-    let mut policies = Sequence::new(alloc);
-    for text in further {
-        let policy = read_one(alloc, text.bytes())?;
-        if policies.push(policy).is_err() {
-            return Err(Fault::Failure(Failure::OutOfMemory));
-        }
-    }
-    Ok(policies)
-}
-
 // Opens a replay over policies.
-fn open(alloc: Global, policy: Policy, further: Sequence<Policy>) -> Result<Replay, Fault> {
-    match check_kernels(alloc, &policy) {
-        Ok(kernels) => match Replay::open(alloc, policy, kernels, further) {
-            Ok(replay) => Ok(replay),
-            Err(why) => Err(Fault::Failure(Failure::of_opening(why))),
-        },
-        Err(why) => Err(Fault::Failure(Failure::of_kernels(why))),
+fn open_replay(
+    alloc: Global,
+    policy: Policy,
+    kernels: Vec<Kernel>,
+    later: Vec<Policy>,
+) -> Result<Replay, Failure> {
+    match Replay::open(alloc, policy, kernels, Sequence::from_vec(later)) {
+        Ok(replay) => Ok(replay),
+        Err(why) => Err(Failure::of_opening(why)),
     }
 }
 
-/// Opens a replay over the policies of texts.
-pub fn open_replay(alloc: Global, text: &[u8], further: &[PolicyText]) -> Result<Replay, Fault> {
-    let later = read_further(alloc, further)?;
-    match read_one(alloc, text) {
-        Ok(policy) => open(alloc, policy, later),
-        Err(fault) => Err(fault),
+impl JournalPolicies {
+    /// A policy that was read, with its kernels, and the further ones after it, beside the texts that they were read from.
+    pub fn open(
+        alloc: Global,
+        text: &[u8],
+        further: &[PolicyText],
+        policy: Policy,
+        kernels: Vec<Kernel>,
+        later: Vec<Policy>,
+    ) -> Result<JournalPolicies, Failure> {
+        let replay = open_replay(alloc, policy, kernels, later)?;
+        match digests_of(alloc, text, further) {
+            Ok(digests) => Ok(JournalPolicies { replay, digests }),
+            Err(_) => Err(Failure::OutOfMemory),
+        }
     }
 }

@@ -14,7 +14,7 @@ pub const MOST_ENTRIES: u64 = 1 << 62;
 // What is told of a journal that ends too early.
 const NO_END: &str = "the journal has no last line";
 
-// What is told of one that goes on behind its last line.
+// What is told of one that goes on after its last line.
 const BEHIND_END: &str = "a line stands behind the last";
 
 // What the last line begins with, and no entry's line does.
@@ -28,7 +28,7 @@ pub struct JournalReader<'a, R> {
     chain: Chain,
 }
 
-// Where a journal stands behind a head with which a history begins.
+// Where a journal stands after a head with which a history begins.
 fn opening_chain(alloc: Global, head: &Head) -> Result<Chain, Fault> {
     if head.before > 0 {
         return Err(Fault::of_part(alloc, head.before));
@@ -45,7 +45,7 @@ fn next_line<R: io::Read>(alloc: Global, lines: &mut Lines<'_, R>) -> Result<(),
     }
 }
 
-// Reads the head of a journal over these policies: where the journal stands behind it.
+// Reads the head of a journal over these policies: where the journal stands after it.
 fn read_first<R: io::Read>(
     alloc: Global,
     policies: Sequence<[u8; 32]>,
@@ -73,7 +73,7 @@ fn unread_line<R: io::Read>(
     }
 }
 
-// Reads the entry of a line: where the journal stands behind it.
+// Reads the entry of a line: where the journal stands after it.
 fn read_line<R: io::Read>(
     alloc: Global,
     chain: &Chain,
@@ -88,7 +88,7 @@ fn read_line<R: io::Read>(
     }
 }
 
-// Whether the line is the last of a journal that stands so, and nothing stands behind it.
+// Whether the line is the last of a journal that stands so, and nothing stands after it.
 fn is_over<R: io::Read>(
     alloc: Global,
     chain: &Chain,
@@ -126,7 +126,7 @@ impl<'a, R: io::Read> JournalReader<'a, R> {
     }
 
     /// The next entry; none where the journal has come to its end. It is refused at the first line that isn't that of the
-    /// next entry or the last, and where a line stands behind the last.
+    /// next entry or the last, and where a line stands after the last.
     pub fn next_entry(&mut self) -> Result<Option<Entry>, Fault> {
         next_line(self.alloc, &mut self.lines)?;
         if is_over(self.alloc, &self.chain, &mut self.lines)? {

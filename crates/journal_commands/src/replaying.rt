@@ -1,10 +1,10 @@
 //! The command that replays a journal.
 
 use crate::fault::{Fault, tell_fault};
-use crate::policies::{digests_of, open_replay};
+use crate::policies::JournalPolicies;
 use crate::reading::{JournalReader, MOST_ENTRIES};
 use crate::state::state_text;
-use commands::{Failure, PolicyText, Status};
+use commands::{Failure, Status};
 use core_model::Entry;
 use replay::{Replay, Stop};
 use std::alloc::Global;
@@ -65,26 +65,23 @@ fn legal_text(
 // Replays the journal of a reader: what is told of it.
 fn replayed<R: io::Read>(
     alloc: Global,
-    text: &[u8],
-    further: &[PolicyText],
+    policies: JournalPolicies,
     tells_state: bool,
     journal: &mut R,
 ) -> Result<String, Fault> {
-    let mut replay = open_replay(alloc, text, further)?;
-    let policies = digests_of(alloc, text, further)?;
-    let mut entries = JournalReader::begin(alloc, policies, journal)?;
+    let JournalPolicies { replay, digests } = policies;
+    let mut replay = replay;
+    let mut entries = JournalReader::begin(alloc, digests, journal)?;
     let count = replay_entries(alloc, &mut entries, &mut replay)?;
     legal_text(alloc, count, tells_state, &mut replay)
 }
 
-/// Replays a journal over the policy in a text, with the further policies that it may put in force. On `out` stands
-/// `legal N entries` where they are a whole legal history, and behind it, if it is asked for, the state that they lead
-/// to; else on `err` why not: a fault of the policies as `check_policy` names it, the first line that can't be read, or
-/// the first entry that isn't what it was owed.
-pub fn replay_policies<R: io::Read, O: io::Write, E: io::Write>(
+/// Replays a journal over its policies. On `out` stands `legal N entries` where they are a whole legal history, and after it,
+/// if it is asked for, the state that they lead to; else on `err` why not: the first line that can't be read, or the first
+/// entry that isn't what it was owed.
+pub fn replay_journal<R: io::Read, O: io::Write, E: io::Write>(
     alloc: Global,
-    text: &[u8],
-    further: &[PolicyText],
+    policies: JournalPolicies,
     tells_state: bool,
     journal: &mut R,
     out: &mut O,
@@ -92,7 +89,7 @@ pub fn replay_policies<R: io::Read, O: io::Write, E: io::Write>(
 ) -> Status {
     pass_on(
         alloc,
-        replayed(alloc, text, further, tells_state, journal),
+        replayed(alloc, policies, tells_state, journal),
         out,
         err,
     )

@@ -163,7 +163,7 @@ fn write_packets(out: &mut String, packets: &[PacketOrigin]) -> Result<(), Alloc
     Ok(())
 }
 
-/// Writes the state behind all entries that a replay took, a line each: rights in force, rows of memory that aren't
+/// Writes the state after all entries that a replay took, a line each: rights in force, rows of memory that aren't
 /// zero, signals, queues with their errors, and packets in flight.
 pub fn state_text(alloc: Global, replay: &mut Replay, out: &mut String) -> Result<(), Fault> {
     if let Err(Stop::OutOfMemory | Stop::NoRoom) = replay.empty_audit(alloc) {

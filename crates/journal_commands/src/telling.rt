@@ -2,11 +2,11 @@
 
 use crate::drawing::read_entries;
 use crate::fault::Fault;
-use crate::policies::{digests_of, open_replay};
+use crate::policies::JournalPolicies;
 use crate::reading::JournalReader;
 use crate::replaying::pass_on;
 use access_core::AccessCore;
-use commands::{PolicyText, Status};
+use commands::Status;
 use core_model::{Answer, Entry};
 use explain::failure_told;
 use script::{LineAnswer, NumberMeaning, write_line};
@@ -17,7 +17,7 @@ use std::io;
 // Of a journal, the line of the first entry: the head stands before it.
 const LINE_BEHIND: u64 = 2;
 
-// An entry as `audit` shows it, behind so many others.
+// An entry as `audit` shows it, after so many others.
 fn write_shown(
     alloc: Global,
     out: &mut String,
@@ -37,7 +37,7 @@ fn write_shown(
     out.push_str(behind_first_line(told.as_str()))
 }
 
-// What stands behind the first line of a text: `audit 1`, the count.
+// What stands after the first line of a text: `audit 1`, the count.
 fn behind_first_line(text: &str) -> &str {
     match text.split_once('\n') {
         Some((_, behind)) => behind,
@@ -81,28 +81,24 @@ fn tell_entries(alloc: Global, core: &AccessCore, entries: &[Entry]) -> Result<S
 // What is told of a journal.
 fn journal_told<R: io::Read>(
     alloc: Global,
-    text: &[u8],
-    further: &[PolicyText],
+    policies: JournalPolicies,
     journal: &mut R,
 ) -> Result<String, Fault> {
-    let opened = open_replay(alloc, text, further)?;
-    let policies = digests_of(alloc, text, further)?;
-    let mut reader = JournalReader::begin(alloc, policies, journal)?;
+    let JournalPolicies { replay, digests } = policies;
+    let mut reader = JournalReader::begin(alloc, digests, journal)?;
     let entries = read_entries(alloc, &mut reader, u64::MAX)?;
-    Ok(tell_entries(alloc, opened.core(), entries.as_slice())?)
+    Ok(tell_entries(alloc, replay.core(), entries.as_slice())?)
 }
 
-/// Tells a journal over the policy in a text, with the further policies that it may put in force, without making its calls:
-/// on `out` stands each entry as `audit` shows it, and behind one that was denied, faulted or failed why, as a run that
-/// explains tells it; else on `err` why there is nothing to tell: a fault of the policies as `check_policy` names it, or the
+/// Tells a journal over its policies, without making its calls: on `out` stands each entry as `audit` shows it, and after one
+/// that was denied, faulted or failed why, as a run that explains tells it; else on `err` why there is nothing to tell, as the
 /// first line that can't be read.
 pub fn tell_journal<R: io::Read, O: io::Write, E: io::Write>(
     alloc: Global,
-    text: &[u8],
-    further: &[PolicyText],
+    policies: JournalPolicies,
     journal: &mut R,
     out: &mut O,
     err: &mut E,
 ) -> Status {
-    pass_on(alloc, journal_told(alloc, text, further, journal), out, err)
+    pass_on(alloc, journal_told(alloc, policies, journal), out, err)
 }

@@ -1,7 +1,12 @@
-//! What queue errors print.
+//! What errors print.
 
 use aql_packet::{PacketId, QueueId};
+use hsail_reader::{ReadCause, ReadError, ReadFault};
+use kernel_check::{CheckCause, CheckError, CheckFault};
 use queue_error::{FaultPlace, QueueError, Rule, SegmentAddress};
+use regions::RegionFault;
+use signals::UnknownSignal;
+use std::process::Abort;
 use std::test::*;
 
 const RULES: [(Rule, &str); 18] = [
@@ -84,5 +89,67 @@ fn an_error_prints_with_and_without_a_place(rt: HostRuntime) -> Result<(), Fail>
         inside.to_string(rt.alloc())?.as_str(),
         "group 1 item 1 line 9"
     );
+    Ok(())
+}
+
+const UNREAD: ReadFault = ReadFault {
+    line: 4,
+    column: 3,
+    cause: ReadCause::NotInProfile,
+};
+
+fn check_told(rt: &(impl Abort + AllocGlobal), error: ReadError, wanted: &str) -> Result<(), Fail> {
+    let told = format!(in rt.alloc(); "{error}")?;
+    assert_eq!(rt; told.as_str(), wanted);
+    Ok(())
+}
+
+#[test]
+fn faults_of_texts_print_their_place(rt: HostRuntime) -> Result<(), Fail> {
+    check_told(
+        &rt,
+        ReadError::Fault(UNREAD),
+        "line 4, column 3: NotInProfile",
+    )?;
+    check_told(&rt, ReadError::OutOfMemory, "out of memory")
+}
+
+const REFUSED: CheckFault = CheckFault {
+    line: 4,
+    cause: CheckCause::UnknownLabel,
+};
+
+fn check_printed(
+    rt: &(impl Abort + AllocGlobal),
+    error: CheckError,
+    wanted: &str,
+) -> Result<(), Fail> {
+    let text = format!(in rt.alloc(); "{error}")?;
+    assert_eq!(rt; text.as_str(), wanted);
+    Ok(())
+}
+
+#[test]
+fn faults_of_kernels_print_their_place(rt: HostRuntime) -> Result<(), Fail> {
+    check_printed(&rt, CheckError::Fault(REFUSED), "line 4: UnknownLabel")?;
+    check_printed(&rt, CheckError::OutOfMemory, "out of memory")
+}
+
+#[test]
+fn faults_of_memory_print_in_words(rt: HostRuntime) -> Result<(), Fail> {
+    let rows = [
+        (RegionFault::NoRegion, "no region at this address"),
+        (RegionFault::PastEnd, "past the end of the region"),
+    ];
+    for (fault, text) in rows {
+        assert_eq!(rt; format!(in rt.alloc(); "{fault}")?.as_str(), text);
+    }
+    Ok(())
+}
+
+#[test]
+fn an_unknown_signal_prints_its_name(rt: HostRuntime) -> Result<(), Fail> {
+    let printed = UnknownSignal.to_string(rt.alloc())?;
+    assert_eq!(rt; printed.as_str(), "UnknownSignal");
     Ok(())
 }

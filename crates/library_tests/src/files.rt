@@ -34,7 +34,7 @@ impl io::Write for Stuck {
     }
 }
 
-/// A reader of some bytes that fails behind them, as a broken pipe does.
+/// A reader of some bytes that fails after them, as a broken pipe does.
 #[derive(Drop)]
 struct Broken<'a> {
     bytes: &'a [u8],

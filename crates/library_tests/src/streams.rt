@@ -115,7 +115,7 @@ impl io::Write for Sink {
     }
 }
 
-/// What stands on the two sides of some lines, one behind the other.
+/// What stands on the two sides of some lines, one after the other.
 #[derive(Drop)]
 struct Texts {
     script: String,
@@ -236,7 +236,7 @@ fn has_ended_at_write(ending: Option<Ending>, call: usize) -> bool {
     }
 }
 
-/// Trouble at this call, and at all behind it if it goes on.
+/// Trouble at this call, and at all after it if it goes on.
 fn failing(call: usize, goes_on: bool) -> Trouble {
     Trouble {
         call,

@@ -97,19 +97,7 @@ fn last_bell_tells<B: Room + Send + Sync, R: Threads + Wait + Sync>(
     Some((stage, told))
 }
 
-// Whether the bells of a stage's two queues do, the second's first.
-fn both_bells_tell<B: Room + Send + Sync, R: Threads + Wait + Sync>(
-    rt: &R,
-    stage: Stage<B>,
-) -> Option<(bool, bool)>
-    requires { IsStage B.board stage }
-{
-    let (stage, second) = last_bell_tells(rt, stage)?;
-    let (_stage, first) = last_bell_tells(rt, stage)?;
-    Some((first, second))
-}
-
-// Whether those of a broker do that gets its name.
+// Whether the bells of the two queues of a broker that gets its name do, the second's first.
 fn named_bells_tell<B: Room + Send + Sync, R: Threads + Wait + Sync>(
     rt: &R,
     alloc: Global,
@@ -117,7 +105,9 @@ fn named_bells_tell<B: Room + Send + Sync, R: Threads + Wait + Sync>(
 ) -> Option<(bool, bool)>
     requires { (unnamed.board ≡ B.board) × (unnamed.core ≡ B.opened) }
 {
-    both_bells_tell(rt, stage::<B>(alloc, unnamed, 2, 1)?)
+    let (stage, second) = last_bell_tells(rt, stage::<B>(alloc, unnamed, 2, 1)?)?;
+    let (_stage, first) = last_bell_tells(rt, stage)?;
+    Some((first, second))
 }
 
 // Whether those of a broker do.

@@ -5,14 +5,15 @@ ghost use Rattle.client_threads.specs.Running.{IsEndOf};
 ghost use Rattle.client_threads.specs.Sections.{Follows};
 ghost use Rattle.threads_load.specs.Stages.{IsStage};
 
-use crate::stages::{packet, publish_last, run_with, split_last_end, stage, unnamed, with_end};
+use crate::stages::{
+    packet, publish_last, run_with, settle, split_last_end, stage, unnamed, with_end,
+};
 use access_core::AccessCore;
 use aql_packet::{AgentHandle, ClientId, PacketId, QueueId, RegionHandle};
 use client_threads::{
     Broker, ClientEnd, Gate, LaneAnswer, Room, SettleAllFault, SettledParts, SettledQueue,
     Settlement, UnnamedBroker, settle_all,
 };
-use core_model::Part;
 use std::alloc::Global;
 use std::marker::Brand;
 use std::sync::Wait;
@@ -55,48 +56,8 @@ fn indices(rings: &[SettledQueue]) -> Option<(u64, u64)> {
 fn settled_indices<B: Room>(alloc: Global, stage: Stage<B>) -> Option<(u64, u64)>
     requires { IsStage B.board stage }
 {
-    let Stage {
-        broker,
-        front,
-        ends,
-        lanes,
-    } = stage;
-    let mut front = front;
-    match settle_all(
-        alloc,
-        broker,
-        &mut front,
-        &SettledParts::none(),
-        &[],
-        ends,
-        lanes,
-    ) {
-        Ok(Settlement::Settled { rings, .. }) => indices(rings.as_slice()),
-        _ => None,
-    }
-}
-
-// Where the core took something else than lanes served, if it did.
-fn mismatch<B: Room>(alloc: Global, stage: Stage<B>) -> Option<(QueueId, PacketId)>
-    requires { IsStage B.board stage }
-{
-    let Stage {
-        broker,
-        front,
-        ends,
-        lanes,
-    } = stage;
-    let mut front = front;
-    match settle_all(
-        alloc,
-        broker,
-        &mut front,
-        &SettledParts::none(),
-        &[],
-        ends,
-        lanes,
-    ) {
-        Ok(Settlement::Mismatch { queue, id, .. }) => Some((queue, id)),
+    match settle(alloc, stage, &[])? {
+        Settlement::Settled { rings, .. } => indices(rings.as_slice()),
         _ => None,
     }
 }
@@ -187,7 +148,10 @@ fn named_taken_alone<B: Room>(alloc: Global, unnamed: UnnamedBroker) -> Option<(
     if !take_in(alloc, &mut stage) {
         return None;
     }
-    mismatch(alloc, stage)
+    match settle(alloc, stage, &[])? {
+        Settlement::Mismatch { queue, id, .. } => Some((queue, id)),
+        _ => None,
+    }
 }
 
 // The same, of a broker that is opened for it.
@@ -195,12 +159,8 @@ fn taken_alone(alloc: Global) -> Option<(QueueId, PacketId)> {
     named_taken_alone::<Brand>(alloc, unnamed(alloc)?)
 }
 
-// Why a stage is not settled with these parts, and the stage, which comes back.
-pub(crate) fn unsettled<B: Room>(
-    alloc: Global,
-    stage: Stage<B>,
-    parts: &[Part],
-) -> Option<(SettleAllFault, Stage<B>)>
+// Why a stage is not settled, and the stage, which comes back.
+fn unsettled<B: Room>(alloc: Global, stage: Stage<B>) -> Option<(SettleAllFault, Stage<B>)>
     requires { IsStage B.board stage }
     ensures stage { IfSome result (λ back. IsStage B.board back.1) }
     ensures broker { IfSome result (λ back. back.1.broker ≡ stage.broker) }
@@ -217,7 +177,7 @@ pub(crate) fn unsettled<B: Room>(
         broker,
         &mut front,
         &SettledParts::none(),
-        parts,
+        &[],
         ends,
         lanes,
     ) {
@@ -239,7 +199,7 @@ fn settles_with_its_last<B: Room>(alloc: Global, stage: Stage<B>) -> Option<bool
     requires { IsStage B.board stage }
 {
     let (stage, last) = split_last_end(stage)?;
-    let (fault, stage) = unsettled(alloc, stage, &[])?;
+    let (fault, stage) = unsettled(alloc, stage)?;
     settled_indices(alloc, with_end(stage, last)?)?;
     Some(fault == SettleAllFault::MissingPass)
 }

@@ -40,19 +40,18 @@ impl Gate for HeldLane {
     }
 }
 
-/// Holds each of so many lanes in its first `enter` until all have entered.
+/// Holds each of two lanes in its first `enter` until both have entered.
 #[derive(Drop)]
-struct AllIn {
-    lanes: u64,
+struct BothIn {
     entered: AtomicU64,
     let_in: AtomicU64,
 }
 
-impl Gate for AllIn {
+impl Gate for BothIn {
     fn enter(&self, _lane: u32, turn: u64) -> bool {
         if turn == 1 {
             self.entered.fetch_add(1, Ordering::SeqCst);
-            if !reaches(&self.entered, self.lanes) {
+            if !reaches(&self.entered, 2) {
                 return false;
             }
             self.let_in.fetch_add(1, Ordering::SeqCst);
@@ -137,31 +136,29 @@ fn lets_in<R: Threads + Wait + Sync>(rt: &R, alloc: Global, held: u32) -> bool {
     }
 }
 
-// Whether so many lanes get in that are held until all are there.
-fn named_lets_all_in<B: Room + Send + Sync, R: Threads + Wait + Sync>(
+// Whether two lanes get in that are held until both are there.
+fn named_lets_both_in<B: Room + Send + Sync, R: Threads + Wait + Sync>(
     rt: &R,
     alloc: Global,
     unnamed: UnnamedBroker,
-    lanes: u64,
 ) -> bool
     requires { (unnamed.board ≡ B.board) × (unnamed.core ≡ B.opened) }
 {
-    let Some(stage) = stage::<B>(alloc, unnamed, lanes as usize, 1) else {
+    let Some(stage) = stage::<B>(alloc, unnamed, 2, 1) else {
         return false;
     };
-    let gate = AllIn {
-        lanes,
+    let gate = BothIn {
         entered: AtomicU64::new(0),
         let_in: AtomicU64::new(0),
     };
     let _stage = run_with(rt, alloc, stage, &gate);
-    gate.let_in.load(Ordering::SeqCst) == lanes
+    gate.let_in.load(Ordering::SeqCst) == 2
 }
 
 // The same, of a broker that is opened for it.
-fn lets_all_in<R: Threads + Wait + Sync>(rt: &R, alloc: Global, lanes: u64) -> bool {
+fn lets_both_in<R: Threads + Wait + Sync>(rt: &R, alloc: Global) -> bool {
     match unnamed(alloc) {
-        Some(unnamed) => named_lets_all_in::<Brand, R>(rt, alloc, unnamed, lanes),
+        Some(unnamed) => named_lets_both_in::<Brand, R>(rt, alloc, unnamed),
         None => false,
     }
 }
@@ -195,12 +192,7 @@ fn a_lane_gets_on_while_another_is_held(rt: HostRuntime) {
 
 #[test]
 fn two_lanes_are_inside_at_once(rt: HostRuntime) {
-    assert!(rt; lets_all_in(&rt, rt.alloc(), 2));
-}
-
-#[test]
-fn four_lanes_are_inside_at_once(rt: HostRuntime) {
-    assert!(rt; lets_all_in(&rt, rt.alloc(), 4));
+    assert!(rt; lets_both_in(&rt, rt.alloc()));
 }
 
 #[test]

@@ -19,5 +19,7 @@ mod openings;
 mod rotations;
 #[cfg(test)]
 mod sections;
-pub mod stages;
-pub mod waking;
+#[cfg(test)]
+mod stages;
+#[cfg(test)]
+mod waking;

@@ -1,8 +1,9 @@
 //! The load over the sample policy.
 
+use crate::stages::read;
 use access_core::Kernel;
 use commands::{KernelError, check_kernels};
-use policy::{Policy, ReadPolicyError, read_policy};
+use policy::Policy;
 use std::alloc::Global;
 use std::sync::Wait;
 use std::thread::Threads;
@@ -106,28 +107,23 @@ const UNSETTLED: &str = "queue 1 client alice agent gpu launched 0 finished 0 de
     region 1 buf 0000000000000000\n\
     unsettled\n";
 
-// Reads a policy. It has no contract, so that the proofs of its callers carry none.
-fn read(alloc: Global, text: &str) -> Result<Policy, ReadPolicyError> {
-    read_policy(alloc, text.as_bytes())
-}
-
-// Checks its kernels; it has none for the same reason.
+// Checks the kernels of a policy. It has no contract, so that the proofs of its callers carry none.
 fn kernels_of(alloc: Global, policy: &Policy) -> Result<Vec<Kernel>, KernelError> {
     check_kernels(alloc, policy)
 }
 
-// Runs the load with two producers.
-fn load<R: Threads + Wait + Sync>(rt: &R, alloc: Global) -> Option<Load> {
+// Runs the load with two producers, within these limits where there are any.
+fn load<R: Threads + Wait + Sync>(
+    rt: &R,
+    alloc: Global,
+    limits: Option<LoadLimits>,
+) -> Option<Load> {
     let policy = read(alloc, SAMPLE).ok()?;
     let kernels = kernels_of(alloc, &policy).ok()?;
-    run_load(rt, alloc, policy, kernels, 2).ok()
-}
-
-// Runs it with lanes that make no turn.
-fn load_without_turns<R: Threads + Wait + Sync>(rt: &R, alloc: Global) -> Option<Load> {
-    let policy = read(alloc, SAMPLE).ok()?;
-    let kernels = kernels_of(alloc, &policy).ok()?;
-    run_load_within(rt, alloc, policy, kernels, 2, NO_TURNS).ok()
+    match limits {
+        None => run_load(rt, alloc, policy, kernels, 2).ok(),
+        Some(limits) => run_load_within(rt, alloc, policy, kernels, 2, limits).ok(),
+    }
 }
 
 // Whether a load ended and is reported so.
@@ -140,14 +136,14 @@ fn is_reported(load: Option<Load>, ending: Ending, report: &str) -> bool {
 
 #[test]
 fn the_sample_policy_gives_three_lines(rt: HostRuntime) {
-    assert!(rt; is_reported(load(&rt, rt.alloc()), Ending::Settled, REPORT));
+    assert!(rt; is_reported(load(&rt, rt.alloc(), None), Ending::Settled, REPORT));
 }
 
 #[test]
 fn a_load_whose_lanes_meet_their_turns_is_unsettled(rt: HostRuntime) {
     assert!(rt;
         is_reported(
-            load_without_turns(&rt, rt.alloc()),
+            load(&rt, rt.alloc(), Some(NO_TURNS)),
             Ending::Unsettled,
             UNSETTLED
         )

@@ -1,4 +1,4 @@
-//! Sixteen producers on four queues, and 100,000 packets.
+//! Sixteen producers on four queues, and 100,000 packets, which are handed out as one part.
 
 ghost use Rattle.std.specs.Prelude.{◌≡◌, ◌<◌, List, All, length};
 ghost use Rattle.std.specs.Thread.{IsSend, IsSync};
@@ -7,15 +7,11 @@ ghost use Rattle.client_threads.specs.HandedOver.{AreSettledWith};
 ghost use Rattle.client_threads.specs.Running.{IsEndOf, IsLaneOf};
 ghost use Rattle.threads_load.specs.Stages.{EachStaysOf, IsStage};
 
-use crate::stages::{packet, stage, unnamed};
+use crate::stages::{packet, settle, stage, unnamed};
 use crate::waking::{EACH, PRODUCERS, WakingGate, publish_turns};
-use access_core::AccessCore;
 use aql_packet::PacketId;
-use client_threads::{
-    Broker, ClientEnd, Lane, Room, Served, SettledParts, Settlement, UnnamedBroker, run_lanes,
-    settle_all,
-};
-use core_model::Part;
+use client_threads::{Broker, ClientEnd, Lane, Room, Served, Settlement, UnnamedBroker, run_lanes};
+use core_model::{Part, Refusal};
 use std::alloc::Global;
 use std::marker::Brand;
 use std::sync::Wait;
@@ -180,74 +176,45 @@ fn are_whole(lanes: &[Lane]) -> bool {
     turns.is_whole()
 }
 
-// The core, if the broker settles with these parts.
-pub(crate) fn settled_core<B: Room>(
-    alloc: Global,
-    stage: Stage<B>,
-    parts: &[Part],
-) -> Option<AccessCore>
-    requires { IsStage B.board stage }
+// Rotates the audit of a stage.
+#[tactic(auto, using(threads_load::proofs::Handing::rotation_follows))]
+fn rotate_in<B: Room>(alloc: Global, stage: &mut Stage<B>) -> Result<Part, Refusal>
+    requires { IsStage B.board stage.old }
+    ensures { IsStage B.board stage.new }
 {
-    let Stage {
-        broker,
-        front,
-        ends,
-        lanes,
-    } = stage;
-    let mut front = front;
-    match settle_all(
-        alloc,
-        broker,
-        &mut front,
-        &SettledParts::none(),
-        parts,
-        ends,
-        lanes,
-    ) {
-        Ok(Settlement::Settled { core, .. }) => Some(core),
-        _ => None,
-    }
+    let Stage { broker, front, .. } = stage;
+    broker.with_core_alone(front, |core| core.rotate(alloc))
 }
 
-/// What many packets come to.
-#[derive(Clone, Copy, PartialEq, Eq)]
-struct Come {
-    /// Whether each came once, whole and in its producer's order.
-    is_whole: bool,
-    /// How many entries the audit has.
-    entries: usize,
-}
-
-// What 100,000 packets come to.
+// Whether each of 100,000 packets came once, whole and in its producer's order, and how many entries were handed out
+// then, if the broker settles with these.
 fn named_run_packets<B: Room + Send + Sync, R: Threads + Wait + Sync>(
     rt: &R,
     alloc: Global,
     unnamed: UnnamedBroker,
-) -> Option<Come>
+) -> Option<(bool, usize)>
     requires { (unnamed.board ≡ B.board) × (unnamed.core ≡ B.opened) }
 {
     let stage = stage::<B>(alloc, unnamed, 4, PRODUCERS as u64)?;
     let gate = WakingGate::new(alloc, 4).ok()?;
-    let stage = run_many(rt, alloc, stage, &gate);
+    let mut stage = run_many(rt, alloc, stage, &gate);
     let is_whole = are_whole(stage.lanes.as_slice());
-    let core = settled_core(alloc, stage, &[])?;
-    Some(Come {
-        is_whole,
-        entries: core.audit().len(),
-    })
+    let part = rotate_in(alloc, &mut stage).ok()?;
+    let handed_out = part.entries().len();
+    let parts = [part];
+    match settle(alloc, stage, &parts)? {
+        Settlement::Settled { .. } => Some((is_whole, handed_out)),
+        _ => None,
+    }
 }
 
 // The same, of a broker that is opened for it.
-fn run_packets<R: Threads + Wait + Sync>(rt: &R, alloc: Global) -> Option<Come> {
+fn run_packets<R: Threads + Wait + Sync>(rt: &R, alloc: Global) -> Option<(bool, usize)> {
     named_run_packets::<Brand, R>(rt, alloc, unnamed(alloc)?)
 }
 
 // Six grants, four openings, and of each packet a launch, a run and a completion.
 #[test]
 fn a_hundred_thousand_packets_come_once_and_whole(rt: HostRuntime) {
-    let come = Come {
-        is_whole: true,
-        entries: 300_010,
-    };
-    assert!(rt; run_packets(&rt, rt.alloc()) == Some(come));
+    assert!(rt; run_packets(&rt, rt.alloc()) == Some((true, 300_010)));
 }

@@ -3,19 +3,16 @@
 ghost use Rattle.std.specs.Prelude.{◌≡◌, IfSome};
 ghost use Rattle.threads_load.specs.Stages.{IsStage, IsStageWith};
 
-use crate::endings::unsettled;
-use crate::many::settled_core;
-use crate::stages::{FOUR_AGENTS, LOOKS, read, unnamed};
+use crate::stages::{LOOKS, plan_of, stage, unnamed};
 use access_core::AccessCore;
-use client_threads::{Room, SettleAllFault, Settlement, UnnamedBroker, settle_all};
-use core_model::{Entry, Part, Refusal};
+use client_threads::{Room, Settlement, UnnamedBroker, settle_all};
+use core_model::Entry;
 use std::alloc::Global;
 use std::marker::Brand;
 use std::sync::Wait;
 use std::thread::Threads;
 use threads_load::{
-    HandedOut, LoadFault, LoadGate, PlannedQueue, Share, Stage, Watch, count_none, name_broker,
-    open_stage, plan_load, run_rotated, run_stage,
+    HandedOut, LoadFault, LoadGate, PlannedQueue, Share, Stage, Watch, count_none, run_rotated,
 };
 
 /// How many packets each of two producers publishes to each of two queues.
@@ -39,24 +36,6 @@ impl Watch for Counted {
     }
 
     fn see(&mut self, _finished: u64, _wanted: u64) {}
-}
-
-// Opens two queues of two producers, with their plan.
-fn open_two_queues<B: Room>(
-    alloc: Global,
-    unnamed: UnnamedBroker,
-) -> Option<(Stage<B>, Vec<PlannedQueue>)>
-    requires { (unnamed.board ≡ B.board) × (unnamed.core ≡ B.opened) }
-    ensures { IfSome result (λ opened. IsStage B.board opened.0) }
-{
-    let policy = read(alloc, FOUR_AGENTS).ok()?;
-    let mut plan = plan_load(alloc, &policy).ok()?;
-    plan.truncate(2);
-    let (broker, front) = name_broker::<B>(unnamed).ok()?;
-    match open_stage(alloc, broker, front, plan.as_slice(), 2) {
-        Ok(stage) => Some((stage, plan)),
-        Err(_) => None,
-    }
 }
 
 // Runs a plan in rounds, and rotates between two of them. Answers how many entries were handed out as well.
@@ -104,7 +83,8 @@ fn named_run_in_rounds<B: Room + Send + Sync, R: Threads + Wait + Sync>(
 ) -> Option<(bool, usize)>
     requires { (unnamed.board ≡ B.board) × (unnamed.core ≡ B.opened) }
 {
-    let (stage, plan) = open_two_queues::<B>(alloc, unnamed)?;
+    let plan = plan_of(alloc, 2)?;
+    let stage = stage::<B>(alloc, unnamed, 2, 2)?;
     let (stage, out, handed_out) = run_planned(rt, alloc, stage, plan.as_slice())?;
     let core = core_settled_with(alloc, stage, &out)?;
     Some((
@@ -118,58 +98,8 @@ fn run_in_rounds<R: Threads + Wait + Sync>(rt: &R, alloc: Global) -> Option<(boo
     named_run_in_rounds::<Brand, R>(rt, alloc, unnamed(alloc)?)
 }
 
-// Rotates the audit of a stage.
-#[tactic(auto, using(threads_load::proofs::Handing::rotation_follows))]
-fn rotate_in<B: Room>(alloc: Global, stage: &mut Stage<B>) -> Result<Part, Refusal>
-    requires { IsStage B.board stage.old }
-    ensures { IsStage B.board stage.new }
-{
-    let Stage { broker, front, .. } = stage;
-    broker.with_core_alone(front, |core| core.rotate(alloc))
-}
-
-// How many entries came behind the parts that were handed out, where the broker settles with them, and without them is
-// told that they aren't next, and comes back.
-fn entries_behind<B: Room>(alloc: Global, stage: Stage<B>, parts: &[Part]) -> Option<usize>
-    requires { IsStage B.board stage }
-{
-    let (fault, stage) = unsettled(alloc, stage, &[])?;
-    if fault != SettleAllFault::NotNext {
-        return None;
-    }
-    let core = settled_core(alloc, stage, parts)?;
-    Some(core.audit().len())
-}
-
-// How many entries were handed out, and how many came behind them.
-fn named_run_with_part<B: Room + Send + Sync, R: Threads + Wait + Sync>(
-    rt: &R,
-    alloc: Global,
-    unnamed: UnnamedBroker,
-) -> Option<(usize, usize)>
-    requires { (unnamed.board ≡ B.board) × (unnamed.core ≡ B.opened) }
-{
-    let (stage, plan) = open_two_queues::<B>(alloc, unnamed)?;
-    let gate = LoadGate::new(alloc, 2, 2 * PACKETS).ok()?;
-    let mut stage = run_stage(rt, alloc, stage, plan.as_slice(), PACKETS, &gate);
-    let part = rotate_in(alloc, &mut stage).ok()?;
-    let handed_out = part.entries().len();
-    let parts = [part];
-    Some((handed_out, entries_behind(alloc, stage, &parts)?))
-}
-
-// The same, of a broker that is opened for it.
-fn run_with_part<R: Threads + Wait + Sync>(rt: &R, alloc: Global) -> Option<(usize, usize)> {
-    named_run_with_part::<Brand, R>(rt, alloc, unnamed(alloc)?)
-}
-
 // Six grants, two openings, and of each packet a launch, a run and a completion.
 #[test]
 fn a_broker_settles_with_the_parts_that_were_settled_between_rounds(rt: HostRuntime) {
     assert!(rt; run_in_rounds(&rt, rt.alloc()) == Some((true, 6_008)));
-}
-
-#[test]
-fn a_broker_settles_with_the_part_that_was_handed_out(rt: HostRuntime) {
-    assert!(rt; run_with_part(&rt, rt.alloc()) == Some((6_008, 0)));
 }

@@ -3,7 +3,6 @@
 ghost use Rattle.std.specs.Prelude.{◌≡◌};
 ghost use Rattle.client_threads.specs.Running.{IsEndOf};
 ghost use Rattle.client_threads.specs.Sections.{Follows};
-ghost use Rattle.threads_load.specs.Stages.{IsStage};
 
 use crate::stages::{publish_all, reaches, split_last_end, stage, unnamed};
 use access_core::AccessCore;
@@ -56,7 +55,7 @@ fn publish_beside<B: Room>(
     requires { IsEndOf broker.now end.old }
 {
     if reaches(inside, 1) {
-        publish_all(broker, end, 0, PACKETS, published);
+        publish_all(broker, end, PACKETS, published);
     }
 }
 
@@ -81,42 +80,22 @@ fn publishes_beside<B: Room + Send + Sync, R: Threads + Wait + Sync>(
     stayed
 }
 
-// Whether the last client of a stage does.
-fn last_publishes_beside<B: Room + Send + Sync, R: Threads + Wait + Sync>(
-    rt: &R,
-    stage: Stage<B>,
-) -> bool
-    requires { IsStage B.board stage }
-{
-    match split_last_end(stage) {
-        Some((stage, end)) => {
-            let Stage { broker, front, .. } = stage;
-            publishes_beside(rt, &broker, front, end)
-        }
-        None => false,
-    }
-}
-
 // Whether a client does, of a broker that gets its name.
 fn named_publishes_beside<B: Room + Send + Sync, R: Threads + Wait + Sync>(
     rt: &R,
     alloc: Global,
     unnamed: UnnamedBroker,
-) -> bool
+) -> Option<bool>
     requires { (unnamed.board ≡ B.board) × (unnamed.core ≡ B.opened) }
 {
-    match stage::<B>(alloc, unnamed, 1, 1) {
-        Some(stage) => last_publishes_beside(rt, stage),
-        None => false,
-    }
+    let (stage, end) = split_last_end(stage::<B>(alloc, unnamed, 1, 1)?)?;
+    let Stage { broker, front, .. } = stage;
+    Some(publishes_beside(rt, &broker, front, end))
 }
 
 // The same, of a broker that is opened for it.
-fn one_publishes_beside<R: Threads + Wait + Sync>(rt: &R, alloc: Global) -> bool {
-    match unnamed(alloc) {
-        Some(unnamed) => named_publishes_beside::<Brand, R>(rt, alloc, unnamed),
-        None => false,
-    }
+fn one_publishes_beside<R: Threads + Wait + Sync>(rt: &R, alloc: Global) -> Option<bool> {
+    named_publishes_beside::<Brand, R>(rt, alloc, unnamed(alloc)?)
 }
 
 // Writes a byte.
@@ -207,7 +186,7 @@ fn one_sees_sections<R: Threads + Wait + Sync>(rt: &R, alloc: Global) -> bool {
 
 #[test]
 fn clients_publish_while_another_thread_is_inside_the_core(rt: HostRuntime) {
-    assert!(rt; one_publishes_beside(&rt, rt.alloc()));
+    assert!(rt; one_publishes_beside(&rt, rt.alloc()) == Some(true));
 }
 
 #[test]

@@ -1,17 +1,18 @@
-//! Brokers with queues of the load, and what producers and lanes do on them.
+//! Brokers with queues of the load, what producers and lanes do on them, and what they come to.
 
 ghost use Rattle.std.specs.Prelude.{◌≡◌, IfSome};
-ghost use Rattle.ring.specs.Publishing.{IsOpen};
 ghost use Rattle.client_threads.specs.Running.{IsEndOf};
 ghost use Rattle.threads_load.specs.Stages.{IsStage};
 
 use aql_packet::{
     Address, AgentDispatch, Header, Packet, REGION_SPAN, Scope, SignalHandle, encode,
 };
-use client_threads::{Broker, ClientEnd, Gate, Room, UnnamedBroker, run_lanes};
-use core_model::ADD64;
+use client_threads::{
+    Broker, ClientEnd, Gate, Room, SettledParts, Settlement, UnnamedBroker, run_lanes, settle_all,
+};
+use core_model::{ADD64, Part};
 use policy::{Policy, ReadPolicyError, read_policy};
-use ring::{Publication, Ticket};
+use ring::Publication;
 use std::alloc::Global;
 use std::sync::Wait;
 use std::sync::atomic::{AtomicU64, Ordering};
@@ -23,7 +24,7 @@ use threads_load::{PlannedQueue, Stage, name_broker, open_broker, open_stage, pl
 pub const LOOKS: u64 = 10_000_000;
 
 /// A client that can send to four agents, and count in the second region.
-pub const FOUR_AGENTS: &str = r#"
+const FOUR_AGENTS: &str = r#"
 client = [{ name = "mira" }]
 agent = [
   { name = "north", takes = ["agent"] },
@@ -39,7 +40,7 @@ allow = [
 "#;
 
 /// How many entries an audit has place for.
-pub const PLACES: usize = 400_000;
+const PLACES: usize = 400_000;
 
 /// The region that the client counts in.
 const REGION: u64 = 2;
@@ -70,21 +71,12 @@ pub fn unnamed(alloc: Global) -> Option<UnnamedBroker> {
     open_broker(alloc, policy, Vec::new(alloc), PLACES).ok()
 }
 
-// Opens so many queues of a plan.
-fn open_plan<B: Room>(
-    alloc: Global,
-    unnamed: UnnamedBroker,
-    plan: &[PlannedQueue],
-    producers: u64,
-) -> Option<Stage<B>>
-    requires { (unnamed.board ≡ B.board) × (unnamed.core ≡ B.opened) }
-    ensures { IfSome result (IsStage B.board) }
-{
-    let (broker, front) = name_broker::<B>(unnamed).ok()?;
-    match open_stage(alloc, broker, front, plan, producers) {
-        Ok(stage) => Some(stage),
-        Err(_) => None,
-    }
+/// The plan of so many queues, up to four. It has no contract either.
+pub fn plan_of(alloc: Global, queues: usize) -> Option<Vec<PlannedQueue>> {
+    let policy = read(alloc, FOUR_AGENTS).ok()?;
+    let mut plan = plan_load(alloc, &policy).ok()?;
+    plan.truncate(queues);
+    Some(plan)
 }
 
 /// Opens a stage with so many queues, up to four, each with so many producers, over a broker that gets its name.
@@ -97,10 +89,12 @@ pub fn stage<B: Room>(
     requires { (unnamed.board ≡ B.board) × (unnamed.core ≡ B.opened) }
     ensures { IfSome result (IsStage B.board) }
 {
-    let policy = read(alloc, FOUR_AGENTS).ok()?;
-    let mut plan = plan_load(alloc, &policy).ok()?;
-    plan.truncate(queues);
-    open_plan::<B>(alloc, unnamed, plan.as_slice(), producers)
+    let plan = plan_of(alloc, queues)?;
+    let (broker, front) = name_broker::<B>(unnamed).ok()?;
+    match open_stage(alloc, broker, front, plan.as_slice(), producers) {
+        Ok(stage) => Some(stage),
+        Err(_) => None,
+    }
 }
 
 /// Whether a word comes to a number, as far as one looks.
@@ -114,45 +108,24 @@ pub fn reaches(word: &AtomicU64, wanted: u64) -> bool {
     false
 }
 
-/// Publishes a packet under a ticket, trying again while its slot is busy. Answers whether it was published.
-pub fn publish_under<B: Room>(
-    broker: &Broker<B>,
-    end: &mut ClientEnd,
-    ticket: Ticket,
-    bytes: &[u8; 64],
-) -> bool
-    requires end { IsEndOf broker.now end.old }
-    requires opened { IsOpen ticket.id.0 end.old.pass }
-    ensures { IsEndOf broker.now end.new }
-{
-    let mut ticket = ticket;
-    for _look in 0..LOOKS {
-        match end.publish(broker, ticket, bytes) {
-            Publication::Published(_) => return true,
-            Publication::NotPublishable(_) => return false,
-            Publication::SlotBusy(back, _) => ticket = back,
-        }
-        thread::yield_now();
-    }
-    false
-}
-
-/// Reserves an id and publishes a packet under it. Answers whether it was published.
+/// Reserves an id and publishes a packet under it, whose slot has to be free. Answers whether it was published.
 pub fn publish_one<B: Room>(broker: &Broker<B>, end: &mut ClientEnd, bytes: &[u8; 64]) -> bool
     requires { IsEndOf broker.now end.old }
     ensures { IsEndOf broker.now end.new }
 {
     match end.reserve(broker) {
-        Ok(ticket) => publish_under(broker, end, ticket, bytes),
+        Ok(ticket) => match end.publish(broker, ticket, bytes) {
+            Publication::Published(_) => true,
+            _ => false,
+        },
         Err(_) => false,
     }
 }
 
-/// Publishes so many packets of a producer, and counts them in a word as they are published.
+/// Publishes so many packets, no more than there are slots, and counts them in a word as they are published.
 pub fn publish_all<B: Room>(
     broker: &Broker<B>,
     end: &mut ClientEnd,
-    producer: u64,
     packets: u64,
     published: &AtomicU64,
 )
@@ -160,21 +133,11 @@ pub fn publish_all<B: Room>(
     ensures { IsEndOf broker.now end.new }
 {
     for turn in 0..packets {
-        if !publish_one(broker, end, &packet(producer, turn)) {
+        if !publish_one(broker, end, &packet(0, turn)) {
             return;
         }
         published.fetch_add(1, Ordering::SeqCst);
     }
-}
-
-// Publishes so many packets of an end. Answers how many are published.
-fn publish_some<B: Room>(broker: &Broker<B>, end: &mut ClientEnd, packets: u64) -> u64
-    requires { IsEndOf broker.now end.old }
-    ensures { IsEndOf broker.now end.new }
-{
-    let published = AtomicU64::new(0);
-    publish_all(broker, end, 0, packets, &published);
-    published.load(Ordering::SeqCst)
 }
 
 /// Takes the last end of a stage off, if there is one.
@@ -233,7 +196,9 @@ pub fn publish_last<B: Room>(stage: Stage<B>, packets: u64) -> Option<Stage<B>>
 {
     let (stage, end) = split_last_end(stage)?;
     let mut end = end;
-    if publish_some(&stage.broker, &mut end, packets) != packets {
+    let published = AtomicU64::new(0);
+    publish_all(&stage.broker, &mut end, packets, &published);
+    if published.load(Ordering::SeqCst) != packets {
         return None;
     }
     with_end(stage, end)
@@ -261,5 +226,31 @@ pub fn run_with<B: Room + Send + Sync, R: Threads + Wait + Sync, G: Gate + Sync>
         front,
         ends,
         lanes,
+    }
+}
+
+/// What the broker of a stage comes to, with parts that were handed out and not settled yet. No clause says what that
+/// is, so that the proofs of its callers carry none.
+pub fn settle<B: Room>(alloc: Global, stage: Stage<B>, parts: &[Part]) -> Option<Settlement>
+    requires { IsStage B.board stage }
+{
+    let Stage {
+        broker,
+        front,
+        ends,
+        lanes,
+    } = stage;
+    let mut front = front;
+    match settle_all(
+        alloc,
+        broker,
+        &mut front,
+        &SettledParts::none(),
+        parts,
+        ends,
+        lanes,
+    ) {
+        Ok(settlement) => Some(settlement),
+        Err(_) => None,
     }
 }

@@ -7,7 +7,7 @@ use std::{fmt, io};
 use threads_load::LoadFault;
 
 /// Why the program ended early.
-#[derive(Clone, Copy, Debug, PartialEq, Eq)]
+#[derive(Clone, Copy)]
 pub enum Fault {
     /// There was no memory.
     OutOfMemory,

@@ -1,6 +1,19 @@
-use Rattle.std.proofs.Common.{Some}
-use Rattle.threads_tests.proofs.Last.{before_last, last}
+-- The last end that is taken off is of its broker, and so are those before it.
+use Rattle.std.proofs.Common.{List, Some, ◌++◌, ◌≡◌}
+use Rattle.std.specs.Prelude.{All, IfSome, Option, option_to_list}
+use Rattle.std.proofs.lemmas.List.Elements.{All-pop}
+use Rattle.client_threads.specs.declared.client_end.ClientEnd.{ClientEnd}
+use Rattle.client_threads.specs.Rings.{QueueRing}
+use Rattle.client_threads.specs.Running.{IsEndOf}
 use Rattle.threads_tests.proofs.stages.split_last_end.Goals as goal
+
+before_last : (rings : List QueueRing) (ends rest : List ClientEnd) (popped : Option ClientEnd) → ends ≡ rest ++ option_to_list popped
+    → All (λ end. IsEndOf rings end) ends → All (λ end. IsEndOf rings end) rest
+before_last rings ends rest popped are all = (All-pop (λ end. IsEndOf rings end) ends rest popped are all).0
+
+last : (rings : List QueueRing) (ends rest : List ClientEnd) (popped : Option ClientEnd) → ends ≡ rest ++ option_to_list popped
+    → All (λ end. IsEndOf rings end) ends → IfSome popped (λ end. IsEndOf rings end)
+last rings ends rest popped are all = (All-pop (λ end. IsEndOf rings end) ends rest popped are all).1
 
 pub returns-clause-stage : goal.returns-clause-stage
 returns-clause-stage g c = record {

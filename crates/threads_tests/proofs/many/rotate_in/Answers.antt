@@ -2,7 +2,7 @@ use Rattle.std.proofs.Common.{List, sym, subst}
 use Rattle.std.specs.Prelude.{All}
 use Rattle.client_threads.specs.Rings.{QueueRing}
 use Rattle.client_threads.specs.Running.{IsEndOf, IsLaneOf}
-use Rattle.threads_tests.proofs.rotations.rotate_in.Goals as goal
+use Rattle.threads_tests.proofs.many.rotate_in.Goals as goal
 
 pub returns : goal.returns
 returns g c =
