@@ -352,6 +352,25 @@ static void refusals(hd_broker *broker)
     packet[0] = 4;
 }
 
+/* A write of 65,536 bytes, the most, and one of a byte more: a line of a script has no room for either. */
+static void longest_write(void)
+{
+    static const char policy[] = "client = [{ name = \"c\" }]\nregion = [{ name = \"tape\", length = 65537 }]\nallow = [{ client = \"c\", kind = \"region\", object = \"tape\", rights = [\"READ\", \"WRITE\"] }]\n";
+    static uint8_t bytes[65537], found[65536];
+    hd_broker broker = HD_BROKER;
+    hd_fault fault;
+    memset(bytes, 3, sizeof bytes);
+    IS(hd_open(&broker, (const uint8_t *)policy, sizeof policy - 1, 10, &fault), HD_OK);
+    IS(hd_grant(&broker, 1, HD_REGION, 1, HD_READ | HD_WRITE), HD_OK);
+    IS(hd_write(&broker, 1, (uint64_t)1 << 32, bytes, 65537), HD_BAD_SIZE);
+    IS(hd_read(&broker, 1, (uint64_t)1 << 32, found, 65536), HD_OK);
+    IS(found[65535], 0);
+    IS(hd_write(&broker, 1, (uint64_t)1 << 32, bytes, 65536), HD_OK);
+    IS(hd_read(&broker, 1, (uint64_t)1 << 32, found, 65536), HD_OK);
+    IS(memcmp(found, bytes, 65536), 0);
+    IS(hd_close(&broker), HD_OK);
+}
+
 int main(int count, char **arguments)
 {
     static uint8_t policy[1 << 20];
@@ -363,6 +382,7 @@ int main(int count, char **arguments)
     fclose(file);
     all_closed(&broker);
     openings(policy, length);
+    longest_write();
     IS(hd_open(&broker, policy, length, 100, &fault), HD_OK);
     IS(hd_open(&broker, policy, length, 100, &fault), HD_OPEN_ALREADY);
     IS(fault.section, 9);
