@@ -97,6 +97,11 @@ def packets(count):
     return lines
 
 
+def refused(count, lines):
+    """So many packets of the sample, a rotation that hands their entries out, and so many lines that are refused after it."""
+    return packets(count) + ["rotate"] + ["finish 1 0", "read bob 0000000100000000 8"] * (lines // 2)
+
+
 def group(items):
     """One work-group of so many items, whose kernel's argument is the second region."""
     return rights(2) + ["write nora 0000000100000000 0000000002000000", "queue nora mixer 8 1", f"submit 1 1 {dispatch(items, 1)}", "serve 1", "run 1 0"]
@@ -141,6 +146,12 @@ class Counter:
         body, steps = kernel
         return self.script(policy(2, body), group(8), group(24), 16 * steps)
 
+    def explained(self, written):
+        """A run of 100,000 entries, a rotation and 10,000 refused lines with `--explain`, in hundredths of the run without it."""
+        words, lines = [self.brokerd, "run", self.policy(written), "--audit", "1048576"], text(refused(33_333, 10_000))
+        plain, told = (self.instructions([*words, *option], lines) for option in ([], ["--explain"]))
+        return 100 * told / max(plain, 1)
+
     def replay(self, written):
         """An entry of a journal of packets: its line is read and held against its digest, its call made and compared."""
         words, journals = [self.policy(written)], []
@@ -170,6 +181,8 @@ class Counter:
         yield "checked instruction", self.check
         yield "scripted packet with a journal", lambda: self.script(sample, packets(500), packets(1500), 1000, ["--journal", "/dev/null"])
         yield "replayed entry", lambda: self.replay(sample)
+        yield "refused line with --explain, 15,000 entries before it", lambda: self.script(sample, refused(5_000, 100), refused(5_000, 300), 200, ["--explain"])
+        yield "run of refused lines with --explain, in hundredths of it without", lambda: self.explained(sample)
         if os.path.exists(BENCH):
             yield "packet of a lane", self.lanes
             yield "packet of a lane, from its ring to its finish", lambda: self.lanes() - self.lanes([SETTLING])
@@ -209,7 +222,7 @@ def main():
                 found = min(found, count())
             well = 0 < found <= most
             passed, failed = passed + well, failed + (not well)
-            print(f"{'ok' if well else 'FAILED'} {name}: {found:,.1f} instructions, at most {most:,}", flush=True)
+            print(f"{'ok' if well else 'FAILED'} {name}: {found:,.1f}, at most {most:,}", flush=True)
         for why in counter.wrong:
             print(f"    {why}")
     for name in ceilings:
