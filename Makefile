@@ -1,36 +1,80 @@
-# Installs the library for C and the program: make install PREFIX=/usr/local. What isn't built yet is proved and built before, which
-# takes its time; docs/c.md leads through it.
+# make: the program without proofs, build/brokerd, in some minutes. make help tells the rest; docs/CONTRIBUTING.md leads through it.
 PREFIX = /usr/local
 DESTDIR =
+# FAST=1 builds at -O3, UNPROVED=1 has install take what make and make library have built
+FAST =
+UNPROVED =
+CRATE =
+OUT = build/brokerd
+
 TOOLCHAIN = $(dir $(realpath $(shell command -v rt)))..
-ARCHIVE = crates/hobbydresser_c/out/libhobbydresser_c.a
-BROKERD = crates/brokerd/out/brokerd
-
 TO = $(DESTDIR)$(PREFIX)
+BUILD = python3 -B tools/unproved.py $(if $(FAST),--fast)
+PROVED = crates/brokerd/out/brokerd
+PROVED_ARCHIVE = crates/hobbydresser_c/out/libhobbydresser_c.a
 # The archive that programs link: the library, and the toolchain's archive of its C library.
-WHOLE = $(dir $(ARCHIVE))libhobbydresser.a
+PROVED_WHOLE = crates/hobbydresser_c/out/libhobbydresser.a
+INSTALLED = $(if $(UNPROVED),build/brokerd,$(PROVED))
+INSTALLED_ARCHIVE = $(if $(UNPROVED),build/libhobbydresser.a,$(PROVED_WHOLE))
 
-all: $(WHOLE) $(BROKERD)
+program: needs
+	@$(BUILD) brokerd $(OUT)
 
-crates/hobbydresser_c/out/libhobbydresser_c.a:
-	cd crates/hobbydresser_c && rt lib
+# the same for C
+library: needs
+	@$(BUILD) hobbydresser_c build/libhobbydresser.a
 
-crates/brokerd/out/brokerd:
-	cd crates/brokerd && rt run -- --version
+# an answer without a proof
+quick: program
+	@python3 -B tests/quick.py build/brokerd $(wildcard build/libhobbydresser.a)
 
-$(WHOLE): $(ARCHIVE)
-	printf 'create %s\naddlib %s\naddlib %s\nsave\nend\n' $@ $(ARCHIVE) $(TOOLCHAIN)/c/liblibc_c.a | $(AR) -M
+# all proofs and all tests
+check:
+	.ci/run
 
-install: $(WHOLE) $(BROKERD)
+# one crate, with what it stands on: make prove CRATE=world
+prove: needs
+	@python3 -B tools/prove.py "$(CRATE)"
+
+needs:
+	@sh tools/needs.sh
+
+help:
+	@echo 'make                     builds build/brokerd, unproved (FAST=1: at -O3)'
+	@echo 'make library             builds build/libhobbydresser.a, unproved'
+	@echo 'make quick               tries build/brokerd, without a proof'
+	@echo 'make check               proves and tries everything: .ci/run'
+	@echo 'make prove CRATE=NAME    proves a crate and what it stands on'
+	@echo 'make install PREFIX=DIR  installs what is proved (UNPROVED=1: what make and make library have built)'
+	@echo 'make uninstall, clean    take away what was installed, and build/'
+
+installable:
+	@[ -e $(INSTALLED) ] || { echo 'there is no $(INSTALLED): $(if $(UNPROVED),make builds it,make prove CRATE=brokerd proves and builds it$(,) and make install UNPROVED=1 takes what make builds)' >&2; exit 1; }
+	@[ -e $(if $(UNPROVED),$(INSTALLED_ARCHIVE),$(PROVED_ARCHIVE)) ] || { echo 'there is no $(if $(UNPROVED),$(INSTALLED_ARCHIVE): make library builds it,$(PROVED_ARCHIVE): make prove CRATE=hobbydresser_c proves and builds it)' >&2; exit 1; }
+
+$(PROVED_WHOLE): $(PROVED_ARCHIVE)
+	printf 'create %s\naddlib %s\naddlib %s\nsave\nend\n' $@ $(PROVED_ARCHIVE) $(TOOLCHAIN)/c/liblibc_c.a | $(AR) -M
+
+install: installable
+	@[ -n "$(UNPROVED)" ] || $(MAKE) --no-print-directory $(PROVED_WHOLE)
 	install -d $(TO)/include $(TO)/lib/pkgconfig $(TO)/lib/cmake/hobbydresser $(TO)/bin
 	install -m 644 include/hobbydresser.h $(TO)/include
-	install -m 644 $(WHOLE) $(TO)/lib
+	install -m 644 $(INSTALLED_ARCHIVE) $(TO)/lib
 	install -m 644 packaging/hobbydresser.pc $(TO)/lib/pkgconfig
+	$(if $(UNPROVED),sed -i 's/A proved broker/An unproved build of a broker/' $(TO)/lib/pkgconfig/hobbydresser.pc)
 	install -m 644 packaging/hobbydresser-config.cmake packaging/hobbydresser-config-version.cmake $(TO)/lib/cmake/hobbydresser
-	install -m 755 $(BROKERD) $(TO)/bin/brokerd
+	install -m 755 $(INSTALLED) $(TO)/bin/brokerd
+	@[ -z "$(UNPROVED)" ] || echo 'what is installed is unproved'
 
 uninstall:
 	rm -f $(TO)/include/hobbydresser.h $(TO)/lib/libhobbydresser.a $(TO)/lib/pkgconfig/hobbydresser.pc $(TO)/bin/brokerd
 	rm -rf $(TO)/lib/cmake/hobbydresser
 
-.PHONY: all install uninstall
+clean:
+	rm -rf build
+
+, := ,
+.PHONY: program library quick check prove needs help installable install uninstall clean
+
+# the library of hsa.h's name: make runtime, make install-runtime
+include runtime/runtime.mk

@@ -3,7 +3,8 @@
 
 It takes no word of brokerd's: from the lines alone it checks the chain, the numbers and the end, and derives what the
 entries lead to, which it prints as `brokerd replay --state` does: rights in force, memory that isn't zero, signals,
-queues with their errors, packets in flight. Whether each entry was owed it doesn't ask.
+open queues with their errors, packets in flight. Whether each entry was owed it doesn't ask, but of a close: that is of an
+open queue, and releases what the queue has in flight, in order.
 """
 import hashlib
 import sys
@@ -38,7 +39,7 @@ class State:
         self.memory = [bytearray(length) for length in self.regions]
         self.signals = [it.get("initial", 0) for it in policy.get("signal", [])]
         self.clients = len(policy.get("client", []))
-        self.rights, self.queues, self.flying = {}, [], {}
+        self.rights, self.queues, self.opened, self.flying = {}, {}, 0, {}
 
     def filtered(self, allows, denies):
         """Only what the rows allow stays in force."""
@@ -56,24 +57,28 @@ class State:
             del words[:3]
             if words.pop(0) != "nowhere":
                 words.pop(0)
-        self.queues[queue - 1]["errors"].append(f"error {queue} {packet} {rule}")
+        self.queues[queue]["errors"].append(f"error {queue} {packet} {rule}")
 
     def event(self, words):
         """What happened, without what it came to."""
         verb = words.pop(0)
         if verb == "open":
-            self.queues.append({"client": words.pop(0), "agent": words.pop(0), "next": 0, "stopped": "open", "errors": []})
+            self.opened += 1
+            self.queues[self.opened] = {"client": words.pop(0), "agent": words.pop(0), "next": 0, "stopped": "open", "errors": []}
             words.pop(0)
         elif verb == "take":
             queue, packet, _ = int(words.pop(0)), int(words.pop(0)), words.pop(0)
-            self.queues[queue - 1]["next"] += 1
+            self.queues[queue]["next"] += 1
             return verb, (queue, packet)
         elif verb in ("grant", "revoke"):
             client, kind, number, bits = int(words.pop(0)), words.pop(0), int(words.pop(0)), int(words.pop(0))
             before = self.rights.get((client, kind, number), 0)
             self.rights[client, kind, number] = before | bits if verb == "grant" else before & ~bits
         elif verb == "stop":
-            self.queues[int(words.pop(0)) - 1]["stopped"] = "stopped"
+            self.queues[int(words.pop(0))]["stopped"] = "stopped"
+        elif verb == "close":
+            queue = int(words.pop(0))
+            return (verb, queue) if self.queues.pop(queue, None) else (verb, None)
         elif verb in ("run", "poll", "finish"):
             return verb, (int(words.pop(0)), int(words.pop(0)))
         elif verb == "write":
@@ -108,6 +113,8 @@ class State:
             words.pop(0)
 
     def effects(self, words):
+        """Makes the changes of an entry, and gives the packets that it releases."""
+        released = []
         for _ in range(int(words.pop(0))):
             verb = words.pop(0)
             if verb == "write":
@@ -118,13 +125,17 @@ class State:
                 signal, _, new = int(words.pop(0)), words.pop(0), int(words.pop(0))
                 self.signals[signal - 1] = new
             else:
-                del self.flying[int(words.pop(0)), int(words.pop(0))]
+                released.append((int(words.pop(0)), int(words.pop(0))))
+                del self.flying[released[-1]]
+        return released
 
     def entry(self, words):
-        _, packet = self.event(words)
-        self.outcome(packet, words)
-        self.effects(words)
-        return not words
+        """Takes an entry; whether it was one."""
+        verb, named = self.event(words)
+        due = [it for it in self.flying if it[0] == named] if verb == "close" else None
+        self.outcome(named, words)
+        released = self.effects(words)
+        return not words and (verb != "close" or named is not None and released == due)
 
     def told(self):
         for client, kind, number in sorted(self.rights, key=lambda it: (it[0], KINDS.index(it[1]), it[2])):
@@ -136,7 +147,7 @@ class State:
                     yield f"memory {(region << 32) + place} {memory[place:place + 16].hex()}"
         for number, value in enumerate(self.signals, 1):
             yield f"signal {number} {value}"
-        for number, queue in enumerate(self.queues, 1):
+        for number, queue in self.queues.items():
             yield f"queue {number} {queue['client']} {queue['agent']} {queue['next']} {queue['stopped']}"
             yield from queue["errors"]
         for (queue, packet), (groups, seen) in self.flying.items():

@@ -1,5 +1,5 @@
 #!/usr/bin/env python3
-"""Holds any program against files of cases, one case a run, and tells the differences as the program `cases` does:
+"""Holds any program against files of cases, one case a run, and tells the differences:
 
     tests/against.py 'COMMAND {POLICY} {NEXT}.. {AUDIT}' FILE..
 
@@ -390,9 +390,9 @@ class Program:
         """What comes of a text."""
         if kind == "words":
             return "".join(self.run(kind, b"", [], word=word).told() for word in lines_of(asked.decode()))
-        if kind == "kernels" and not self.command(kind):
-            return self.run("listings", b"", [asked]).fault()
-        if kind in ("kernels", "listings", "policies"):
+        if kind == "kernels":
+            return self.run(kind if self.command(kind) else "listings", b"", [asked]).fault()
+        if kind in ("listings", "policies"):
             return self.run(kind, b"", [asked]).told()
         if kind == "readable":
             made = self.run_script("assembled", settings, asked)
@@ -482,9 +482,9 @@ def tell_not_tried(files):
         print(f"not tried, as {why}: {title}: {'; '.join(names)}")
 
 
-def hold(commands, paths, seconds=10.0, left=None):
-    """Tries the cases of some files, tells how they differ, and gives how many passed and failed. `left` says which
-    cases of a file, by its title, aren't to be tried, and why."""
+def held(commands, paths, seconds=10.0, left=None):
+    """Tries the cases of some files, tells how they differ, and gives the files. `left` says which cases of a file, by its
+    title, aren't to be tried, and why."""
     files = []
     with tempfile.TemporaryDirectory(prefix="cases-") as room, ThreadPoolExecutor(4) as pool:
         program = Program(commands, seconds, room)
@@ -495,7 +495,17 @@ def hold(commands, paths, seconds=10.0, left=None):
             except (NoCases, UnicodeDecodeError) as error:
                 raise NoCases(f"in {path}: {error}") from None
     tell_not_tried(files)
+    return files
+
+
+def counts(files):
+    """How many cases of some files passed and failed."""
     return sum(file.same for file in files), sum(file.differ for file in files)
+
+
+def hold(commands, paths, seconds=10.0, left=None):
+    """Tries the cases of some files as `held` does, and gives how many passed and failed."""
+    return counts(held(commands, paths, seconds, left))
 
 
 def asked_for(words):

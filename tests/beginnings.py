@@ -1,5 +1,5 @@
 #!/usr/bin/env python3
-"""Writes the cases of each beginning of a kernel's text: beginnings.py < KERNEL > crates/cases/data/beginnings.case
+"""Writes the cases of each beginning of a kernel's text: beginnings.py < KERNEL > cases/beginnings.case
 
 Where a text ends too early is reckoned here from the lexemes and the grammar (docs/kernel_text.md), for the words that
 `inc.hsail` has, and from no code of the broker. A beginning ends at a fault, or behind a whole kernel.

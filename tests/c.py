@@ -19,7 +19,7 @@ from itertools import takewhile
 import against
 import commands
 from docs import blocks_of
-from trial import FILL, HERE, PRELUDE, SAMPLE, TOP
+from trial import DEADLINE, FILL, HERE, PRELUDE, SAMPLE, TOP, is_unproved
 
 CRATE = f"{TOP}/crates/hobbydresser_c"
 INCLUDE = f"-I{TOP}/include"
@@ -33,8 +33,9 @@ LEFT_OUT = dict.fromkeys(("reserve", "room", "word", "publish", "look", "part", 
 # Cases whose lines are calls, and that ask for more than the library answers: by file, with the reason.
 OF_A_RING = "a ring answers, and not the core"
 ASKS_MORE = {
+    "every_order": {"too many queues are told behind their sizes and before the audit's room": OF_A_RING},
     "limits": dict.fromkeys(("16 producers", "a ring of 4,096 slots is filled"), OF_A_RING),
-    "queues": dict.fromkeys(("no queue", "queue zero", "producer zero", "past last producer", "not publishable"), OF_A_RING),
+    "queues": dict.fromkeys(("producer zero", "past last producer", "not publishable"), OF_A_RING),
     "small_audits": {"one place": OF_A_RING},
     "turned_barrier_and": {"bit_1": OF_A_RING},
     "turned_barrier_or": {"bit_2": OF_A_RING},
@@ -86,24 +87,15 @@ def left_in(path):
 def hold_cases(counts, driver):
     """Every case of scripts whose lines are calls, held byte for byte."""
     paths, left = [], {}
-    for path in sorted(glob.glob(f"{TOP}/crates/cases/data/*.case")):
+    for path in sorted(glob.glob(f"{TOP}/cases/*.case")):
         title = os.path.basename(path).removesuffix(".case")
         found = left_in(path)
         if found is None or title == "differs":
             continue
         paths.append(path)
         left[title] = {**found, **ASKS_MORE.get(title, {})}
-    passed, failed = against.hold({"scripts": [driver, "{POLICY}", "{NEXT}..", "{AUDIT}"]}, paths, left=left)
+    passed, failed = against.hold({"scripts": [driver, "{POLICY}", "{NEXT}..", "{AUDIT}"]}, paths, DEADLINE, left)
     counts.passed, counts.failed = counts.passed + passed, counts.failed + failed
-
-
-def has_hsa():
-    """Whether there is an hsa.h, if need be from Debian."""
-    found = "/usr/include/hsa/hsa.h"
-    if not os.path.exists(found) and os.geteuid() == 0 and shutil.which("apt-get"):
-        for words in (["apt-get", "update"], ["apt-get", "install", "-y", "libhsa-runtime-dev"]):
-            subprocess.run(words, stdin=subprocess.DEVNULL, capture_output=True)
-    return os.path.exists(found)
 
 
 def try_programs(counts, room, links):
@@ -111,13 +103,14 @@ def try_programs(counts, room, links):
     plain = ["gcc", "-std=c11", *STRICT, INCLUDE]
     programs = [
         ("misuses", [*plain, "-o", f"{room}/misuses", f"{HERE}/c_misuses.c", *links]),
+        ("what the last call left and lacked", [*plain, *SANITIZED, "-o", f"{room}/behind", f"{HERE}/c_behind.c", *links]),
         ("misuses with the sanitizers of addresses and undefined behaviour", [*plain, *SANITIZED, "-o", f"{room}/sanitized", f"{HERE}/c_misuses.c", *links]),
         ("memory refused in turn", [*plain, "-Wl,--wrap=malloc,--wrap=realloc", "-o", f"{room}/memory", f"{HERE}/c_memory.c", *links]),
         ("two threads with the sanitizer of threads", [*plain, "-fsanitize=thread", "-o", f"{room}/threads", f"{HERE}/c_threads.c", *links, "-lpthread"]),
         ("C++17", ["g++", "-std=c++17", *STRICT, INCLUDE, "-o", f"{room}/cpp", f"{HERE}/c_program.cpp", *links]),
         ("the example", [*plain, "-o", f"{room}/device", f"{TOP}/examples/c/device.c", *links]),
     ]
-    if has_hsa():
+    if os.path.exists("/usr/include/hsa/hsa.h"):
         programs.append(("packets of hsa.h", [*plain, "-o", f"{room}/hsa", f"{HERE}/c_hsa.c", *links]))
     else:
         print("skipped: libhsa-runtime-dev is not installed")
@@ -132,7 +125,7 @@ def try_programs(counts, room, links):
 
 def ended(words, script="", room=None, **environment):
     """How a command ended, where it didn't end well."""
-    ran = subprocess.run(words, input=script, capture_output=True, text=True, timeout=300, cwd=room, env={**os.environ, **environment})
+    ran = subprocess.run(words, input=script, capture_output=True, text=True, timeout=DEADLINE, cwd=room, env={**os.environ, **environment})
     return f"status {ran.returncode}\n{ran.stdout}{ran.stderr}" if ran.returncode else None
 
 
@@ -150,13 +143,13 @@ def instructions(program, packets):
     """How many instructions a program takes for so many packets."""
     with tempfile.TemporaryDirectory(prefix="c-count-") as room:
         words = ["valgrind", "--tool=callgrind", f"--callgrind-out-file={room}/out", program, str(packets)]
-        ran = subprocess.run(words, capture_output=True, text=True, timeout=300)
+        ran = subprocess.run(words, capture_output=True, text=True, timeout=DEADLINE)
         return int(re.search(r"Collected : (\d+)", ran.stderr)[1])
 
 
-def try_speed(counts, room, links):
+def try_speed(counts, room, links, is_told):
     """Packets through the library and through the plain broker by hand: both come to their end, and the library's packet takes no more
-    instructions than its ceiling."""
+    instructions than its ceiling, where that is not only told."""
     plain = ["gcc", "-std=c11", "-O2", "-Wall", "-Wextra", "-Wpedantic", "-Werror", INCLUDE, f"{TOP}/examples/bench/c_speed.c"]
     for name, more in (("speed", links), ("plain_speed", [f"{TOP}/examples/bench/plain_broker.c"])):
         counts.add(f"{name}: compiles without a warning", built([*plain, "-o", f"{room}/{name}", *more]))
@@ -164,7 +157,7 @@ def try_speed(counts, room, links):
         if shutil.which("valgrind"):
             packet = (instructions(f"{room}/{name}", 2000) - instructions(f"{room}/{name}", 1000)) / 1000
             print(f"{name}: {packet:.0f} instructions a packet")
-            if name == "speed":
+            if name == "speed" and not is_told:
                 counts.add(f"a packet takes at most {CEILING} instructions", f"{packet:.0f}" if packet > CEILING else None)
 
 
@@ -206,9 +199,10 @@ class Checkout:
 
     def __init__(self, room, archive, brokerd):
         self.top = f"{room}/checkout"
-        for name in ("include", "examples", "packaging", "crates/brokerd/data", "crates/hobbydresser_c/src"):
+        for name in ("include", "examples", "packaging", "runtime", "tools", "crates/brokerd/data", "crates/brokerd/src", "crates/hobbydresser_c/src"):
             shutil.copytree(f"{TOP}/{name}", f"{self.top}/{name}")
-        shutil.copy(f"{TOP}/Makefile", self.top)
+        for name in ("Makefile", "crates.txt"):
+            shutil.copy(f"{TOP}/{name}", self.top)
         kit = f"{room}/kit"
         os.makedirs(f"{kit}/bin")
         os.makedirs(f"{kit}/c")
@@ -220,6 +214,13 @@ class Checkout:
         self.has_brokerd = brokerd is not None
         self.environment = {**os.environ, "PATH": f"{kit}/bin:{os.environ['PATH']}", "HOME": f"{room}/home"}
 
+    def lacked(self, block):
+        """Why a block can't be typed, or none."""
+        if not self.has_brokerd and any("/brokerd" in line for line in block.lines):
+            return "brokerd is not built"
+        missing = [it for it in ("cmake", "pkg-config") if not shutil.which(it) and any(it in line for line in block.lines)]
+        return f"{missing[0]} is not installed" if missing else None
+
     def type(self, counts, page):
         """Types the commands of a page, block by block: each ends well, and writes what the block below it has."""
         came = None
@@ -229,11 +230,11 @@ class Checkout:
                 os.makedirs(os.path.dirname(path), exist_ok=True)
                 with open(path, "w", encoding="utf-8") as it:
                     it.write(spelled(block.lines))
-            elif block.kind == "sh" and not self.has_brokerd and any("/brokerd" in line for line in block.lines):
-                print(f"skipped: docs/c.md, line {block.line}: brokerd is not built")
+            elif block.kind == "sh" and (lacked := self.lacked(block)):
+                print(f"skipped: docs/c.md, line {block.line}: {lacked}")
                 came = None
             elif block.kind == "sh":
-                ran = subprocess.run(["sh", "-e"], input=spelled(block.lines), cwd=self.top, env=self.environment, capture_output=True, text=True, timeout=300)
+                ran = subprocess.run(["sh", "-e"], input=spelled(block.lines), cwd=self.top, env=self.environment, capture_output=True, text=True, timeout=DEADLINE)
                 came = ran.stdout.splitlines()
                 counts.add(f"docs/c.md, line {block.line}: what is typed ends well", f"status {ran.returncode}\n{ran.stdout}{ran.stderr}" if ran.returncode else None)
             elif block.kind == "came" and came is not None:
@@ -261,7 +262,7 @@ def main(archive=None, brokerd=None):
             counts.add(f"the {os.path.basename(driver)} of C11 compiles without a warning", built(words))
         try_programs(counts, room, links)
         try_valgrind(counts, room, drivers[0])
-        try_speed(counts, room, links)
+        try_speed(counts, room, links, is_unproved(brokerd))
         try_journals(counts, room, drivers[1], brokerd)
         try_page(counts, room, os.path.abspath(archive), brokerd)
         hold_cases(counts, drivers[1])

@@ -9,7 +9,7 @@
 
 #include "hobbydresser.h"
 
-enum { QUEUES = 64, SLOTS = 4096, WORDS = 64, LONGEST = 16384 };
+enum { WORDS = 64, LONGEST = 16384 };
 
 static hd_broker broker = HD_BROKER;
 
@@ -20,11 +20,13 @@ static FILE *journal;
 static hd_chain chain;
 static unsigned long line_number;
 
-/* The ring of each queue: what was published and not yet retired. */
-static struct {
+/* The ring of each queue that is open, by its number: what was published and not yet retired. */
+typedef struct ring {
     uint64_t size, producers, write, read;
     uint8_t *packets;
-} rings[QUEUES + 1];
+} ring;
+static ring *rings;
+static uint64_t ring_count;
 
 static const char *const refusals[] = {
     "OutOfMemory", "UnknownClient", "UnknownQueue", "Denied", "Busy", "NotAllowed", "OutOfStep", "QueueDown", "NotInFlight",
@@ -147,16 +149,27 @@ static uint8_t *bytes_in(const char *word, size_t *length)
     return bytes;
 }
 
+/* The right that the call before lacked, which asked for this one. */
+static void tell_lacking(const char *right)
+{
+    hd_held lacking;
+    if (hd_lacking(&broker, &lacking) != HD_OK) stop("hd_lacking");
+    for (int i = 0; i < 6; i++)
+        if (lacking.rights == 1u << i && strcmp(rights[i], right) == 0) printf(" %s", rights[i]);
+}
+
 /* A refusal, and the right that its call lacks. */
 static void refuse(hd_status status, const char *right)
 {
+    hd_held none;
     if (status < 1 || status > 17 || !refusals[status - 1][0]) {
         char why[64];
         snprintf(why, sizeof why, "status %" PRIu32, status);
         stop(why);
     }
     printf("refused %" PRIu32 " %s", status - 1, refusals[status - 1]);
-    if (status == HD_DENIED) printf(" %s", right);
+    if (status == HD_DENIED) tell_lacking(right);
+    else if (hd_lacking(&broker, &none) != HD_NO_SUCH) stop("hd_lacking");
 }
 
 static void answer(hd_status status, const char *right)
@@ -364,50 +377,76 @@ static void open_queue(char **words)
         answer(status, "USE");
         return;
     }
-    rings[queue].size = size;
-    rings[queue].producers = producers;
-    rings[queue].packets = memory(size * 64);
+    if (queue != ring_count + 1) stop("another number");
+    rings = realloc(rings, ++ring_count * sizeof *rings);
+    if (!rings) stop("no memory");
+    rings[queue - 1] = (ring){ .size = size, .producers = producers, .packets = memory(size * 64) };
     printf("queue %" PRIu64 "\n", queue);
 }
 
-static uint64_t queue_in(const char *word)
+/* The ring of a queue, if it is open. */
+static ring *ring_of(uint64_t queue)
 {
-    uint64_t queue = decimal(word);
-    if (queue == 0 || queue > QUEUES || !rings[queue].packets) stop("a ring's refusal");
-    return queue;
+    return queue && queue <= ring_count && rings[queue - 1].packets ? &rings[queue - 1] : NULL;
+}
+
+static void close_queue(char **words)
+{
+    uint64_t queue = decimal(words[1]);
+    hd_status status = hd_close_queue(&broker, queue);
+    ring *of = ring_of(queue);
+    if (status == HD_OK) {
+        if (!of) stop("a queue that isn't open");
+        free(of->packets);
+        of->packets = NULL;
+    }
+    answer(status, "");
+}
+
+/* The answer to a packet of a queue that isn't open. */
+static void answer_unknown(uint64_t queue)
+{
+    static const uint8_t none[64];
+    hd_taken taken;
+    uint64_t next;
+    answer(hd_take(&broker, queue, 0, none, &taken, &next), "");
 }
 
 static void submit(char **words)
 {
     size_t length;
-    uint64_t producer = decimal(words[2]);
+    uint64_t queue = decimal(words[1]), producer = decimal(words[2]);
     uint8_t *bytes = bytes_in(words[3], &length);
+    ring *of = ring_of(queue);
     if (length != 64) bad_request();
-    uint64_t queue = queue_in(words[1]);
-    if (producer == 0 || producer > rings[queue].producers) stop("a ring's refusal");
-    if (rings[queue].write - rings[queue].read >= rings[queue].size) stop("a full ring");
-    if (bytes[0] == 1) stop("a packet of type INVALID");
-    memcpy(rings[queue].packets + rings[queue].write % rings[queue].size * 64, bytes, 64);
+    if (of) {
+        if (producer == 0 || producer > of->producers) stop("a ring's refusal");
+        if (of->write - of->read >= of->size) stop("a full ring");
+        if (bytes[0] == 1) stop("a packet of type INVALID");
+        memcpy(of->packets + of->write % of->size * 64, bytes, 64);
+        printf("published %" PRIu64 "\n", of->write++);
+    } else {
+        answer_unknown(queue);
+    }
     free(bytes);
-    printf("published %" PRIu64 "\n", rings[queue].write++);
 }
 
 static void serve(char **words)
 {
     static const char *const causes[] = { "Barrier", "Active", "Slots" };
-    static const uint8_t none[64];
-    uint64_t queue = decimal(words[1]), id, next;
+    uint64_t queue = decimal(words[1]), next;
     hd_taken taken;
-    if (queue == 0 || queue > QUEUES || !rings[queue].packets) {
-        answer(hd_take(&broker, queue, 0, none, &taken, &next), "");
+    ring *of = ring_of(queue);
+    if (!of) {
+        answer_unknown(queue);
         return;
     }
-    id = rings[queue].read;
-    if (id == rings[queue].write) {
+    uint64_t id = of->read;
+    if (id == of->write) {
         printf("empty\n");
         return;
     }
-    hd_status status = hd_take(&broker, queue, id, rings[queue].packets + id % rings[queue].size * 64, &taken, &next);
+    hd_status status = hd_take(&broker, queue, id, of->packets + id % of->size * 64, &taken, &next);
     if (status != HD_OK) {
         answer(status, "");
         return;
@@ -416,7 +455,7 @@ static void serve(char **words)
         printf("waiting %" PRIu64 " %s\n", id, causes[taken.became - HD_AWAITS_BARRIER]);
         return;
     }
-    rings[queue].read++;
+    of->read++;
     if (taken.became == HD_LAUNCHED) {
         printf("launched %" PRIu64 "\n", id);
         return;
@@ -511,6 +550,47 @@ static void test(char **words)
     else printf(held ? "true\n" : "false\n");
 }
 
+/* How many entries there are, with those that came before the audit's. */
+static uint64_t entries(void)
+{
+    uint64_t before, count;
+    if (hd_audit_count(&broker, &before, &count) != HD_OK) stop("hd_audit_count");
+    return before + count;
+}
+
+/* Whether a change of all is the one that is told by itself, bytes and all. */
+static int is_one(size_t index, const hd_effect *effect, const uint8_t *bytes)
+{
+    hd_effect one;
+    uint64_t needed;
+    if (hd_effect_at(&broker, index, &one) != HD_OK || one.kind != effect->kind || memcmp(&one.address, &effect->address, sizeof one - offsetof(hd_effect, address)) != 0) return 0;
+    if (one.kind != HD_WROTE) return one.length == 0;
+    uint8_t *alone = memory(one.length);
+    int is_same = hd_effect_bytes(&broker, index, alone, one.length, &needed) == HD_OK && needed == one.length && memcmp(alone, bytes, needed) == 0;
+    free(alone);
+    return is_same;
+}
+
+/* Holds what the last call of a line left against the changes one by one: all of its entry's, or none where it left no entry. */
+static void hold_effects(uint64_t entries_before)
+{
+    static uint8_t none[1];
+    uint64_t needed, number, again, same, count = 0, index = 0;
+    hd_status status = hd_effects(&broker, none, 0, &needed, &number);
+    if (status != (needed ? HD_TOO_SHORT : HD_OK)) stop("hd_effects");
+    uint8_t *buffer = memory(needed);
+    if (hd_effects(&broker, buffer, needed, &again, &same) != HD_OK || again != needed || same != number) stop("hd_effects");
+    if (number && hd_effect_count(&broker, &count) != HD_OK) stop("hd_effect_count");
+    for (uint64_t place = 0; place < needed; index++) {
+        hd_effect effect;
+        const uint8_t *bytes;
+        place = hd_effect_in(buffer, place, &effect, &bytes);
+        if (!is_one(index, &effect, bytes)) stop("an effect");
+    }
+    free(buffer);
+    if (index != count || number != (entries() > entries_before ? entries() : 0)) stop("the effects");
+}
+
 /* Makes the call that a line is. */
 static void ask(char **words, int count)
 {
@@ -519,6 +599,7 @@ static void ask(char **words, int count)
     else if (strcmp(verb, "revoke") == 0 && count == 5) change_rights(0, words);
     else if (strcmp(verb, "queue") == 0 && count == 5) open_queue(words);
     else if (strcmp(verb, "stop") == 0 && count == 2) answer(hd_stop(&broker, decimal(words[1])), "");
+    else if (strcmp(verb, "close") == 0 && count == 2) close_queue(words);
     else if (strcmp(verb, "submit") == 0 && count == 4) submit(words);
     else if (strcmp(verb, "serve") == 0 && count == 2) serve(words);
     else if (strcmp(verb, "run") == 0 && count == 3) run(words);
@@ -601,11 +682,14 @@ int main(int count, char **arguments)
         if (strcspn(line, "\n") > LONGEST) bad_request();
         if (line[0] == '#') continue;
         for (char *word = strtok(line, " \t\r\n"); word && found < WORDS; word = strtok(NULL, " \t\r\n")) words[found++] = word;
+        uint64_t entries_before = entries();
         if (found) ask(words, found);
+        if (found) hold_effects(entries_before);
         go_on();
     }
     if (journal) end_journal();
     free(line_room(0, &length));
-    for (int i = 0; i <= QUEUES; i++) free(rings[i].packets);
+    for (uint64_t i = 0; i < ring_count; i++) free(rings[i].packets);
+    free(rings);
     return hd_close(&broker) == HD_OK && hd_close(&broker) == HD_CLOSED ? 0 : 65;
 }

@@ -86,6 +86,10 @@ static int life(long at, int *was_told)
     packet[0] = 0;
     MAKE(hd_take(&broker, 1, 1, packet, &taken, &next));
     MAKE(hd_errors(&broker, 1, &error, 1, &errors));
+    if (hd_close_queue(&broker, 1) != HD_OK) {
+        printf("refused at %ld: a close wants memory\n", at);
+        return 1;
+    }
     *was_told = left < 0;
     left = -1;
     MAKE(hd_close(&broker));

@@ -52,6 +52,7 @@ static void all_closed(hd_broker *broker)
     IS(hd_revoke(broker, 1, HD_AGENT, 1, HD_USE, &one, &two), HD_CLOSED);
     IS(hd_open_queue(broker, 1, 1, 2, &one), HD_CLOSED);
     IS(hd_stop(broker, 1), HD_CLOSED);
+    IS(hd_close_queue(broker, 1), HD_CLOSED);
     IS(hd_take(broker, 1, 0, before, &taken, &one), HD_CLOSED);
     IS(hd_run(broker, 1, 0, &worked), HD_CLOSED);
     IS(hd_poll(broker, 1, 0, &polled), HD_CLOSED);
@@ -63,6 +64,9 @@ static void all_closed(hd_broker *broker)
     IS(hd_effect_count(broker, &one), HD_CLOSED);
     IS(hd_effect_at(broker, 0, &effect), HD_CLOSED);
     IS(hd_effect_bytes(broker, 0, bytes, 64, &one), HD_CLOSED);
+    IS(hd_effects(broker, bytes, 64, &one, &two), HD_CLOSED);
+    IS(hd_lacking(broker, &held), HD_CLOSED);
+    IS(hd_agent_takes(broker, 1, &word), HD_CLOSED);
     IS(hd_kernel_layout(broker, 1, &layout), HD_CLOSED);
     IS(hd_kernel_text(broker, 1, (char *)bytes, 64, &one), HD_CLOSED);
     IS(hd_kernel_entry(broker, 1, (char *)bytes, 64, &one), HD_CLOSED);
@@ -371,6 +375,60 @@ static void longest_write(void)
     IS(hd_close(&broker), HD_OK);
 }
 
+/* Of 64 open queues one with two packets in flight is closed, while the audit has room for these alone: they are released, in order.
+   Then there is room for another close, and behind a rotation for another queue, with a number of its own. */
+static void closes(const uint8_t *policy, size_t length)
+{
+    static uint8_t packet[64] = { 0x04, 0x14, 0x00, 0x80 };
+    hd_broker broker = HD_BROKER;
+    hd_fault fault;
+    hd_taken taken;
+    hd_effect effect;
+    hd_error error;
+    uint64_t queue, holder, next, before_it, count;
+    memcpy(packet + 16, &(uint64_t){ (uint64_t)1 << 32 }, 8);
+    memcpy(packet + 24, &(uint64_t){ 4 }, 8);
+    IS(hd_open(&broker, policy, length, 70, &fault), HD_OK);
+    IS(hd_grant(&broker, 1, HD_AGENT, 1, HD_USE), HD_OK);
+    IS(hd_grant(&broker, 1, HD_REGION, 1, HD_READ | HD_WRITE), HD_OK);
+    for (uint64_t number = 1; number <= 64; number++) {
+        IS(hd_open_queue(&broker, 1, 1, 2, &queue), HD_OK);
+        IS(queue, number);
+    }
+    IS(hd_open_queue(&broker, 1, 1, 2, &queue), HD_TOO_MANY);
+    for (uint64_t id = 0; id < 2; id++) {
+        IS(hd_take(&broker, 40, id, packet, &taken, &next), HD_OK);
+        IS(taken.became, HD_LAUNCHED);
+    }
+    IS(hd_close_queue(&broker, 0), HD_UNKNOWN_QUEUE);
+    IS(hd_close_queue(&broker, 65), HD_UNKNOWN_QUEUE);
+    IS(hd_close_queue(&broker, 1), HD_AUDIT_FULL);
+    IS(hd_revoke(&broker, 1, HD_REGION, 1, HD_WRITE, &queue, &holder), HD_BUSY);
+    IS(hd_close_queue(&broker, 40), HD_OK);
+    IS(hd_effect_count(&broker, &count), HD_OK);
+    IS(count, 2);
+    for (size_t i = 0; i < 2; i++) {
+        IS(hd_effect_at(&broker, i, &effect), HD_OK);
+        IS(effect.kind, HD_RELEASED);
+        IS(effect.queue, 40);
+        IS(effect.packet, i);
+    }
+    IS(hd_close_queue(&broker, 40), HD_UNKNOWN_QUEUE);
+    IS(hd_stop(&broker, 40), HD_UNKNOWN_QUEUE);
+    IS(hd_errors(&broker, 40, &error, 1, &count), HD_UNKNOWN_QUEUE);
+    IS(hd_close_queue(&broker, 1), HD_OK);
+    IS(hd_effect_count(&broker, &count), HD_OK);
+    IS(count, 0);
+    IS(hd_audit_count(&broker, &before_it, &count), HD_OK);
+    IS(count, 70);
+    IS(hd_rotate(&broker), HD_OK);
+    IS(hd_revoke(&broker, 1, HD_REGION, 1, HD_WRITE, &queue, &holder), HD_OK);
+    IS(hd_open_queue(&broker, 1, 1, 2, &queue), HD_OK);
+    IS(queue, 65);
+    IS(hd_errors(&broker, 64, &error, 1, &count), HD_OK);
+    IS(hd_close(&broker), HD_OK);
+}
+
 int main(int count, char **arguments)
 {
     static uint8_t policy[1 << 20];
@@ -397,6 +455,7 @@ int main(int count, char **arguments)
     IS(hd_close(&broker), HD_OK);
     all_closed(&broker);
     IS(hd_close(&other), HD_OK);
+    closes(policy, length);
     if (!failed) printf("ok\n");
     return failed;
 }

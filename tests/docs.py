@@ -13,13 +13,14 @@ import subprocess
 import sys
 import tempfile
 
+from trial import DEADLINE
+
 TOP = pathlib.Path(__file__).resolve().parent.parent
 FENCE = re.compile(r"^(`{3,})(.*)$")
 NAMED = re.compile(r"`([\w./-]+\.(?:antt|c|case|edit|hsail|md|names|py|rt|script|sh|svg|toml))`")
-SECONDS = 120
 
-# What `rt` is for a page's commands: the program is built already, so it is only run.
-RT = '#!/bin/sh\ncase "$1" in try|run) shift;; *) echo "rt $1: not here" >&2; exit 2;; esac\n[ "$1" = -- ] && shift\nexec brokerd "$@"\n'
+# What `make` is for a page's commands: the program is built already.
+MAKE = '#!/bin/sh\n[ $# = 0 ] || { echo "make $1: not here" >&2; exit 2; }\necho build/brokerd is there\n'
 
 
 class Wrong(Exception):
@@ -85,7 +86,7 @@ def differs(wanted, came):
 def program(words, room, given="", shell=False):
     """What a program wrote to standard output, and to standard error."""
     ran = subprocess.run(
-        words, cwd=room, input=given, shell=shell, capture_output=True, text=True, timeout=SECONDS,
+        words, cwd=room, input=given, shell=shell, capture_output=True, text=True, timeout=DEADLINE,
         env={"PATH": f"{room}/bin:/usr/local/bin:/usr/bin:/bin", "LANG": "C.UTF-8"},
     )
     return ran.stdout.splitlines(), ran.stderr.splitlines()
@@ -162,8 +163,7 @@ class Page:
         came, at = [], 0
         for line in block.lines:
             if line.startswith("$ "):
-                command = line[2:].replace("crates/brokerd/out/brokerd", "brokerd")
-                out, err = program(command, self.room, shell=True)
+                out, err = program(line[2:], self.room, shell=True)
                 came += [line, *out, *err]
                 at += 1
         if not at:
@@ -210,7 +210,7 @@ def paths():
     """The paths of the files of the repository, as one text, a line each."""
     found = []
     for folder, folders, files in os.walk(TOP):
-        folders[:] = [it for it in folders if it not in ("out", ".git")]
+        folders[:] = [it for it in folders if it not in ("out", "build", ".git")]
         found += [f"{folder}/{it}\n" for it in files]
     return "".join(found)
 
@@ -238,9 +238,9 @@ def try_page(path, brokerd):
         room = pathlib.Path(folder)
         (room / "bin").mkdir()
         (room / "bin" / "brokerd").symlink_to(brokerd)
-        (room / "bin" / "rt").write_text(RT)
-        (room / "bin" / "rt").chmod(0o755)
-        for it in ("crates", "docs", "examples", "tests", "README.md"):
+        (room / "bin" / "make").write_text(MAKE)
+        (room / "bin" / "make").chmod(0o755)
+        for it in ("cases", "crates", "docs", "examples", "tests", "README.md"):
             (room / it).symlink_to(TOP / it)
         page = Page(path, room)
         for block in blocks_of(path.read_text()):

@@ -6,9 +6,9 @@ import subprocess
 import sys
 import tempfile
 
-from trial import BARRIER, FILL, KERNEL, PRELUDE, SAMPLE, TOP, Trials, library_of, run, text
+from trial import BARRIER, DEADLINE, FILL, KERNEL, PRELUDE, SAMPLE, TOP, Trials, library_of, run, text
 
-DATA = f"{TOP}/crates/cases/data"
+DATA = f"{TOP}/cases"
 ZEROS = "0" * 16
 
 
@@ -77,11 +77,16 @@ REFUSED = [
     ("1 UnknownClient", ["list carol"], ["declares no client of this name; it has alice, bob"]),
     ("2 UnknownQueue", ["stop 1"], ["no queue is open"]),
     ("2 of some", [*PRELUDE, "stop 7"], ["queues are numbered from 1, and 1 were opened"]),
+    ("2 behind a closed one", [*PRELUDE, "close 1", "stop 2"], ["queues are numbered from 1, and 1 were opened"]),
+    ("2 of a closed one", [*PRELUDE, "queue alice gpu 2 1", "close 1", "grant bob region buf READ", "stop 1"], ["queue 1 was closed by entry 9\n"]),
+    ("2 of a ring", [*LAUNCHED, "close 1", "submit 1 1 " + FILL], ["queue 1 was closed by entry 9\n"]),
+    ("2 of one that was closed twice", [*PRELUDE, "close 1", "close 1"], ["queue 1 was closed by entry 8\n"]),
+    ("2 of one that was closed before a rotation", [*PRELUDE, "close 1", "grant bob region buf READ", "rotate", "queue alice gpu 2 1", "errors 1"], ["queue 1 was closed at the latest by entry 9\n"]),
     ("3 not allowed", ["write bob 0000000100000000 00"], ["bob has no WRITE on region buf", "no allow row of the policy covers WRITE on region buf (0000000100000000 to 000000010000003f) for bob"]),
     ("3 range", [*PRELUDE, "read alice 000000010000003d 8"], ["8 bytes from 000000010000003d on", "don't lie whole in region buf"]),
     ("3 nowhere", [*PRELUDE, "read alice 0000000900000000 8"], ["lie in no region of the policy"]),
     ("3 name", [*PRELUDE, "load alice dune"], ["declares no signal of this name; it has done, go"]),
-    ("4 Busy", [*LAUNCHED, "revoke alice region buf WRITE"], ["packet 0 of queue 1 is in flight", "`run 1 0`", "`finish 1 0`"]),
+    ("4 Busy", [*LAUNCHED, "revoke alice region buf WRITE"], ["packet 0 of queue 1 is in flight", "`run 1 0`", "`finish 1 0`", "`close 1` ends the queue"]),
     ("4 by a barrier", [*HELD, "revoke alice signal go WAIT"], ["barrier packet 0 of queue 1 is in flight", "`stop 1` releases"]),
     ("5 NotAllowed", ["grant bob region buf READ,WRITE"], ["no allow row of the policy covers WRITE on region buf"]),
     ("5 kind", ["grant alice region buf WAIT"], ["WAIT is no right on a region: there is READ and WRITE\n"]),
@@ -100,7 +105,7 @@ REFUSED = [
     ("9 of a barrier", [*HELD, "finish 1 0"], ["is not ready", "it waits for signal done, whose value is 1", "it waits for signal go, whose value is 1"]),
     ("11 BadSize", [*PRELUDE, "queue alice gpu 3 1"], ["3 slots and 1 producers are asked for"]),
     ("11 of bytes", [*PRELUDE, "read alice 0000000100000000 65537"], ["65537 are asked for"]),
-    ("12 TooMany", [*PRELUDE, *["queue alice gpu 2 1"] * 64], ["64 queues were opened"]),
+    ("12 TooMany", [*PRELUDE, *["queue alice gpu 2 1"] * 64], ["`close` one"]),
     ("13 UnknownObject", ["grant alice region bug READ"], ["declares no region of this name; it has buf, args"]),
     ("14 NotAStep of a producer", [*PRELUDE, "reserve 1 3"], ["producers are 1 to 2, and 3 is none"]),
     ("14 of a foreign ticket", [*PRELUDE, "reserve 1 1", "room 1 2 0"], ["ticket 0 is producer 1's, not producer 2's"]),
@@ -417,7 +422,7 @@ def order(trials, explained):
     def trial(_):
         words = [explained.program, "run", SAMPLE, "--explain"]
         script = text(["list bob", "load bob done", "list bob", "stop 1", "list alice"])
-        ran = subprocess.run(words, input=script, stdout=subprocess.PIPE, stderr=subprocess.STDOUT, timeout=60)
+        ran = subprocess.run(words, input=script, stdout=subprocess.PIPE, stderr=subprocess.STDOUT, timeout=DEADLINE)
         lines = ran.stdout.decode().split("\n")
         kinds = [re.sub(r"[: ].*", "", line) for line in lines if line]
         wanted = ["list", "refused", "line", "line", "list", "refused", "line", "list"]

@@ -64,6 +64,7 @@ OPENED = ["grant alice agent gpu USE", "queue alice gpu 2 1"]
 REFUSED = [
     (["list carol"], 1),
     (["stop 1"], 2),
+    ([*OPENED, "close 1", "close 1"], 2),
     (["read bob 0000000100000000 8"], 3),
     (["grant bob region buf WRITE"], 5),
     ([*OPENED, "stop 1", "stop 1"], 7),
@@ -75,7 +76,7 @@ REFUSED = [
     ([*FLYING, "finish 1 0"], 9),
     ([OPENED[0], *["queue alice gpu 2 1"] * 65], 12),
     (OPENED, 10, ["--audit", "1"]),
-    (["reload 1"], 16, [f"{TOP}/crates/cases/data/access.toml"]),
+    (["reload 1"], 16, [f"{TOP}/cases/access.toml"]),
 ]
 
 

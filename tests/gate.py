@@ -2,8 +2,9 @@
 """Runs `rt ci`, and behind it the trials of this folder on the programs that it has proved and built.
 
 The last line is `N passed, M failed` over all, and the status is 0 only where nothing failed. `rt ci` leaves each
-program that it has proved as crates/NAME/out/NAME. With a path, gate.py PROGRAM, the trials alone are run, on that one
-in place of brokerd.
+program that it has proved as crates/NAME/out/NAME. The trials are those of `make quick`, here on the proved program, and those
+that it leaves out. `make` builds the program unproved besides, and the versions of both are held. With a path, gate.py PROGRAM,
+the trials alone are run, on that one in place of brokerd.
 """
 import importlib.machinery
 import importlib.util
@@ -13,13 +14,13 @@ import shutil
 import subprocess
 import sys
 
-from trial import HERE, TOP
+from proof_minutes import Watch
+from trial import HERE, TOP, is_unproved, version
 
-CASES = f"{TOP}/crates/cases/data"
-JOINS = f"{TOP}/crates/joins/out/joins"
-WANTS = f"{TOP}/crates/wants/out/wants"
+BUILD = f"{TOP}/build"
+BENCH = f"{TOP}/crates/bench/out/bench"
 ARCHIVE = f"{TOP}/crates/hobbydresser_c/out/libhobbydresser_c.a"
-TRIALS = ("cases.py", "words.py", "memory.py", "streams.py", "texts.py", "explain.py", "picture.py", "rotation.py", "decode.py", "listing.py", "pages.py", "forms.py", "terminal.py", "readable.py", "journals.py", "docs.py", "instructions.py")
+PROVED = re.compile(r"brokerd [\d.]+ \(rattle-kit-\w+ logic [0-9a-f]{16}\)\n")
 
 
 def told(words):
@@ -62,30 +63,32 @@ def build_archive():
     subprocess.run(["rt", "lib"], cwd=os.path.dirname(os.path.dirname(ARCHIVE)), stdin=subprocess.DEVNULL)
 
 
-def written_anew():
-    """Whether the cases that are written by a script here are those that it writes."""
-    scripts = [(["turned_bits.py", it], None, f"turned_{it}.case") for it in ("fill", "kernel", "barrier_and", "barrier_or")]
-    scripts.append((["beginnings.py"], "inc.hsail", "beginnings.case"))
+def try_versions(proved):
+    """Has `make` build the program unproved, and holds the versions: that one says that it is unproved, the proved one doesn't."""
+    built = subprocess.run(["make", "-C", TOP], stdin=subprocess.DEVNULL).returncode == 0
     counts = [0, 0]
-    for words, given, name in scripts:
-        with open(f"{CASES}/{given}" if given else os.devnull, "rb") as it:
-            made = subprocess.run([sys.executable, "-B", f"{HERE}/{words[0]}", *words[1:]], stdin=it, capture_output=True)
-        with open(f"{CASES}/{name}", "rb") as it:
-            well = made.returncode == 0 and made.stdout == it.read()
+    for name, well in (
+        ("make builds the program unproved", built),
+        ("its version says so", built and is_unproved(f"{BUILD}/brokerd")),
+        ("the version of the proved program tells what it is proved with", PROVED.fullmatch(version(proved)) is not None),
+    ):
         counts[0 if well else 1] += 1
-        print(f"{'ok' if well else 'FAILED'} {name} is what {words[0]} writes", flush=True)
+        print(f"{'ok' if well else 'FAILED'} {name}", flush=True)
     return counts
 
 
 def main(program=None):
-    counts = [written_anew(), told([sys.executable, "-B", f"{HERE}/wrong_bodies.py"])]
+    counts = []
     if not program:
-        counts.append(told(["rt", "ci"]))
+        with Watch():
+            counts.append(told(["rt", "ci"]))
         build_archive()
         program = f"{TOP}/crates/brokerd/out/brokerd"
-    for script, tried in [*((it, program) for it in TRIALS), ("joins.py", JOINS), ("wants.py", WANTS), ("c.py", ARCHIVE)]:
+        counts.append(try_versions(program))
+    counts.append(told([sys.executable, "-B", f"{HERE}/quick.py", os.path.abspath(program), ARCHIVE]))
+    for script in "joins.py", "wants.py":
         print(f"== {script}", flush=True)
-        counts.append(told([sys.executable, "-B", f"{HERE}/{script}", os.path.abspath(tried)]))
+        counts.append(told([sys.executable, "-B", f"{HERE}/{script}", BENCH]))
     passed, failed = (sum(column) for column in zip(*counts))
     print(f"{passed} passed, {failed} failed")
     sys.exit(1 if failed else 0)

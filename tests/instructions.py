@@ -3,8 +3,8 @@
 
 What is counted doesn't depend on the machine's load. Each row runs a command twice, once with more work, and divides the
 difference by the further work, so that starting and ending don't count. The ceilings stand in tests/instructions.toml;
-`docs/performance.md` tells the figures. Without valgrind nothing is counted, and the script says so: where it is root it
-first asks Debian for it.
+`docs/performance.md` tells the figures. Without valgrind nothing is counted, and the script says so. Of a program that says
+that it is unproved the counts are told, and a ceiling fails nothing; the rows of lanes want the proved bench, and are left out.
 """
 import os
 import re
@@ -14,7 +14,7 @@ import sys
 import tempfile
 import tomllib
 
-from trial import FILL, HERE, PRELUDE, SAMPLE, TOP, program_given, text
+from trial import FILL, HERE, PRELUDE, SAMPLE, TOP, is_unproved, program_given, text
 
 BENCH = f"{TOP}/crates/bench/out/bench"
 # counts only what lies in the settling of a broker that has run, and in letting it go
@@ -67,6 +67,42 @@ MEETING = ("""
   ret;
 """, 65_535)
 
+# families of instructions, of which each stands fifty times in a row in one kernel
+FAMILIES = {
+    "step of least, greatest, quotient or remainder": (
+        "min_u32 $s0, $s1, $s2;", "max_s64 $d1, $d2, 5;", "div_u32 $s0, $s1, $s2;", "div_s64 $d1, $d1, $d2;", "rem_u32 $s0, $s1, 7;", "rem_s64 $d1, $d1, 7;"),
+    "step of cmov, not or mad with constants": (
+        "cmov_b32 $s0, $c0, $s1, $s2;", "cmov_b32 $s0, $c0, 1, 2;", "cmov_b64 $d1, $c0, $d2, 7;", "not_b32 $s0, $s1;", "not_b64 $d1, $d2;",
+        "mad_u32 $s1, $s1, 5, $s2;", "mad_u64 $d1, $d1, $d2, 5;", "mad_u32 $s1, $s1, 5, 6;"),
+    "step of a conversion": (
+        "cvt_u64_u32 $d1, $s1;", "cvt_u32_u64 $s1, $d1;", "cvt_s64_s32 $d1, $s2;", "cvt_u32_u8 $s1, $s2;", "cvt_s64_s8 $d1, $s2;",
+        "cvt_s64_u64 $d1, $d2;", "cvt_b1_u32 $c1, $s2;", "cvt_u32_b1 $s1, $c2;"),
+    "step of one bit": (
+        "and_b1 $c0, $c1, $c2;", "or_b1 $c0, $c1, 1;", "not_b1 $c0, $c1;", "mov_b1 $c0, 1;", "cmov_b1 $c0, $c1, $c2, $c3;", "cmp_eq_b1_b1 $c0, $c1, $c2;"),
+    "step with a constant in front": (
+        "sub_s32 $s0, 0, $s1;", "add_u32 $s0, 7, $s2;", "mul_u64 $d1, 7, $d2;", "shl_u64 $d1, 1, $s1;", "shr_s32 $s1, 9, $s2;",
+        "cmp_lt_b1_u32 $c0, 7, $s1;", "cmp_gt_b1_s64 $c0, 7, $d1;"),
+    "step that asks for its place or an argument": (
+        "workitemabsid_u32 $s1, 0;", "workitemid_u32 $s1, 0;", "workgroupid_u32 $s1, 1;", "gridsize_u64 $d1, 0;", "ld_kernarg_u64 $d1, [%words];"),
+    "load from group memory, or a store to it": (
+        "ld_group_u32 $s1, [%word];", "ld_group_s8 $s1, [%word];", "st_group_u32 $s1, [%word];", "st_group_u16 5, [%word];"),
+    "atomic on group memory": (
+        "atomicnoret_add_group_rlx_wg_u32 [%word], 1;", "atomic_max_group_rlx_wg_s32 $s1, [%word], $s2;", "atomic_cas_group_rlx_wg_b32 $s1, [%word], 1, 2;"),
+    "load from global memory": (
+        "ld_global_u32 $s1, [$d0];", "ld_global_s8 $s1, [$d0+9];", "ld_global_u64 $d1, [$d0+16];"),
+    "store to global memory": (
+        "st_global_u32 $s1, [$d0];", "st_global_u8 5, [$d0+9];", "st_global_u64 $d1, [$d0+16];"),
+    "atomic on global memory": (
+        "atomic_add_global_rlx_wg_u32 $s1, [$d0], 1;", "atomic_cas_global_rlx_wg_b64 $d1, [$d0+16], 1, 2;"),
+    "barrier of a group": ("barrier;",),
+}
+
+
+def family(lines):
+    """A kernel that has each instruction of a family fifty times in a row, with how many steps an item takes."""
+    rows = "".join(f"  {line}\n" * 50 for line in lines)
+    return f"\n  group_u32 %word;\n  ld_kernarg_u64 $d0, [%words];\n{rows}  ret;\n", 50 * len(lines) + 2
+
 
 def policy(regions, body, header="kernarg_u64 %words"):
     """A policy of one client, one agent, so many regions and one kernel, that allows the client all of it."""
@@ -97,6 +133,14 @@ def packets(count):
     return lines
 
 
+def queues(count):
+    """So many queues of the sample, one after the other: opened, and closed with a packet in flight."""
+    lines = list(PRELUDE)
+    for number in range(2, count + 2):
+        lines += ["queue alice gpu 2 1", f"submit {number} 1 {FILL}", f"serve {number}", f"close {number}"]
+    return lines
+
+
 def refused(count, lines):
     """So many packets of the sample, a rotation that hands their entries out, and so many lines that are refused after it."""
     return packets(count) + ["rotate"] + ["finish 1 0", "read bob 0000000100000000 8"] * (lines // 2)
@@ -115,11 +159,26 @@ def run_lines(regions, queues, count):
     return lines + ["run 1 0"] * count
 
 
+def broad(signals, rows):
+    """A policy of 64 clients, 16 agents, 64 regions and so many signals, with these rows on rights."""
+    named = lambda kind, count, more="": "".join(f'[[{kind}]]\nname = "{kind[0]}{number}"\n{more}' for number in range(count))
+    return named("client", 64) + named("agent", 16, 'takes = ["kernel"]\n') + named("region", 64, "length = 64\n") + named("signal", signals, "initial = 1\n") + rows
+
+
+def allow(client, kind, item, right):
+    return f'[[allow]]\nclient = "{client}"\nkind = "{kind}"\nobject = "{item}"\nrights = ["{right}"]\n'
+
+
+def single(count):
+    """So many allow rows, each of one client on one region, and a last one of all on all."""
+    return "".join(allow(f"c{i % 64}", "region", f"r{i // 64 % 64}", "READ") for i in range(count - 1)) + allow("*", "region", "*", "READ")
+
+
 class Counter:
     """Runs commands under callgrind, their policies in a folder."""
 
     def __init__(self, brokerd, room):
-        self.brokerd, self.room, self.wrong = brokerd, room, []
+        self.brokerd, self.room, self.wrong, self.is_unproved = brokerd, room, [], is_unproved(brokerd)
 
     def policy(self, written):
         path = f"{self.room}/policy.toml"
@@ -169,13 +228,27 @@ class Counter:
         few, many = (self.instructions([*words, self.policy(policy(1, body(count)))]) for count in (500, 2000))
         return (many - few) / 1500
 
+    def granted(self, rows):
+        """A grant and its revocation, by a policy with so many rows."""
+        lines = ["grant c63 region r63 READ", "revoke c63 region r63 READ"]
+        return self.script(broad(64, single(rows)), lines * 100, lines * 300, 200)
+
+    def reload(self, rows):
+        """A reload of a policy of 64 clients and 1,024 signals with these rows."""
+        path = self.policy(broad(1024, rows))
+        more, less = (self.instructions([self.brokerd, "run", path, path], text(lines)) for lines in (["reload 1"], []))
+        return more - less
+
     def rows(self):
         with open(SAMPLE, encoding="utf-8") as it:
             sample = it.read()
         yield "scripted packet", lambda: self.script(sample, packets(500), packets(1500), 1000)
+        yield "queue with a packet, from its opening to its close", lambda: self.script(sample, queues(100), queues(300), 200)
         yield "step in registers", lambda: self.kernel(COUNTING)
         yield "step with a load and a store in twelve", lambda: self.kernel(STORING)
         yield "step with atomics and barriers", lambda: self.kernel(MEETING)
+        for name, lines in FAMILIES.items():
+            yield name, lambda lines=lines: self.kernel(family(lines))
         yield "run line, 2 regions, 8 in flight", lambda: self.script(policy(2, "\n  ret;\n"), run_lines(2, 1, 100), run_lines(2, 1, 300), 200)
         yield "run line, 64 regions, 512 in flight", lambda: self.script(policy(64, "\n  ret;\n"), run_lines(64, 64, 10), run_lines(64, 64, 30), 20)
         yield "checked instruction", self.check
@@ -183,7 +256,11 @@ class Counter:
         yield "replayed entry", lambda: self.replay(sample)
         yield "refused line with --explain, 15,000 entries before it", lambda: self.script(sample, refused(5_000, 100), refused(5_000, 300), 200, ["--explain"])
         yield "run of refused lines with --explain, in hundredths of it without", lambda: self.explained(sample)
-        if os.path.exists(BENCH):
+        yield "grant and revocation, 64 rows", lambda: self.granted(64)
+        yield "grant and revocation, 4,090 rows, in hundredths of those with 64", lambda: 100 * self.granted(4090) / max(self.granted(64), 1)
+        yield "reload, 4,090 rows of one client on one region", lambda: self.reload(single(4090))
+        yield "reload, 4,096 rows of all on all signals", lambda: self.reload(allow("*", "signal", "*", "WAIT") * 4096)
+        if os.path.exists(BENCH) and not self.is_unproved:
             yield "packet of a lane", self.lanes
             yield "packet of a lane, from its ring to its finish", lambda: self.lanes() - self.lanes([SETTLING])
 
@@ -197,19 +274,11 @@ class Counter:
         return (count(300) - count(100)) / (200 * (1 + 2 + 4) * (1 + 4 + 16))
 
 
-def has_valgrind():
-    """Whether there is a valgrind, if need be from Debian."""
-    if not shutil.which("valgrind") and os.geteuid() == 0 and shutil.which("apt-get"):
-        for words in (["apt-get", "update"], ["apt-get", "install", "-y", "valgrind"]):
-            subprocess.run(words, stdin=subprocess.DEVNULL, capture_output=True)
-    return shutil.which("valgrind") is not None
-
-
 def main():
     brokerd = program_given()
     with open(f"{HERE}/instructions.toml", "rb") as it:
         ceilings = tomllib.load(it)
-    if not has_valgrind():
+    if not shutil.which("valgrind"):
         print("skipped: there is no valgrind to count with")
         print("0 passed, 0 failed")
         return 0
@@ -220,14 +289,17 @@ def main():
             found, most = count(), ceilings.pop(name, 0)
             if found > most and name.startswith("packet of a lane"):
                 found = min(found, count())
-            well = 0 < found <= most
+            is_within = 0 < found <= most
+            well = is_within or found > 0 and counter.is_unproved
             passed, failed = passed + well, failed + (not well)
-            print(f"{'ok' if well else 'FAILED'} {name}: {found:,.1f}, at most {most:,}", flush=True)
+            told = "at most" if is_within or not well else "above what a proved program may take,"
+            print(f"{'ok' if well else 'FAILED'} {name}: {found:,.1f}, {told} {most:,}", flush=True)
         for why in counter.wrong:
             print(f"    {why}")
     for name in ceilings:
-        print(f"FAILED {name}: no such row was counted")
-        failed += 1
+        is_left_out = name.startswith("packet of a lane") and counter.is_unproved
+        print(f"{'left out' if is_left_out else 'FAILED'} {name}: no such row was counted")
+        failed += not is_left_out
     print(f"{passed} passed, {failed} failed")
     return 1 if failed else 0
 

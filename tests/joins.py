@@ -1,11 +1,12 @@
 #!/usr/bin/env python3
-"""Has each request for memory of the program that joins parts refused in turn, once, and from then on: joins.py PROGRAM
+"""Has each request for memory of the command that joins parts refused in turn, once, and from then on: joins.py PROGRAM
 
-PROGRAM is that of crates/joins: it joins two parts of a history, and where it is refused memory for that, it says so and
-joins the parts that came back once more. With one request refused it writes what it writes with memory, and before
+PROGRAM is that of crates/bench. `bench joins` joins two parts of a history, and where it is refused memory for that, it says
+so and joins the parts that came back once more. With one request refused it writes what it writes with memory, and before
 `joined` the line `refused 0 OutOfMemory`: so both parts came back whole. Or the request wasn't the joining's, and it ends
 with status 3 and `no memory` behind a beginning of its output. With all requests refused from one of the joining's on, it
-says so once and ends. What it writes with memory is known from its calls: crates/joins/stdout.
+says so once and ends. What it writes with memory is known from its calls, and stands in crates/bench/stdout, since
+`bench all` joins them too.
 """
 import os
 import tempfile
@@ -24,15 +25,16 @@ class Joins:
     def __init__(self, memory):
         self.memory, self.joining = memory, set()
         self.found = {"as ever": 0, "ended": 0}
-        with open(f"{TOP}/crates/joins/stdout", "rb") as it:
-            self.whole = Ended(0, it.read(), b"")
+        with open(f"{TOP}/crates/bench/stdout", "rb") as it:
+            all_told = it.read()
+        self.whole = Ended(0, all_told[all_told.index(b"entries ") : all_told.index(b"replay ")], b"")
         place = self.whole.out.index(b"joined ")
         self.before, self.behind = self.whole.out[:place], self.whole.out[place:]
         self.told = self.before + f"{WANT}\n".encode()
-        self.ended, self.requests = memory.count([], b"")
+        self.ended, self.requests = memory.count(["joins"], b"")
 
     def once(self, at):
-        ended = self.memory.run([], b"", at)
+        ended = self.memory.run(["joins"], b"", at)
         if ended == Ended(0, self.told + self.behind, b""):
             self.joining.add(at)
             return None
@@ -44,7 +46,7 @@ class Joins:
         return f"it ended while it joined: {ended}" if ended.out == self.before else starves(ended, self.whole)
 
     def from_then_on(self, at):
-        ended = self.memory.run([], b"", at, True)
+        ended = self.memory.run(["joins"], b"", at, True)
         if at not in self.joining:
             return starves(ended, self.whole)
         return None if ended == Ended(3, self.told, NO_MEMORY) else f"it ended otherwise: {ended}"
@@ -62,7 +64,7 @@ def main():
     program = program_given()
     trials = Trials("parts that are joined")
     if not os.path.exists(program):
-        trials.every("the program that joins is built", lambda _: "it isn't: `rt run` in crates/joins builds it", [program])
+        trials.every("the program that joins is built", lambda _: "it isn't: `rt run` in crates/bench builds it", [program])
         trials.end()
     with tempfile.TemporaryDirectory() as room:
         joins = Joins(Memory(program, library_of("refuse.c", room), room))

@@ -19,10 +19,10 @@ from trial import FILL, KERNEL, PRELUDE, SAMPLE, TOP, Ended, Trials, program_giv
 sys.path.insert(0, f"{TOP}/examples")
 import replay
 
-CASES = f"{TOP}/crates/cases"
+CASES = f"{TOP}/cases"
 READER = [sys.executable, "-B", f"{TOP}/examples/replay.py"]
 # the words of an event, where they are always as many
-WIDTHS = {"open": 4, "take": 4, "grant": 5, "revoke": 5, "stop": 2, "run": 3, "poll": 3, "finish": 3, "write": 4}
+WIDTHS = {"open": 4, "take": 4, "grant": 5, "revoke": 5, "stop": 2, "close": 2, "run": 3, "poll": 3, "finish": 3, "write": 4}
 # places enough for few rotations, and for many
 PLACES = ("65536", "40")
 
@@ -130,9 +130,9 @@ class CaseOfScript:
 
 def cases_of_scripts():
     """All cases of scripts."""
-    with open(f"{CASES}/args", encoding="ascii") as it:
-        names = [name for name in it.read().split() if name != "differs.case"]
-    for path in (f"{CASES}/data/{name}" for name in names):
+    with open(f"{CASES}/files", encoding="ascii") as it:
+        names = [line.split()[0] for line in it]
+    for path in (f"{CASES}/{name}" for name in names):
         head, cases = against.cases_in(against.text_in(path))
         if head.kind in ("scripts", "strict", "runs", "readable"):
             setting = against.Setting(path, head)
@@ -318,6 +318,7 @@ def replays(trials, program, room):
         "kernels": (commands.KERNELS, ()),
         "nothing": ([], ()),
         "reload": ([*PRELUDE, "reload 1", "grant bob agent gpu USE", "reload 1"], (other,)),
+        "closed": ([*PRELUDE, f"submit 1 1 {FILL}", "serve 1", "queue alice gpu 4 1", "close 1", "queue alice gpu 2 1", "stop 3", f"submit 2 1 {FILL}", "serve 2"], ()),
         "rotated": ([*PRELUDE, "rotate", f"submit 1 1 {FILL}", "serve 1", "rotate", "run 1 0", "finish 1 0"], ()),
     }
 

@@ -10,8 +10,9 @@ owed a refusal (`may_want` has what is left out).
 
 With all requests refused from one on, a script goes on with the lines that need no memory, and their replies are those
 of the script without the lines that were refused; it ends with its last line, or with status 3 and `no memory` where it
-can't read a line or write a reply. So with some requests in a row, behind which there is memory once more. Any other run
-ends with status 3 and `no memory`.
+can't read a line or write a reply. So with some requests in a row, behind which there is memory once more. A strict run may
+end with status 1 at the line that was refused, where there was room for that reply. Any other run ends with status 3 and
+`no memory`.
 """
 import functools
 import os
@@ -25,7 +26,7 @@ from trial import SAMPLE, Ended, Trials, blocks, library_of, run, text
 WANT = "refused 0 OutOfMemory"
 NO_MEMORY = b"no memory\n"
 # what takes no memory, and so isn't refused for want of it: these calls and steps, and what has nothing to tell
-TAKES_NONE = ("grant", "revoke", "finish", "stop", "poll", "signal", "load", "test")
+TAKES_NONE = ("grant", "revoke", "finish", "stop", "close", "poll", "signal", "load", "test")
 STEPS = ("room", "word", "publish", "look", "part", "peek", "clear", "advance", "retire")
 NOTHING_TOLD = ("waiting ", "list 0", "errors 0", "audit 0", "done")
 
@@ -59,10 +60,10 @@ class Memory:
     def __init__(self, program, library, room):
         self.program, self.library, self.room = program, library, room
 
-    def run(self, words, given, at=0, on=False, count=None, seconds=60, row=1):
+    def run(self, words, given, at=0, on=False, count=None, row=1):
         env = {"LD_PRELOAD": self.library, "REFUSE_AT": str(at), "REFUSE_FOR": str(row)}
         env.update({"REFUSE_ON": "1"} if on else {}, **({"REFUSE_COUNT": count} if count else {}))
-        return run([self.program, *words], given, env, seconds)
+        return run([self.program, *words], given, env)
 
     def count(self, words, given):
         """How the run ends with memory, and how many requests it makes."""
@@ -118,8 +119,9 @@ class TextTrial:
 
     def from_then_on(self, at):
         # (threads that were begun may have what they need, or try again and again in vain, up to 10,000,000 times)
-        seconds = 600 if self.row.form == "threads" else 60
-        ended = self.memory.run(self.row.words, self.given, at, True, seconds=seconds)
+        ended = self.memory.run(self.row.words, self.given, at, True)
+        if self.row.form == "strict" and ended.status == 1:
+            return self.is_refused(ended)
         if self.row.form == "strict" and "--journal" in self.row.words and ended.out.endswith(f"{WANT}\n".encode()) and (ended.status, ended.err) == (3, NO_MEMORY):
             # (a line was refused, and the journal's last line wanted memory, too)
             return self.is_refused(Ended(1, ended.out, b""))

@@ -15,7 +15,7 @@ EXAMPLES = ("fill", "increment", "two_queues")
 BAD_NAMES = ("a<b", "a&b", 'a\\"b', "a'b", "a>b", "a&amp;b", "\\u00e9", "a b", "", "x" * 65)
 # the entries of an audit, by how their lines go on, and what each is drawn as; the first that fits counts
 SIGNS = (
-    (r"grant ", "grant"), (r"revoke ", "revocation"), (r"queue ", "lane"), (r"stop ", "stop"),
+    (r"grant ", "grant"), (r"revoke ", "revocation"), (r"queue ", "lane"), (r"stop ", "stop"), (r"close ", "close"),
     (r"take \d+ \d+ launched", "bar"), (r"take \d+ \d+ denied ", "denial"), (r"run \d+ \d+ group ", "group"), (r"run \d+ \d+ faulted ", "fault"),
     (r"poll \d+ \d+ seen ", "look"), (r"poll \d+ \d+ failed ", "fault"),
     (r"finish ", "completion"), (r"write ", "write"), (r"signal ", "change"), (r"reload", "reload"),
@@ -62,6 +62,11 @@ def ends_of(entries):
     return ends
 
 
+def closes_of(entries):
+    """Of each queue that is closed, the place of the entry that closes it."""
+    return {entry.split(";")[0].split(" ")[1]: at + 1 for at, entry in enumerate(entries) if entry.startswith("close ")}
+
+
 class Page:
     """A page, read."""
 
@@ -96,7 +101,8 @@ def step_of(count):
 
 
 def wrong_element(entry, number, place, step, ending, group):
-    """Why an element isn't what its entry is to be drawn as, or none. `ending` is how and where the packet ends that it launches."""
+    """Why an element isn't what its entry is to be drawn as, or none. `ending` is how and where the packet ends that it launches, or
+    where the queue ends that it opens."""
     classes, (left, _, width, _) = group.get("class").split(" "), box(group)
     if classes[0] != sign_of(entry):
         return f"entry {number}, {entry!r}, is drawn as {classes}"
@@ -104,6 +110,8 @@ def wrong_element(entry, number, place, step, ending, group):
         return f"the element of entry {number} stands elsewhere"
     if classes[0] == "bar" and (classes[1] != ending[0] or width - step // 2 != step * (ending[1] - number)):
         return f"the packet of entry {number} ended {ending}, and is drawn as {classes}, {width} wide"
+    if classes[0] == "lane" and width != step * (ending[1] - number + 1):
+        return f"the queue of entry {number} ended at {ending[1]}, and its lane is {width} wide"
     words = [it.text or "" for it in (*group.iter(f"{SVG}title"), *group.iter(f"{SVG}text"))]
     broken = re.search(r" (denied|faulted|failed) (.*?)(;|$)", entry)
     if broken and not (len(words) == 2 and all(broken[2] in told for told in words)):
@@ -138,8 +146,9 @@ def wrong_arrows(handed, entries, page, step):
 
 
 def wrong_start(handed, entries, page):
-    """Why what the audit begins from isn't drawn: a lane for each queue, and a bar for each packet in flight."""
-    lanes = [re.match(r"queue (\d+) ", it)[1] for it in handed if it.startswith("queue ")]
+    """Why what the audit begins from isn't drawn: a lane for each open queue, and a bar for each packet in flight."""
+    closed = closes_of(handed)
+    lanes = [it.split(" ")[1] for it in handed if it.startswith("queue ") and it.split(" ")[1] not in closed]
     ended = ends_of(handed)
     flying = [it.split(" ")[1:3] for it in handed if re.match(r"take \d+ \d+ launched", it)]
     flying = [it for it in flying if " ".join(it) not in ended]
@@ -201,7 +210,7 @@ def wrong_page(parts, text, skipped=0):
         return "its axis has no number"
     if [int(told) for group, (told, _) in zip(page.groups, page.titles) if told != "start" and int(told) <= before + skipped and not re.match("lane|bar", group.get("class"))]:
         return "entries that aren't asked for are drawn"
-    ends = ends_of(entries)
+    ends, closes = ends_of(entries), closes_of(entries)
     for at, entry in enumerate(entries):
         groups = page.of_number(before + at + 1)
         if at < skipped:
@@ -209,6 +218,8 @@ def wrong_page(parts, text, skipped=0):
         if len(groups) != 1:
             return f"{len(groups)} elements for entry {before + at + 1}"
         ending, last = ends.get(" ".join(entry.split(" ")[1:3]), ("open", len(entries))) if entry.startswith("take ") else ("", 0)
+        if entry.startswith("queue "):
+            last = closes.get(entry.split(" ")[1], len(entries))
         number = before + at + 1
         wrong = wrong_element(entry, number, x(number), step, (ending, before + last), groups[0])
         if wrong:
@@ -218,7 +229,7 @@ def wrong_page(parts, text, skipped=0):
 
 
 def random_script(seed, more=()):
-    """Lines of two queues, of which many are refused, denied or fault, with some of these lines between them."""
+    """Lines of some queues, of which many are refused, denied or fault, with some of these lines between them."""
     dice = random.Random(seed)
     lines = [*PRELUDE, "queue alice gpu 4 1", "write alice 0000000200000000 0000000001000000"]
     past = KERNEL.replace("04000000", "18000000", 1)
@@ -226,7 +237,7 @@ def random_script(seed, more=()):
         queue, packet = dice.randrange(1, 4), dice.randrange(4)
         lines.append(dice.choice((
             f"submit {queue} 1 {dice.choice((FILL, KERNEL, BARRIER, past, '0' * 128))}", f"serve {queue}", f"serve {queue}", f"run {queue} {packet}",
-            f"run {queue} {packet}", f"finish {queue} {packet}", f"finish {queue} {packet}", f"poll {queue} {packet}", f"stop {dice.randrange(1, 9)}",
+            f"run {queue} {packet}", f"finish {queue} {packet}", f"finish {queue} {packet}", f"poll {queue} {packet}", f"stop {dice.randrange(1, 9)}", f"close {dice.randrange(1, 9)}",
             f"signal alice {dice.choice(('done', 'go'))} store {dice.randrange(-1, 2)}", f"{dice.choice(('grant', 'revoke'))} alice region buf WRITE",
             "queue alice gpu 2 1", "write alice 0000000100000000 0102", "list alice", "audit", "load alice done", "", *more,
         )))

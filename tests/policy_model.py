@@ -2,6 +2,7 @@
 
 Of kernels it tells no fault but that of an empty text. It has nothing of the broker's code.
 """
+import functools
 import re
 
 try:
@@ -143,23 +144,30 @@ def grant_reply(tree, client, kind, name, rights):
     return "ok" if all(allows(tree, client, kind, name, it) for it in rights) else "refused 5 NotAllowed"
 
 
+@functools.lru_cache(maxsize=64)
+def tree_of(text):
+    """The tree of a policy's text as bytes; its first fault is raised. Nobody changes a tree."""
+    if len(text) > MOST_BYTES:
+        raise Fault(6)
+    try:
+        tree = tomllib.loads(text.decode("utf-8"), parse_float=finite)
+    except (UnicodeDecodeError, tomllib.TOMLDecodeError) as error:
+        raise Fault(1) from error
+    if not is_within_64_bits(tree):
+        raise Fault(1)
+    judge(tree)
+    return tree
+
+
 def told(text):
     """The exit status, the output and the fault, of a policy's text as bytes; and the texts of its kernels."""
     kernels = []
     try:
-        if len(text) > MOST_BYTES:
-            raise Fault(6)
-        try:
-            tree = tomllib.loads(text.decode("utf-8"), parse_float=finite)
-        except (UnicodeDecodeError, tomllib.TOMLDecodeError) as error:
-            raise Fault(1) from error
-        if not is_within_64_bits(tree):
-            raise Fault(1)
-        counts = judge(tree)
+        tree = tree_of(text)
         kernels = [it["text"] for it in tree.get("kernel", [])]
     except Fault as fault:
         return (1, b"", f"{fault}\n".encode()), kernels
     if "" in kernels:
         return (1, b"", f"kernel {kernels.index('') + 1}: read 2 line 1 column 1\n".encode()), kernels
-    lines = [f"{name} {count}" for name, count in counts]
+    lines = [f"{name} {count}" for name, count in judge(tree)]
     return (0, "".join(f"{it}\n" for it in [*lines, "ok"]).encode(), b""), kernels

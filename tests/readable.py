@@ -183,8 +183,19 @@ def drains(trials, program):
         # a denied packet stops its queue
         (["revoke alice region buf WRITE", fill, fill, "drain 1"],
          ["ok", "published 0", "published 1", "drained launched 0 denied 1 ran 0 faulted 0 ready 0 failed 0 finished 0 waiting 1", "queue 1 refused 7 QueueDown"]),
+        # queues that were closed are passed over, with what a close released
+        (["close 1", "drain"], ["ok", none]),
+        (["queue alice gpu 4 1", "close 1", "queue alice gpu 2 1", *(fill.replace("1 1", f"{it} 1", 1) for it in (2, 3)), "drain", "drain 1", "drain"],
+         ["queue 2", "ok", "queue 3", "published 0", "published 0", "drained launched 2 denied 0 ran 2 faulted 0 ready 0 failed 0 finished 2 waiting 0",
+          none.replace("waiting 0", "waiting 1"), "queue 1 refused 2 UnknownQueue", none]),
+        (["queue alice gpu 2 1", fill, "serve 1", fill.replace("1 1", "2 1", 1), "serve 2", "close 1", "drain"],
+         ["queue 2", "published 0", "launched 0", "published 0", "launched 0", "ok", one.replace("launched 1", "launched 0")]),
+        (["close 1", *(line for it in range(2, 71) for line in ("queue alice gpu 2 1", f"close {it}")), "queue alice gpu 2 1", fill.replace("1 1", "71 1", 1), "drain", "load alice done"],
+         ["ok", *(line for it in range(2, 71) for line in (f"queue {it}", "ok")), "queue 71", "published 0", one, "value 0"]),
         # behind a rotation the packets in flight are those that it began with
         (["queue alice gpu 4 1", fill.replace("1 1", "2 1"), "serve 2", "rotate", "drain 1", "drain"], None),
+        (["queue alice gpu 4 1", "queue alice gpu 4 1", "close 2", fill.replace("1 1", "3 1"), "serve 3", "rotate", "drain 1", "drain"], None),
+        (["queue alice gpu 4 1", "queue alice gpu 4 1", fill, "serve 1", fill.replace("1 1", "3 1"), "serve 3", "rotate", "close 1", "queue alice gpu 2 1", "drain 4", "drain"], None),
     ]
     trials.every("drains", trial, [it for it in rows if it[1]])
 
@@ -214,7 +225,7 @@ def drains(trials, program):
 
 def cases(trials, program):
     """The files of cases that are plain scripts are replied to as without the option, but for what a readable line is."""
-    found = sorted(glob.glob(f"{TOP}/crates/cases/data/*.script"))
+    found = sorted(glob.glob(f"{TOP}/cases/*.script"))
 
     def trial(path):
         with open(path, "rb") as it:

@@ -13,6 +13,7 @@ TRIED = {
     "a kernel of two groups": [*PRELUDE, "write alice 0000000200000000 0000000001000000", f"submit 1 1 {KERNEL}", "serve 1", "run 1 0", "run 1 0", "finish 1 0"],
     "a barrier that is seen in turns": [*PRELUDE, f"submit 1 1 {BARRIER}", "serve 1", "signal alice done store 0", "poll 1 0", "signal alice done store 5", "signal alice go store 0", "poll 1 0", "finish 1 0"],
     "a queue that is stopped": [*PRELUDE, f"submit 1 1 {FILL}", "serve 1", "stop 1", "finish 1 0", "run 1 0", f"submit 1 1 {FILL}", "serve 1"],
+    "queues that are closed, and one opened behind": [*PRELUDE, f"submit 1 1 {FILL}", "serve 1", "queue alice gpu 2 1", "close 1", "errors 1", "queue alice gpu 4 1", f"submit 3 1 {FILL}", "serve 3", "close 2", "run 3 0", "close 3", "revoke alice region buf WRITE"],
     "rights that are held": [*PRELUDE, f"submit 1 1 {FILL}", "serve 1", "revoke alice region buf WRITE", "run 1 0", "finish 1 0", "revoke alice region buf WRITE", "list alice", "read alice 0000000100000000 8"],
     "two queues, the second of another client": [*PRELUDE, "grant bob agent gpu USE", "queue bob gpu 2 1", f"submit 1 1 {FILL}", f"submit 2 1 {FILL}", "serve 1", "serve 2", "errors 2", "run 1 0", "finish 1 0"],
     "a packet that is denied": [*PRELUDE, "revoke alice agent gpu USE", f"submit 1 1 {FILL}", "serve 1", "errors 1", "list alice"],

@@ -16,7 +16,7 @@ import tempfile
 import threading
 
 import commands
-from trial import FILL, PRELUDE, SAMPLE, Ended, Trials, blocks, library_of, run, text
+from trial import DEADLINE, FILL, PRELUDE, SAMPLE, Ended, Trials, blocks, library_of, run, text
 
 MOST_POLICY_BYTES = 1 << 20
 MOST_LINE_BYTES = 16384
@@ -27,7 +27,7 @@ READ, WRITE = b"read fault\n", b"write fault\n"
 
 def shell(program, words, how, given=b""):
     """Runs the program with its streams as a shell redirects them."""
-    return run(["sh", "-c", f'exec "$0" "$@" {how}', program, *words], given, seconds=60)
+    return run(["sh", "-c", f'exec "$0" "$@" {how}', program, *words], given)
 
 
 def wants(ended, status, err, out=b""):
@@ -56,8 +56,8 @@ def files(trials, program, room):
             os.chmod(f"{room}/locked", 0)
         paths.append(f"{room}/locked")
     for command in ("check", "run"):
-        trials.every(f"a policy that can't be read ends {command} with 3", lambda it: wants(run([program, command, it], seconds=60), 3, READ), paths)
-        trials.every(f"a policy without an end ends {command}", lambda it: wants(run([program, command, it], seconds=60), 1, b"policy: 6 TooMany\n"), ["/dev/zero"])
+        trials.every(f"a policy that can't be read ends {command} with 3", lambda it: wants(run([program, command, it]), 3, READ), paths)
+        trials.every(f"a policy without an end ends {command}", lambda it: wants(run([program, command, it]), 1, b"policy: 6 TooMany\n"), ["/dev/zero"])
 
 
 def further_files(trials, program, room):
@@ -95,7 +95,7 @@ def policy_reads(trials, program):
 
         feeder = threading.Thread(target=feed)
         feeder.start()
-        out, err = child.communicate(timeout=60)
+        out, err = child.communicate(timeout=DEADLINE)
         rest = 0
         while some := os.read(read_end, 1 << 20):
             rest += len(some)

@@ -12,9 +12,9 @@ import threading
 
 import commands
 import pages
-from trial import FILL, SAMPLE, TOP, Ended, Trials, run, text
+from trial import DEADLINE, FILL, SAMPLE, TOP, Ended, Trials, run, text
 
-KERNEL_TEXT = f"{TOP}/crates/cases/data/inc.hsail"
+KERNEL_TEXT = f"{TOP}/cases/inc.hsail"
 DENIED = text(["grant alice agent gpu USE", "queue alice gpu 2 1", f"submit 1 1 {FILL}", "serve 1"])
 REPLIES = b"ok\nqueue 1\npublished 0\ndenied queue 1 packet 0 rule L8\n"
 
@@ -56,7 +56,7 @@ def at_terminal(words, given=b"", typed=False, out=False, err=True):
     if not typed:
         os.close(feed)
     try:
-        status = child.wait(60)
+        status = child.wait(DEADLINE)
     except subprocess.TimeoutExpired:
         child.kill()
         status = "none: it did not end"

@@ -32,7 +32,8 @@ REFUSALS = {
 }
 # which of them a line may meet: those of its requests, and no other (a completion is never refused for a full audit)
 MEETS = {
-    "grant": (1, 13, 5, 10), "revoke": (1, 13, 4, 10), "queue": (1, 3, 11, 12, 10), "stop": (2, 7, 10), "reserve": (2, 14), "room": (2, 14),
+    "grant": (1, 13, 5, 10), "revoke": (1, 13, 4, 10), "queue": (1, 3, 11, 12, 10), "stop": (2, 7, 10), "close": (2, 10), "reserve": (2, 14),
+    "room": (2, 14),
     "word": (2, 14), "publish": (2, 14), "submit": (2, 14), "look": (2, 14), "part": (2, 14), "peek": (2, 14), "take": (2, 14, 7, 6, 10),
     "clear": (2, 14), "advance": (2, 14), "retire": (2, 14), "serve": (2, 14, 7, 6, 10), "run": (2, 8, 10), "poll": (2, 8, 10),
     "finish": (2, 8, 9), "write": (1, 11, 3, 10), "read": (1, 11, 3), "signal": (1, 3, 10), "load": (1, 3), "test": (1, 3), "list": (1,),
@@ -43,12 +44,13 @@ TAKEN = f"launched {NUMBER}|denied {ERROR}|waiting {NUMBER} (Barrier|Active|Slot
 EFFECTS = f"(; (write [0-9a-f]{{16}} ([0-9a-f]{{2}})+|signal {NUMBER} -?{NUMBER} -?{NUMBER}|release {NUMBER} {NUMBER}))*"
 ENTRY = (
     f"{NUMBER} ((grant|revoke) (alice|bob) (agent|region|signal|kernel) {NUMBER} {RIGHTS}|queue {NUMBER} (alice|bob) agent {NUMBER} size {NUMBER}"
-    f"|stop {NUMBER}|take {NUMBER} {NUMBER} (launched|denied {RULE})|run {NUMBER} {NUMBER} (group {NUMBER}|faulted {RULE} {PLACE})"
+    f"|(stop|close) {NUMBER}|take {NUMBER} {NUMBER} (launched|denied {RULE})|run {NUMBER} {NUMBER} (group {NUMBER}|faulted {RULE} {PLACE})"
     f"|poll {NUMBER} {NUMBER} (seen [1-5](,[1-5])*|failed B1)|finish {NUMBER} {NUMBER}|write (alice|bob)"
     f"|signal (alice|bob) (store|add|subtract|and|or|xor|exchange|cas)){EFFECTS}"
 )
 REPLIES = {
-    "grant": "ok", "revoke": "ok", "queue": f"queue {NUMBER}", "stop": "ok", "reserve": f"ticket {NUMBER}", "room": f"read {NUMBER}",
+    "grant": "ok", "revoke": "ok", "queue": f"queue {NUMBER}", "stop": "ok", "close": "ok", "reserve": f"ticket {NUMBER}",
+    "room": f"read {NUMBER}",
     "word": "ok", "publish": PUBLISHED, "submit": PUBLISHED, "look": "word [0-9a-f]{16}", "part": "word [0-9a-f]{16}",
     "peek": f"shown {NUMBER} [0-9a-f]{{128}}|empty", "take": TAKEN, "clear": "ok", "advance": f"read {NUMBER}", "retire": f"read {NUMBER}",
     "serve": f"empty|{TAKEN}", "run": f"ran {NUMBER} left {NUMBER}|faulted {ERROR}|done", "poll": f"pending|ready|failed {ERROR}",
@@ -419,7 +421,7 @@ def made_line(maker):
     return maker.choice([
         f"{maker.choice(['grant', 'revoke'])} {client()} {kind} {maker.choice(name)} {maker.choice([rights, rights, rights, '-'])}",
         f"queue {client()} gpu {maker.choice([2, 4, 8, 3, 0, 4096])} {maker.choice([1, 2, 16, 17, 0])}",
-        f"stop {queue()}" if maker.random() < 0.2 else "errors 1",
+        f"{maker.choice(['stop', 'close'])} {queue()}" if maker.random() < 0.2 else "errors 1",
         f"reserve {queue()} {seat()}",
         f"room {queue()} {seat()} {number()}",
         f"word {queue()} {seat()} {number()} {maker.randrange(10)} {word}",

@@ -7,6 +7,8 @@ from concurrent.futures import ThreadPoolExecutor
 HERE = os.path.dirname(os.path.abspath(__file__))
 TOP = os.path.dirname(HERE)
 SAMPLE = f"{TOP}/crates/brokerd/data/sample.toml"
+# How many seconds a run may take, on a machine that has other work.
+DEADLINE = 600
 
 FILL = "0414008000000000" + "0" * 16 + "0000000001000000" + "0400000000000000" + "5a00000000000000" + "0" * 32 + "0100000000000000"
 KERNEL = "0214010002000100" + "0100000004000000" + "0100000001000000" + "0" * 16 + "0100000000000000" + "0000000002000000" + "0" * 16 + "0100000000000000"
@@ -46,13 +48,26 @@ def program_given():
     return os.path.abspath(sys.argv[1])
 
 
-def run(words, given=b"", env=None, seconds=60):
+def run(words, given=b"", env=None):
     """Runs a program on some input. A run that doesn't end in time, or by a signal, has no status of its own."""
     try:
-        ran = subprocess.run(words, input=given, capture_output=True, env=env, timeout=seconds)
+        ran = subprocess.run(words, input=given, capture_output=True, env=env, timeout=DEADLINE)
     except subprocess.TimeoutExpired:
         return Ended("none: it did not end", b"", b"")
     return Ended(ran.returncode, ran.stdout, ran.stderr)
+
+
+def version(program):
+    """What a program says of its version; nothing where there is no such program."""
+    try:
+        return run([program, "--version"]).out.decode(errors="replace")
+    except OSError:
+        return ""
+
+
+def is_unproved(program):
+    """Whether a program's version says that it is built without proofs."""
+    return "unproved" in version(program)
 
 
 def library_of(source, room):

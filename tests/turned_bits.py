@@ -1,9 +1,9 @@
 #!/usr/bin/env python3
-"""Writes the cases of packets of which one bit is turned over: turned_bits.py KIND > crates/cases/data/turned_KIND.case
+"""Writes the cases of packets of which one bit is turned over: turned_bits.py KIND > cases/turned_KIND.case
 
 KIND is fill, kernel, barrier_and or barrier_or. What is wanted of each of the 512 packets is reckoned here from the
 layout of packets, the launch rules and the effects of packets (docs/aql_packets.md, docs/kernels.md,
-docs/barriers.md), and from no code of the broker. Each case stands behind crates/cases/data/prelude.script: Alice has
+docs/barriers.md), and from no code of the broker. Each case stands behind cases/prelude.script: Alice has
 USE on `gpu`, READ and WRITE on `buf` (64 bytes from 2^32) and `args` (16 bytes from 2 * 2^32), WAIT and CHANGE on
 `done` (1) and `go` (2), both 1 at first, and LAUNCH on `inc` (1), but not on `spin` (2).
 """

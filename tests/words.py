@@ -7,7 +7,7 @@ import tempfile
 
 from trial import FILL, PRELUDE, SAMPLE, TOP, Ended, Trials, run, text
 
-KERNEL_TEXT = f"{TOP}/crates/cases/data/inc.hsail"
+KERNEL_TEXT = f"{TOP}/cases/inc.hsail"
 # how many entries an audit has place for at the most, and where none is named
 MOST, DEFAULT = 1_048_576, 65_536
 COMMANDS = ("check", "run", "picture", "kernel", "assemble", "replay", "explain", "decode", "threads")
@@ -49,6 +49,7 @@ WRONG = [
     (["picture", SAMPLE, "--readable"], ["--readable"]),
     (["assemble", SAMPLE, "--readable"], ["--readable"]),
     (["kernel"], ["FILE"]),
+    (["kernel", KERNEL_TEXT, "--steps=yes"], ["--steps"]),
     (["assemble"], ["POLICY"]),
     (["explain"], ["WORD"]),
     (["decode"], ["128"]),

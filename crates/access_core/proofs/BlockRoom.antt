@@ -22,8 +22,8 @@ module _ (a : Inside) (kept : IsCached a) (queue : QueueId) (at : IsOpen a queue
   changed : (change : Queue → Queue) (count places : ℕ) → free_of (change at.q) + count ≡ free_of at.q + a.in_flight_count → places ≡ places_of a.blocks
       → HasBlockPlaces (with_queue a.queues.items queue change) count places
   changed change count places same still =
-      let longer = length-changed a.queues.items queue change at.q at.found in
-      let one = free-changed a.queues.items queue change at.q at.found in
+      let longer = length-changed a.queues.items queue change at.q at.found at.ascending in
+      let one = free-changed a.queues.items queue change at.q at.found at.ascending in
       record { free = omega (arith, longer, one, same, kept.block_room.free); enough = omega (arith, longer, still, kept.block_room.enough) }
 
   -- a change that leaves the packets in their places
@@ -64,7 +64,7 @@ module _ (a : Inside) (kept : IsCached a) (queue : QueueId) (can : CanTake a que
   pub launch-room : (p : Packet) (id : PacketId) → 0 < a.blocks.room
   launch-room p id =
       let longer = length-append can.opened.q.places (as_launched id p ∷ []) in
-      let one = free-changed a.queues.items queue (with_launched id p) can.opened.q can.opened.found in
+      let one = free-changed a.queues.items queue (with_launched id p) can.opened.q can.opened.found can.opened.ascending in
       omega (arith, longer, one, can.few, kept.block_room.free, kept.block_room.enough, blocks-count a kept)
 
 -- ---- a queue more

@@ -3,11 +3,10 @@ use Rattle.std.proofs.Common.{◌≡◌, ℕ, ◌+◌, ◌≤◌, List, [], ◌�
 use Rattle.std.proofs.Common.{All}
 use Rattle.access_core.proofs.Terms.{AreBlocksOf, ArgumentBlock, ClientId, Effect, Event, HasBlockPlaces, History, HoldsNone, InFlight, Inside, IsCached, IsEntered, IsSound, Ledger, Object, Outcome}
 use Rattle.access_core.proofs.Terms.{Owed}
-use Rattle.access_core.proofs.Terms.{PacketId, QUEUES, Queue, QueueId, Right, Start, block_of, is_given, byte_after, byte_at, cached_opening, cached_view, due, entered-owed}
+use Rattle.access_core.proofs.Terms.{PacketId, QUEUES, Queue, QueueId, Right, Start, block_of, is_given, byte_after, byte_at, cached_openings, cached_view, due, entered-owed}
 use Rattle.access_core.proofs.Terms.{enters, entry_of, flight, flight-more, history_of, places_of, in_force, in_force-more, in_force_after, lacks_room, launched_by, lengths_of}
-use Rattle.access_core.proofs.Terms.{lies_in_region, lies_in_regions, ltb-false, memory_at, memory_at-more, numbered, openings-more, owed, queue_at}
-use Rattle.access_core.proofs.Terms.{region_lengths, signals-more, signals_after, start_of, with_entry, with_some}
-use Rattle.core_model.specs.Queues.{opening_of}
+use Rattle.access_core.proofs.Terms.{lies_in_region, lies_in_regions, ltb-false, memory_at, memory_at-more, openings-more, owed, queue_at, queue_in}
+use Rattle.access_core.proofs.Terms.{region_lengths, signals-more, signals_after, start_of, with_entry, AscendFrom, Openings, openings_after}
 use Rattle.core_model.specs.Policies.{policy_at, rows_after}
 use Rattle.core_model.proofs.More.{rows_at-more}
 use Rattle.policy.specs.declared.rows.PolicyRows.{PolicyRows}
@@ -34,9 +33,11 @@ pub record MemoryAfter (old new : List (List ℕ)) (effects : List Effect) : Typ
   pub memory : (x byte : ℕ) → byte_at old x ≡ Some byte → byte_at new x ≡ Some (fold (byte_after x) byte effects)
 
 -- How the queues do.
-pub record QueuesAfter (a : Inside) (new : List Queue) (count : ℕ) (event : Event) (outcome : Outcome) (effects : List Effect) : Type 0 where
-  pub openings : map cached_opening new ≡ with_some (map cached_opening a.queues.items) (opening_of event)
-  pub queues : (queue : QueueId) → cached_view (numbered new queue.0) ≡ queue_at (start_of a) (with_entry a.audit.items event outcome effects) queue
+pub record QueuesAfter (a : Inside) (new : List Queue) (opened count : ℕ) (event : Event) (outcome : Outcome) (effects : List Effect) : Type 0 where
+  pub openings : cached_openings opened new ≡ openings_after (cached_openings a.opened a.queues.items) event
+  pub queues : (queue : QueueId) → cached_view (queue_in new queue) ≡ queue_at (start_of a) (with_entry a.audit.items event outcome effects) queue
+  pub ascending : AscendFrom 0 new
+  pub up_to : All (λ q. q.number.0 ≤ opened) new
   pub sound : All IsSound new
   pub few_queues : length new ≤ QUEUES
   pub in_flight_count : count ≡ length (flight (start_of a) (with_entry a.audit.items event outcome effects))
@@ -49,7 +50,7 @@ pub record FieldsAfter (a b : Inside) (event : Event) (outcome : Outcome) (effec
   pub grants : GrantsAfter a b.grants b.blocks.items event outcome effects
   pub memory : MemoryAfter a.memory b.memory effects
   pub values : b.signals ≡ fold signals_after a.signals effects
-  pub queues : QueuesAfter a b.queues.items b.in_flight_count event outcome effects
+  pub queues : QueuesAfter a b.queues.items b.opened b.in_flight_count event outcome effects
   pub block_room : HasBlockPlaces b.queues.items b.in_flight_count (places_of b.blocks)
 
 -- what is due to an event after a history is due by the fields that show it
@@ -99,8 +100,11 @@ module _ (a b : Inside) (event : Event) (outcome : Outcome) (effects : List Effe
         lengths = rw after.same.0.0 (after.memory.lengths ∙ was.lengths);
         memory = memory-after;
         values = rw (after.same.0.0, after.same.0.1, after.audit.items, signals-more, ← was.values) after.values;
-        openings = rw (after.same.0.0, after.same.0.1, after.audit.items, openings-more, ← was.openings) after.queues.openings;
+        openings = rw (after.same.0.0, after.same.0.1, after.audit.items)
+            (after.queues.openings ∙ ap (λ (all : Openings). openings_after all event) was.openings ∙ sym (openings-more (start_of a) a.audit.items (entry_of event outcome effects)));
         queues = λ queue. rw (after.same.0.0, after.same.0.1, after.audit.items) (after.queues.queues queue);
+        ascending = after.queues.ascending;
+        up_to = after.queues.up_to;
         sound = after.queues.sound;
         few_queues = after.queues.few_queues;
         in_flight_count = rw (after.same.0.0, after.same.0.1, after.audit.items) after.queues.in_flight_count;
@@ -127,10 +131,12 @@ pub memory-still : (memory : List (List ℕ)) (effects : List Effect) → ((x by
 memory-still memory effects none = record { lengths = refl; memory = λ x byte before. before ∙ ap Some (sym (none x byte)) }
 
 module _ (a : Inside) (was : IsCached a) (event : Event) (outcome : Outcome) (effects : List Effect) (quiet : IsQuiet event outcome effects) where
-  pub queues-still : opening_of event ≡ None → QueuesAfter a a.queues.items a.in_flight_count event outcome effects
-  queues-still none = record {
-    openings = sym (ap (with_some (map cached_opening a.queues.items)) none);
+  pub queues-still : ((all : Openings) → openings_after all event ≡ all) → QueuesAfter a a.queues.items a.opened a.in_flight_count event outcome effects
+  queues-still same = record {
+    openings = sym (same (cached_openings a.opened a.queues.items));
     queues = λ m. was.queues m ∙ sym (queue_at-quiet (start_of a) a.audit.items event outcome effects quiet m);
+    ascending = was.ascending;
+    up_to = was.up_to;
     sound = was.sound;
     few_queues = was.few_queues;
     in_flight_count = was.in_flight_count ∙ ap length (sym (flight-quiet (start_of a) a.audit.items event outcome effects quiet));

@@ -74,7 +74,7 @@ blocks-launched a kept event outcome q i p c rights bytes launches is queue id =
     ∙ sym (arguments-more (start_of a) a.audit.items (entry_of event outcome []) queue id ∙ (rw launches refl))
 
 -- what is told of each item is told of those that are left
-map-left : {X N : Type 0} (name : X → N) (stays : N → Bool) (xs : List X) → map name (filter (λ x. stays (name x)) xs) ≡ filter stays (map name xs)
+pub map-left : {X N : Type 0} (name : X → N) (stays : N → Bool) (xs : List X) → map name (filter (λ x. stays (name x)) xs) ≡ filter stays (map name xs)
 map-left name stays [] = refl
 map-left name stays (x ∷ xs) = grind (arith, map-left name stays xs)
 
@@ -115,7 +115,7 @@ pub turned-name : (q : QueueId) (i : PacketId) (queue : QueueId) (id : PacketId)
 turned-name q i queue id = grind arith
 
 -- the rules with the same rows are the same
-rows-still : (grants : Ledger) {rows : PolicyRows} → (ledger.rules_in grants).rows ≡ rows → ledger.rules_in grants ≡ record (ledger.rules_in grants) { rows = rows }
+pub rows-still : (grants : Ledger) {rows : PolicyRows} → (ledger.rules_in grants).rows ≡ rows → ledger.rules_in grants ≡ record (ledger.rules_in grants) { rows = rows }
 rows-still grants same = λ i. record (ledger.rules_in grants) { rows = same i }
 
 -- so a call that doesn't touch the grants leaves them as the history says

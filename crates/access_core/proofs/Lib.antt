@@ -9,11 +9,13 @@ pub mod GroupLemmas
 pub mod HeldOn
 pub mod Marking
 pub mod QueueAt
+pub mod Numbered
 pub mod ChangedQueue
 pub mod Places
 pub mod BlockRoom
 pub mod PollLemmas
 pub mod StopLemmas
+pub mod CloseLemmas
 pub mod Rooms
 pub mod AskingLemmas
 pub mod WorkLemmas

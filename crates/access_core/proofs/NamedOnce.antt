@@ -9,7 +9,7 @@ use Rattle.access_core.specs.inner.ArgumentBlocks.{AreNamedOnce, IsIndexOf}
 
 -- ---- the packets in flight have names of their own, and so have the blocks
 
-none-named : (queue : QueueId) (id : PacketId) (fs : List InFlight) (bs : List ArgumentBlock) → map packet_of bs ≡ map name_of fs
+pub none-named : (queue : QueueId) (id : PacketId) (fs : List InFlight) (bs : List ArgumentBlock) → map packet_of bs ≡ map name_of fs
     → list_any (is_packet queue id) fs ≡ list_any (is_block queue id) bs
 none-named queue id [] [] names = refl
 none-named queue id [] (b ∷ bs) names = absurd cc

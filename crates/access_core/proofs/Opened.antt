@@ -2,7 +2,7 @@
 use Rattle.access_core.proofs.Terms.{All-nil, AreBlocksOf, Declared, Entry, Inside, IsCached, IsLegal, IsNew, IsSound, Kernel, MOST_ENTRIES, Queue, Start, block_of, byte_at, byte_at-zeros, cached_opening}
 use Rattle.access_core.proofs.Terms.{cached_view, first_missing, has_entry, initial_values, is_given, lies_in_region, lies_in_regions, queue_at, start_of}
 use Rattle.access_core.proofs.Terms.{is_capacity}
-use Rattle.access_core.proofs.Terms.{lengths_of-zeros, numbered, open_fault, program_of, region_lengths, rules_in, rules_of, segments_of, zeros}
+use Rattle.access_core.proofs.Terms.{lengths_of-zeros, queue_in, cached_openings, AscendFrom, open_fault, program_of, region_lengths, rules_in, rules_of, segments_of, zeros}
 use Rattle.std.proofs.Common.{List, Some, ◌∷◌, ap, length, subst, sym}
 use Rattle.std.proofs.Common.{All, map, ◌≡◌, ℕ, ◌≤◌, [], ◌∙◌, true, None, arith, refl}
 use Rattle.core_model.specs.History.{effects_of}
@@ -19,20 +19,16 @@ use Rattle.core_model.proofs.States.{begin-opening, whole-legal}
 use Rattle.grants.specs.Ledger as ledger
 use Rattle.kernel_check.specs.Programs.{Program}
 
--- no queue has a number where there is none
-numbered-none : (n : ℕ) → numbered {X = Queue} [] n ≡ None
-numbered-none n = grind arith
-
 -- an opening history is legal
 legal-opened : (policy : Declared) (kernels : List Program) → IsLegal (opening_state policy kernels) []
 legal-opened policy kernels = whole-legal (opening_state policy kernels) [] (record { opens = refl; legal = tt })
 
 -- what is kept where nothing has happened is what the empty audit says
 pub IsCached-opened : (a : Inside) (policy : Declared) → IsOpeningOrigin policy a.start → IsNew a.grants → rules_in a.grants ≡ rules_of policy → a.memory ≡ zeros (region_lengths policy)
-    → a.signals ≡ initial_values policy → a.blocks.items ≡ [] → a.queues.items ≡ [] → a.in_flight_count ≡ 0 → a.audit.items ≡ [] → a.audit.room ≡ a.capacity → a.capacity ≤ MOST_ENTRIES
+    → a.signals ≡ initial_values policy → a.blocks.items ≡ [] → a.queues.items ≡ [] → a.opened ≡ 0 → a.in_flight_count ≡ 0 → a.audit.items ≡ [] → a.audit.room ≡ a.capacity → a.capacity ≤ MOST_ENTRIES
     → All (λ kernel. has_entry kernel ≡ true) a.kernels.items → a.segments.items ≡ map segments_of (map program_of a.kernels.items) → IsCached a
 unfolding rows_at in_force memory_at effects_of signals openings next_id errors is_stopped flight held arguments
-IsCached-opened a policy opened fresh ruled memory values blocks queues flying entries places few kernels segments =
+IsCached-opened a policy opened fresh ruled memory values blocks queues none_opened flying entries places few kernels segments =
     let opens : start_of a ≡ opening_state policy (map program_of a.kernels.items) = begin-opening policy (map program_of a.kernels.items) a.start opened in
     let lengths : region_lengths a.start.policy ≡ region_lengths policy = ap region_lengths opened.policy_is in
     let empty : (x : Start → List Entry → Type 0) → x (opening_state policy (map program_of a.kernels.items)) [] → x (start_of a) a.audit.items =
@@ -49,8 +45,10 @@ IsCached-opened a policy opened fresh ruled memory values blocks queues flying e
       lengths = rw (memory, lengths) (lengths_of-zeros (region_lengths policy));
       memory = λ x lies. empty (λ now es. byte_at a.memory x ≡ Some (memory_at now es x)) (rw memory (byte_at-zeros (region_lengths policy) x (ap (λ ls. lies_in_region ls x) (sym lengths) ∙ lies)));
       values = empty (λ now es. a.signals ≡ signals now es) values;
-      openings = empty (λ now es. map cached_opening a.queues.items ≡ openings now es) (rw queues refl);
-      queues = λ queue. empty (λ now es. cached_view (numbered a.queues.items queue.0) ≡ queue_at now es queue) (rw (queues, numbered-none queue.0) refl);
+      openings = empty (λ now es. cached_openings a.opened a.queues.items ≡ openings now es) (rw (queues, none_opened) refl);
+      queues = λ queue. empty (λ now es. cached_view (queue_in a.queues.items queue) ≡ queue_at now es queue) (rw queues refl);
+      ascending = subst (AscendFrom 0) (sym queues) tt;
+      up_to = rw queues (All-nil (λ (q : Queue). q.number.0 ≤ a.opened));
       sound = rw queues (All-nil IsSound);
       few_queues = rw queues (omega arith);
       in_flight_count = empty (λ now es. a.in_flight_count ≡ length (flight now es)) flying;

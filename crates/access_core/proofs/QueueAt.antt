@@ -5,8 +5,8 @@ use Rattle.access_core.proofs.Terms.{All-head, All-tail, Denied, Effect, Entry, 
 use Rattle.access_core.proofs.Terms.{QueueId}
 use Rattle.access_core.proofs.Terms.{QueueView, Rule, Start, Take, append-nil, as_launched, decoded, entry_of, error_of, error_without_place, errors-more, filter-append, flight}
 use Rattle.access_core.proofs.Terms.{flight-more}
-use Rattle.access_core.proofs.Terms.{flight_after_effect, flight_of, hands_over_packet_of, is_packet, is_stopped-more, launched_by, list_any, map-append, next_id, next_id-more, place_of, progress}
-use Rattle.access_core.proofs.Terms.{progress-more, progress_after, progress_by, queue_at, releases, same_packet, stops_queue, with_entry, with_error, with_progress, without_packet}
+use Rattle.access_core.proofs.Terms.{flight_after_effect, flight_of, closes_queue, next_id_after, is_stopped_after, is_packet, is_stopped-more, launched_by, list_any, map-append, next_id, next_id-more, place_of, progress}
+use Rattle.access_core.proofs.Terms.{progress-more, progress_after, progress_by, queue_at, releases, same_packet, with_entry, with_error, with_progress, without_packet}
 use Rattle.core_model.specs.Flight.{with_launched}
 use Rattle.core_model.specs.declared.outcome.Outcome.TheVariants as outcome
 
@@ -49,9 +49,9 @@ further m entry place = record place { progress = progress_after m place.id plac
 -- a queue after an event that leaves these places
 abbrev pub after : QueueId → Event → Outcome → QueueView → List Place → QueueView
 after m event told v places = record {
-  next = if hands_over_packet_of m event then v.next + 1 else v.next;
-  stopped = if stops_queue m event then true else v.stopped;
-  errors = with_error m v.errors (error_of told);
+  next = next_id_after m v.next event;
+  stopped = is_stopped_after m v.stopped event;
+  errors = if closes_queue m event then [] else with_error m v.errors (error_of told);
   places = places;
 }
 

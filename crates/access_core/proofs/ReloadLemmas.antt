@@ -20,7 +20,7 @@ use Rattle.access_core.proofs.Calls.{due-by}
 use Rattle.access_core.proofs.Least.{any-found, found-any, least-first, least-none, passes}
 use Rattle.access_core.proofs.Standing.{GivesDenied, denied-has, has-denied}
 use Rattle.access_core.proofs.Terms.{ClientId, History, InFlight, Inside, IsCached, IsFirstTo, Object, Opening, PacketId, QueueId, Right, Rules, Start, all, all_rights, and_parts, due, enters, first, flight, has_block, is_given}
-use Rattle.access_core.proofs.Terms.{found-passes, held, held-flies, history_of, in_flight, in_force, is_full, is_packet, knows_client, knows_object, launch-whole, list_any, lists_denied, numbered, owner, refuses, rules_of, same-state, start_of}
+use Rattle.access_core.proofs.Terms.{found-passes, held, held-flies, history_of, in_flight, in_force, is_full, is_packet, knows_client, knows_object, launch-whole, list_any, lists_denied, opening_in, owner, refuses, rules_of, same-state, start_of}
 use Rattle.core_model.specs.declared.outcome.Outcome.TheVariants as outcome
 use Rattle.core_model.specs.declared.refusal.Refusal.TheVariants as refusal
 
@@ -75,7 +75,7 @@ module _ (a : Inside) (kept : IsCached a) where
         flying = f;
         found = there.is;
         opening = whole.launch.opening;
-        owner_is = sym (ap (λ (now : Start). numbered now.openings queue.0) (same-state start es kept.legal)) ∙ subst (λ q. owner (first start es kept.legal) (all start es kept.legal) q ≡ Some whole.launch.opening) named.0 whole.owner_is;
+        owner_is = sym (ap (λ (now : Start). opening_in now.openings.queues queue) (same-state start es kept.legal)) ∙ subst (λ q. owner (first start es kept.legal) (all start es kept.legal) q ≡ Some whole.launch.opening) named.0 whole.owner_is;
         client_is = owner_is;
         known = ap (λ (rules : Rules). knows_object rules on) (sym kept.rules) ∙ declared;
         forced = subst (λ c. ledger.in_force a.grants c on right ≡ true) owner_is forced;

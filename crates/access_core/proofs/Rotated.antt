@@ -6,7 +6,8 @@ use Rattle.std.specs.Option.{unwrap_or}
 use Rattle.std.proofs.lemmas.Bool.{and_parts, eqb-true}
 use Rattle.std.proofs.lemmas.List.Elements.{All-head, All-tail, All-weaker}
 use Rattle.aql_packet.specs.Ids.{same_packet}
-use Rattle.core_model.specs.History.{begin, no_queue, packet_in, queue_in}
+use Rattle.core_model.specs.History.{OpenQueue, Openings, begin, no_queue, open_queue, packet_in, queue_in}
+use Rattle.access_core.specs.inner.Numbers.{has_number, queue_in as find_queue}
 use Rattle.core_model.specs.declared.origin.PacketOrigin.{PacketOrigin}
 use Rattle.core_model.specs.declared.origin.QueueOrigin.{QueueOrigin}
 use Rattle.core_model.specs.States.{state_after}
@@ -16,17 +17,27 @@ use Rattle.core_model.specs.Holds.{arguments}
 use Rattle.core_model.specs.Queues.{errors, is_stopped}
 use Rattle.regions.proofs.Laws.{byte_at-outside}
 use Rattle.access_core.specs.inner.Origins.{IsHolding, origin_behind, packet_origin, queue_origin, sought_in}
-use Rattle.access_core.proofs.Terms.{ArgumentBlock, IsCached, Inside, InFlight, Ledger, PacketId, Place, Progress, Queue, QueueId, QueueView, Start, are_region_lengths, block_behind, byte_at, cached_opening}
-use Rattle.access_core.proofs.Terms.{cached_view, flight, in_flight, is_block, is_given, is_packet, is_place_of, lies_in_region, memory_at, name_of, next_id, numbered, numbered-map, packet_of, place_of}
+use Rattle.access_core.proofs.Terms.{ArgumentBlock, IsCached, Inside, InFlight, Ledger, PacketId, Place, Progress, Queue, QueueId, QueueView, Start, are_region_lengths, block_behind, byte_at, cached_queue}
+use Rattle.access_core.proofs.Terms.{cached_view, flight, in_flight, is_block, is_given, is_packet, is_place_of, lies_in_region, memory_at, name_of, next_id, packet_of, place_of}
 use Rattle.access_core.proofs.Terms.{program_of, progress, region_lengths, start_of}
 use Rattle.access_core.proofs.WorkLemmas.{find-placed}
 use Rattle.core_model.specs.declared.flight.TheConstants.{LAUNCH_PROGRESS}
 
 -- ---- queues
 
-opened : (queues : List Queue) → map (λ (q : QueueOrigin). q.opening) (map queue_origin queues) ≡ map cached_opening queues
-opened [] = refl
-opened (q ∷ queues) = ap (λ more. cached_opening q ∷ more) (opened queues)
+are-open : (queues : List Queue) → map open_queue (map queue_origin queues) ≡ map cached_queue queues
+are-open [] = refl
+are-open (q ∷ queues) = ap (λ more. cached_queue q ∷ more) (are-open queues)
+
+-- a queue is found among what is told where it is among those that are kept
+found-told : (queues : List Queue) (queue : QueueId) → find (λ (q : QueueOrigin). q.queue.0 == queue.0) (map queue_origin queues) ≡ option_map queue_origin (find_queue queues queue)
+found-told [] queue = refl
+found-told (q ∷ queues) queue = by_test (has_number queue q) (found-told queues queue)
+  where
+    by_test : (b : Bool) → find (λ (o : QueueOrigin). o.queue.0 == queue.0) (map queue_origin queues) ≡ option_map queue_origin (find_queue queues queue)
+        → (if b then Some (queue_origin q) else find (λ (o : QueueOrigin). o.queue.0 == queue.0) (map queue_origin queues)) ≡ option_map queue_origin (if b then Some q else find_queue queues queue)
+    by_test true rest = refl
+    by_test false rest = rest
 
 -- what is told of a queue, by what is kept of it
 told_next : (o : Option Queue) → (unwrap_or (option_map queue_origin o) no_queue).next ≡ (cached_view o).next
@@ -48,17 +59,17 @@ module _ (a : Inside) (kept : IsCached a) where
   abbrev Flying : List InFlight
   Flying = flight (start_of a) a.audit.items
 
-  queue-is : (queue : QueueId) → queue_in (map queue_origin a.queues.items) queue ≡ unwrap_or (option_map queue_origin (numbered a.queues.items queue.0)) no_queue
-  queue-is queue = ap (λ (o : Option QueueOrigin). unwrap_or o no_queue) (numbered-map queue_origin a.queues.items queue.0)
+  queue-is : (queue : QueueId) → queue_in (map queue_origin a.queues.items) queue ≡ unwrap_or (option_map queue_origin (find_queue a.queues.items queue)) no_queue
+  queue-is queue = ap (λ (o : Option QueueOrigin). unwrap_or o no_queue) (found-told a.queues.items queue)
 
   next-is : (queue : QueueId) → (queue_in (map queue_origin a.queues.items) queue).next ≡ next_id (start_of a) a.audit.items queue
-  next-is queue = ap (λ (q : QueueOrigin). q.next) (queue-is queue) ∙ told_next (numbered a.queues.items queue.0) ∙ ap (λ (v : QueueView). v.next) (kept.queues queue)
+  next-is queue = ap (λ (q : QueueOrigin). q.next) (queue-is queue) ∙ told_next (find_queue a.queues.items queue) ∙ ap (λ (v : QueueView). v.next) (kept.queues queue)
 
   errors-are : (queue : QueueId) → (queue_in (map queue_origin a.queues.items) queue).errors ≡ errors (start_of a) a.audit.items queue
-  errors-are queue = ap (λ (q : QueueOrigin). q.errors) (queue-is queue) ∙ told_errors (numbered a.queues.items queue.0) ∙ ap (λ (v : QueueView). v.errors) (kept.queues queue)
+  errors-are queue = ap (λ (q : QueueOrigin). q.errors) (queue-is queue) ∙ told_errors (find_queue a.queues.items queue) ∙ ap (λ (v : QueueView). v.errors) (kept.queues queue)
 
   stopped-is : (queue : QueueId) → (queue_in (map queue_origin a.queues.items) queue).stopped ≡ is_stopped (start_of a) a.audit.items queue
-  stopped-is queue = ap (λ (q : QueueOrigin). q.stopped) (queue-is queue) ∙ told_stopped (numbered a.queues.items queue.0) ∙ ap (λ (v : QueueView). v.stopped) (kept.queues queue)
+  stopped-is queue = ap (λ (q : QueueOrigin). q.stopped) (queue-is queue) ∙ told_stopped (find_queue a.queues.items queue) ∙ ap (λ (v : QueueView). v.stopped) (kept.queues queue)
 
   -- ---- memory
 
@@ -81,9 +92,9 @@ module _ (a : Inside) (kept : IsCached a) where
   sought-view queue id None = refl
   sought-view queue id (Some q) = refl
 
-  in-queue : (f : InFlight) → in_flight (start_of a) a.audit.items f.queue f.id ≡ Some f → sought_in (numbered a.queues.items f.queue.0) f.id ≡ Some (place_at f)
+  in-queue : (f : InFlight) → in_flight (start_of a) a.audit.items f.queue f.id ≡ Some f → sought_in (find_queue a.queues.items f.queue) f.id ≡ Some (place_at f)
   in-queue f found =
-      sought-view f.queue f.id (numbered a.queues.items f.queue.0)
+      sought-view f.queue f.id (find_queue a.queues.items f.queue)
       ∙ ap (λ (v : QueueView). find (is_place_of f.id) v.places) (kept.queues f.queue)
       ∙ find-placed (place_of (start_of a) a.audit.items f.queue) f.queue.0 f.id.0 Flying (λ f. refl)
       ∙ ap (option_map (place_of (start_of a) a.audit.items f.queue)) found
@@ -98,11 +109,11 @@ module _ (a : Inside) (kept : IsCached a) where
   told_all (f ∷ fs) (block ∷ blocks) = told_of f block ∷ told_all fs blocks
 
   abbrev Sought : InFlight → Type 0
-  Sought f = sought_in (numbered a.queues.items f.queue.0) f.id ≡ Some (place_at f)
+  Sought f = sought_in (find_queue a.queues.items f.queue) f.id ≡ Some (place_at f)
 
   told-one : (f : InFlight) (block : ArgumentBlock) → block.queue ≡ f.queue → block.packet ≡ f.id → Sought f → packet_origin a.queues.items block ≡ Some (told_of f block)
   told-one f block queue id there =
-      let here : sought_in (numbered a.queues.items block.queue.0) block.packet ≡ Some (place_at f) = (λ i. sought_in (numbered a.queues.items (queue i).0) (id i)) ∙ there in
+      let here : sought_in (find_queue a.queues.items block.queue) block.packet ≡ Some (place_at f) = (λ i. sought_in (find_queue a.queues.items (queue i)) (id i)) ∙ there in
       ap (option_map (λ (place : Place). told_here block place)) here
       ∙ (λ i. Some (record { flying = record { queue = queue i; id = id i; packet = f.packet }; progress = progress (start_of a) a.audit.items f.queue f.id; arguments = block.bytes }))
     where
@@ -229,7 +240,7 @@ module _ (a : Inside) (kept : IsCached a) where
     in_force = λ client on right. (holding.same_rights client on right ∙ kept.granted client on right) i;
     memory = λ x. memory-is fit x i;
     signals = kept.values i;
-    openings = (opened a.queues.items ∙ kept.openings) i;
+    openings = (ap (λ queues. record { opened = a.opened; queues = queues }) (are-open a.queues.items) ∙ kept.openings) i;
     next_id = λ queue. next-is queue i;
     errors = λ queue. errors-are queue i;
     is_stopped = λ queue. stopped-is queue i;

@@ -21,21 +21,22 @@ use Rattle.core_model.proofs.States.{rotate-legal, same-begin}
 use Rattle.grants.specs.Ledger as ledger
 use Rattle.access_core.specs.inner.Origins.{IsHolding, origin_behind, packet_origin, queue_origin}
 use Rattle.access_core.proofs.Rotated.{rotated}
-use Rattle.access_core.proofs.Terms.{AreBlocksOf, IsCached, Inside, Start, are_region_lengths, block_of, byte_at, cached_opening, cached_view, history_of, lies_in_region, lies_in_regions, ltb-false, is_given, numbered, program_of, queue_at}
+use Rattle.access_core.proofs.Terms.{AreBlocksOf, IsCached, Inside, Start, are_region_lengths, block_of, byte_at, cached_openings, cached_view, history_of, lies_in_region, lies_in_regions, ltb-false, is_given, queue_in, program_of, queue_at}
 use Rattle.access_core.proofs.Terms.{region_lengths, rules_in, rules_of, start_of}
 
 module _ (a : Inside) (kept : IsCached a) where
   -- copies of the fields give the answers of the state behind the audit
-  pub copied-behind : (o : Origin) → o.policy ≡ a.start.policy → IsHolding a.grants a.blocks.items o.grants → o.memory ≡ a.memory → o.signals ≡ a.signals → o.queues ≡ map queue_origin a.queues.items
+  pub copied-behind : (o : Origin) → o.policy ≡ a.start.policy → IsHolding a.grants a.blocks.items o.grants → o.memory ≡ a.memory → o.signals ≡ a.signals → o.opened ≡ a.opened → o.queues ≡ map queue_origin a.queues.items
       → o.packets ≡ filter_map (packet_origin a.queues.items) a.blocks.items → o.before ≡ a.start.before + length a.audit.items
       → are_region_lengths (region_lengths a.start.policy) ≡ true → begin (map program_of a.kernels.items) o ≡ state_after (start_of a) a.audit.items
-  copied-behind o policy grants memory signals queues packets before fit =
+  copied-behind o policy grants memory signals opened queues packets before fit =
       same-begin (map program_of a.kernels.items) o (origin_behind a o.grants) (record {
         policy = λ i. record (policy i) { rows = (rules_in o.grants).rows };
         granted = λ client on right. refl;
         held = λ queue id client on right. refl;
         memory = memory;
         signals = signals;
+        opened = opened;
         queues = queues;
         packets = packets;
         before = before;
@@ -70,8 +71,10 @@ module _ (a : Inside) (kept : IsCached a) where
         lengths = kept.lengths ∙ sym lengths;
         memory = λ x lies. here (λ now es. byte_at a.memory x ≡ Some (memory_at now es x)) (kept.memory x (ap (λ ls. lies_in_region ls x) (sym lengths) ∙ lies));
         values = here (λ now es. a.signals ≡ signals now es) kept.values;
-        openings = here (λ now es. map cached_opening a.queues.items ≡ openings now es) kept.openings;
-        queues = λ queue. here (λ now es. cached_view (numbered a.queues.items queue.0) ≡ queue_at now es queue) (kept.queues queue);
+        openings = here (λ now es. cached_openings a.opened a.queues.items ≡ openings now es) kept.openings;
+        queues = λ queue. here (λ now es. cached_view (queue_in a.queues.items queue) ≡ queue_at now es queue) (kept.queues queue);
+        ascending = kept.ascending;
+        up_to = kept.up_to;
         sound = kept.sound;
         few_queues = kept.few_queues;
         in_flight_count = here (λ now es. a.in_flight_count ≡ length (flight now es)) kept.in_flight_count;

@@ -3,7 +3,7 @@ use Rattle.std.proofs.Common.{filter, ◌≡◌, ℕ, ◌-◌, ◌≤◌, List, 
 use Rattle.std.proofs.Common.{IfNone, IfSome, find, fold, is_some, not, option_map, if◌then◌else◌}
 use Rattle.access_core.proofs.Terms.{ArgumentBlock, Call, Effect, History, InFlight, Inside, IsCached, IsSound, Outcome, PacketId, Place, Queue, QueueId, QueueView, Stop}
 use Rattle.access_core.proofs.Terms.{byte_after, cached_opening, due, enters, entry_of, flight_of, freed_by, history_of, is_barrier, is_block, is_full, is_place_of, lacks_room}
-use Rattle.access_core.proofs.Terms.{numbered, queue_at, refuses, release_of, signals_after, start_of, with_leaving, with_queue, without_one}
+use Rattle.access_core.proofs.Terms.{queue_at, refuses, release_of, signals_after, queue_in, start_of, with_leaving, with_queue, without_one}
 use Rattle.access_core.specs.declared.access.leaving.Leaving.TheVariants as leaving
 use Rattle.core_model.specs.Owed.{owed}
 use Rattle.access_core.proofs.Calls.{due-by}
@@ -55,22 +55,22 @@ values-released queue barrier values = grind arith
 
 module _ (a : Inside) (kept : IsCached a) (queue : QueueId) where
   -- no queue has the number
-  pub stop-unknown : numbered a.queues.items queue.0 ≡ None → owed (start_of a) a.audit.items (Call (Stop queue)) ≡ refuses refusal.UnknownQueue
+  pub stop-unknown : queue_in a.queues.items queue ≡ None → owed (start_of a) a.audit.items (Call (Stop queue)) ≡ refuses refusal.UnknownQueue
   unfolding owed
   stop-unknown none = rw (owner-kept a queue kept, none) refl
 
-  barrier-is : (q : Queue) → numbered a.queues.items queue.0 ≡ Some q → option_map (λ (p : Place). p.id) (find (λ (p : Place). is_barrier p.packet) q.places)
+  barrier-is : (q : Queue) → queue_in a.queues.items queue ≡ Some q → option_map (λ (p : Place). p.id) (find (λ (p : Place). is_barrier p.packet) q.places)
       ≡ option_map (λ (f : InFlight). f.id) (find (λ (f : InFlight). is_barrier f.packet) (flight_of (start_of a) a.audit.items queue))
   barrier-is q some = grind (arith, barrier-placed)
 
   -- the queue is kept
-  pub stop-known : (q : Queue) → numbered a.queues.items queue.0 ≡ Some q →
+  pub stop-known : (q : Queue) → queue_in a.queues.items queue ≡ Some q →
       owed (start_of a) a.audit.items (Call (Stop queue)) ≡ (if q.stopped then refuses refusal.QueueDown
       else enters outcome.Accepted (release_of queue (option_map (λ (p : Place). p.id) (find (λ (p : Place). is_barrier p.packet) q.places))))
   unfolding owed
   stop-known q some = grind (arith, owner-kept, barrier-is)
 
-  open-at : (q : Queue) → numbered a.queues.items queue.0 ≡ Some q → IsOpen a queue
+  open-at : (q : Queue) → queue_in a.queues.items queue ≡ Some q → IsOpen a queue
   open-at q some = is-open a kept queue (cached_opening q) (owner-kept a queue kept ∙ ap (option_map cached_opening) some)
 
   -- a queue whose stop is entered is kept
@@ -85,20 +85,20 @@ module _ (a : Inside) (kept : IsCached a) (queue : QueueId) where
     freed-stopped barrier = grind (arith, freed-below)
 
     -- how the queues move along
-    pub queues-stopped : (barrier : Option PacketId) → QueuesAfter a (with_queue a.queues.items queue (with_leaving barrier leaving.Stopped)) (a.in_flight_count - freed_by barrier a.queues.items queue)
+    pub queues-stopped : (barrier : Option PacketId) → QueuesAfter a (with_queue a.queues.items queue (with_leaving barrier leaving.Stopped)) a.opened (a.in_flight_count - freed_by barrier a.queues.items queue)
         (Call (Stop queue)) outcome.Accepted (release_of queue barrier)
     queues-stopped None =
         let same = flight-unlaunched (start_of a) a.audit.items (Call (Stop queue)) outcome.Accepted [] refl in
         let count = ap length same in
-        queues-after a kept queue at (with_leaving None leaving.Stopped) (stopped None) _ _ _ _ refl refl (record { room = at.sound.room; free = at.sound.free; below = at.sound.below }) refl
+        queues-after a kept queue at (with_leaving None leaving.Stopped) (stopped None) _ _ _ _ (λ all. refl) (λ q. refl) (record { room = at.sound.room; free = at.sound.free; below = at.sound.below }) refl
         (λ m. queue_at-more (start_of a) a.audit.items (Call (Stop queue)) outcome.Accepted [] m _ same ∙ pick (queue.0 == m.0) (queue_at (start_of a) a.audit.items m))
         (omega (arith, count, freed-none, kept.in_flight_count)) (none-launched (Call (Stop queue)) outcome.Accepted refl (start_of a))
       where
         pick : (b : Bool) (v : QueueView) → record v { stopped = (if b then true else v.stopped) } ≡ (if b then stopped None v else v)
         pick b v = grind arith
     queues-stopped (Some id) =
-        queues-released a kept queue id (Call (Stop queue)) outcome.Accepted (effect.Release queue id ∷ []) (is_release queue id) refl at (with_leaving (Some id) leaving.Stopped)
-        (stopped (Some id)) refl sound refl (λ m v. grind arith)
+        queues-released a kept queue id (Call (Stop queue)) outcome.Accepted (effect.Release queue id ∷ []) (is_release queue id) (λ all. refl) at (with_leaving (Some id) leaving.Stopped)
+        (stopped (Some id)) (λ q. refl) sound refl (λ m v. grind arith)
       where
         sound : IsSound (with_leaving (Some id) leaving.Stopped at.q)
         sound = let less = sound-released at.q id at.sound in record { room = less.room; free = less.free; below = less.below }
@@ -117,7 +117,7 @@ module _ (a : Inside) (kept : IsCached a) (queue : QueueId) where
       )
 
   -- a stop is due its entry where a barrier packet leaves flight for it, or the audit has room
-  pub may-stop : (q : Queue) (barrier : Option PacketId) (none : Bool) (old : History) → history_of a ≡ old → numbered a.queues.items queue.0 ≡ Some q → q.stopped ≡ false
+  pub may-stop : (q : Queue) (barrier : Option PacketId) (none : Bool) (old : History) → history_of a ≡ old → queue_in a.queues.items queue ≡ Some q → q.stopped ≡ false
       → barrier ≡ option_map (λ (p : Place). p.id) (find (λ (p : Place). is_barrier p.packet) q.places)
       → is_some barrier ≡ not none → (none ≡ true → is_full old ≡ false) → due old (Call (Stop queue)) ≡ enters outcome.Accepted (release_of queue barrier)
   may-stop q barrier none old seen_as some goes is which =
@@ -140,7 +140,7 @@ module _ (a : Inside) (kept : IsCached a) (queue : QueueId) where
       )
 
   -- a stop without a barrier packet is refused where the audit has none
-  pub stop-full : (q : Queue) (barrier : Option PacketId) (old : History) → history_of a ≡ old → numbered a.queues.items queue.0 ≡ Some q → q.stopped ≡ false
+  pub stop-full : (q : Queue) (barrier : Option PacketId) (old : History) → history_of a ≡ old → queue_in a.queues.items queue ≡ Some q → q.stopped ≡ false
       → barrier ≡ option_map (λ (p : Place). p.id) (find (λ (p : Place). is_barrier p.packet) q.places) → is_some barrier ≡ false → is_full old ≡ true
       → due old (Call (Stop queue)) ≡ refuses refusal.AuditFull
   stop-full q barrier old h4 h5 h6 h7 h8 h9 = grind (arith, stop-known q)

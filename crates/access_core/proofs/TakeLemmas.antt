@@ -1,18 +1,18 @@
 -- What is owed to a packet that is handed over, by what is kept.
 use Rattle.std.proofs.Common.{IfSome}
 use Rattle.core_model.specs.History.{beginning}
-use Rattle.std.proofs.Common.{◌≡◌, ℕ, ◌<◌, ◌^◌, List, [], ◌∷◌, length, refl, sym, ◌∙◌, ap, Bool, true, false, Option, Some, None, arith, ◌+◌}
+use Rattle.std.proofs.Common.{◌≡◌, ℕ, ◌<◌, ◌^◌, List, [], ◌∷◌, get_or, length, refl, sym, ◌∙◌, ap, Bool, true, false, Option, Some, None, arith, ◌+◌}
 use Rattle.std.proofs.Common.{length-append, subst, nat_lt, All, ◌||◌, ◌==◌, map, option_map, if◌then◌else◌}
 use Rattle.access_core.proofs.Terms.{All-head, All-push, All-weaker, CanFail, ClientId, Denied, Effect, Entry, Event, Facts, History, InFlight, Inside, IsBlockPlaced, IsCached}
-use Rattle.access_core.proofs.Terms.{FoundPacket, IsAbove, IsFoundAt, IsFoundIn, IsFoundOf, IsInPlace, IsSound, Launched, MayReach, MayReachRange, Opening, Outcome, Packet, PacketId, Place, Queue, QueueError, QueueId, QueueView}
+use Rattle.access_core.proofs.Terms.{FoundPacket, IsAbove, IsFoundAt, IsFoundIn, IsFoundOf, IsHolder, IsInPlace, IsQueueIndex, IsSound, Launched, MayReach, MayReachRange, Opening, Outcome, Packet, PacketId, Place, Queue, QueueError, QueueId, QueueView}
 use Rattle.access_core.proofs.Terms.{Read, Rule, MOST_IN_FLIGHT, Start, Take, TakesNext, and_parts, argument_ranges, as_launched, barrier_bit, cached_opening, cached_view}
 use Rattle.access_core.proofs.Terms.{decoded, due, entered-owed, enters, entry_of, error_without_place, facts_of, first_failing_rule, flight, flight_of}
 use Rattle.access_core.proofs.Terms.{history_of, is_placed, kernel_of, lacks_room, launched_by, length-map}
 use Rattle.access_core.proofs.Terms.{lies_in_regions}
-use Rattle.access_core.proofs.Terms.{lies_whole, list_all, lt-ltb, memory_needs, need_is_met, needs, numbered, numbered-map, owed_verdict, owner, place_of}
-use Rattle.access_core.proofs.Terms.{queue_at, refuse_unless, refuses, region_lengths, start_of, with_denied, with_entry, with_queue, with_some}
+use Rattle.access_core.proofs.Terms.{lies_whole, list_all, lt-ltb, memory_needs, need_is_met, needs, owed_verdict, owner, place_of}
+use Rattle.access_core.proofs.Terms.{queue_at, refuse_unless, refuses, region_lengths, start_of, with_denied, with_entry, with_queue, AscendFrom, OpenQueue, Openings, cached_openings, cached_queue, opening_in, openings_after, queue_in}
 use Rattle.packet_processor.proofs.FirstFailing.{first_failing-decoded}
-use Rattle.core_model.specs.Queues.{opening_of, next_id}
+use Rattle.core_model.specs.Queues.{next_id}
 use Rattle.core_model.specs.declared.need.Need.{Need}
 use Rattle.core_model.specs.LaunchRules.{cause_to_wait}
 use Rattle.packet_processor.specs.inner.FieldRules.{later_failing}
@@ -24,14 +24,15 @@ use Rattle.core_model.proofs.States.{next_id-le, next-before}
 use Rattle.access_core.specs.inner.QueueChanges.{with_launched}
 use Rattle.access_core.proofs.CachedMore.{QueuesAfter, none-launched}
 use Rattle.access_core.proofs.QueueAt.{flight-launched, flight-unlaunched, map-map, denied, launched, queue_at-denied, queue_at-launched}
-use Rattle.access_core.proofs.ChangedQueue.{length-changed, openings-changed, queues-changed, sound-at, sound-changed}
+use Rattle.access_core.proofs.ChangedQueue.{ascending-changed, kept-there, length-changed, openings-changed, queues-changed, sound-at, sound-changed, up_to-changed}
+use Rattle.access_core.proofs.QueueLemmas.{opening-kept}
 use Rattle.queue_error.specs.declared.rule.Rule.TheVariants as rule
 use Rattle.core_model.specs.declared.refusal.Refusal.TheVariants as refusal
 use Rattle.core_model.specs.declared.outcome.Outcome.TheVariants as outcome
 
 -- the owner of a queue is the one that is kept
-pub owner-kept : (a : Inside) (queue : QueueId) → IsCached a → owner (start_of a) a.audit.items queue ≡ option_map cached_opening (numbered a.queues.items queue.0)
-owner-kept a queue kept = ap (λ (all : List Opening). numbered all queue.0) (sym kept.openings) ∙ numbered-map cached_opening a.queues.items queue.0
+pub owner-kept : (a : Inside) (queue : QueueId) → IsCached a → owner (start_of a) a.audit.items queue ≡ option_map cached_opening (queue_in a.queues.items queue)
+owner-kept a queue kept = ap (λ (all : Openings). opening_in all.queues queue) (sym kept.openings) ∙ opening-kept a.queues.items queue
 
 -- what is found of bytes by the facts of a history is found by those of the fields
 pub judged-inside : (a : Inside) (old : History) → history_of a ≡ old → (q : Queue) (bytes : List ℕ) (found : Option Rule)
@@ -40,18 +41,18 @@ pub judged-inside : (a : Inside) (old : History) → history_of a ≡ old → (q
 judged-inside a old seen_as q bytes found is = subst (λ (h : History). first_failing_rule (facts_of (beginning h) h.entries (cached_opening q)) bytes ≡ found) (sym seen_as) is
 
 -- its packets in flight are those of the history
-pub packets-kept : (a : Inside) (queue : QueueId) (q : Queue) → IsCached a → numbered a.queues.items queue.0 ≡ Some q
+pub packets-kept : (a : Inside) (queue : QueueId) (q : Queue) → IsCached a → queue_in a.queues.items queue ≡ Some q
     → map (λ (f : InFlight). f.packet) (flight_of (start_of a) a.audit.items queue) ≡ map (λ (p : Place). p.packet) q.places
 packets-kept a queue q kept some = grind (arith, map-map)
 
 module _ (a : Inside) (kept : IsCached a) (queue : QueueId) (id : PacketId) (bytes : List ℕ) where
   -- no queue has the number
-  pub take-unknown : numbered a.queues.items queue.0 ≡ None → owed (start_of a) a.audit.items (Take queue id bytes) ≡ refuses refusal.UnknownQueue
+  pub take-unknown : queue_in a.queues.items queue ≡ None → owed (start_of a) a.audit.items (Take queue id bytes) ≡ refuses refusal.UnknownQueue
   unfolding owed
   take-unknown none = rw (owner-kept a queue kept, none) refl
 
   -- the queue is kept
-  pub take-known : (q : Queue) → numbered a.queues.items queue.0 ≡ Some q →
+  pub take-known : (q : Queue) → queue_in a.queues.items queue ≡ Some q →
       owed (start_of a) a.audit.items (Take queue id bytes) ≡
       (if nat_lt 0 (length q.errors.items) || q.stopped then refuses refusal.QueueDown
       else refuse_unless (id.0 == q.next) (refuses (refusal.OutOfStep q.next))
@@ -117,7 +118,7 @@ unfolding cause_to_wait
 may_start-few ps barrier none = grind arith
 
 -- a queue that is kept, and not down, and where a packet may start takes its next packet
-pub takes-next : (a : Inside) (kept : IsCached a) (queue : QueueId) (q : Queue) (barrier : Bool) → numbered a.queues.items queue.0 ≡ Some q
+pub takes-next : (a : Inside) (kept : IsCached a) (queue : QueueId) (q : Queue) (barrier : Bool) → queue_in a.queues.items queue ≡ Some q
     → (nat_lt 0 (length q.errors.items) || q.stopped) ≡ false → cause_to_wait (map (λ (p : Place). p.packet) q.places) barrier ≡ None → TakesNext (history_of a) queue
 takes-next a kept queue q barrier some down starts = grind (
   arith,
@@ -134,15 +135,16 @@ no_errors (x ∷ xs) s e = let some = lt-ltb 0 (length (x ∷ xs)) (omega arith)
 -- What is kept of a queue whose opening the history knows.
 pub record IsOpen (a : Inside) (queue : QueueId) : Type 0 where
   pub q : Queue
-  pub found : numbered a.queues.items queue.0 ≡ Some q
+  pub found : queue_in a.queues.items queue ≡ Some q
   pub view : cached_view (Some q) ≡ queue_at (start_of a) a.audit.items queue
   pub sound : IsSound q
   pub small : q.next < 2 ^ 63
+  pub ascending : AscendFrom 0 a.queues.items
 
 pub is-open : (a : Inside) (kept : IsCached a) (queue : QueueId) (opening : Opening) → owner (start_of a) a.audit.items queue ≡ Some opening → IsOpen a queue
-is-open a kept queue opening owned = by_queue (numbered a.queues.items queue.0) refl
+is-open a kept queue opening owned = by_queue (queue_in a.queues.items queue) refl
   where
-    by_queue : (o : Option Queue) → numbered a.queues.items queue.0 ≡ o → IsOpen a queue
+    by_queue : (o : Option Queue) → queue_in a.queues.items queue ≡ o → IsOpen a queue
     by_queue None none =
         let lost : Some opening ≡ None = sym owned ∙ owner-kept a queue kept ∙ ap (option_map cached_opening) none in
         absurd cc
@@ -154,12 +156,29 @@ is-open a kept queue opening owned = by_queue (numbered a.queues.items queue.0) 
         let before = kept.before in
         let room = kept.room in
         let few = kept.few in
-        record { q = q; found = found; view = view; sound = sound-at a.queues.items queue.0 q kept.sound found; small = omega (arith, next, handed, begun, before, room, few) }
+        record { q = q; found = found; view = view; sound = sound-at a.queues.items queue q kept.sound found; small = omega (arith, next, handed, begun, before, room, few); ascending = kept.ascending }
 
 -- the queue of a packet in its place is open
 pub open-of : (a : Inside) (kept : IsCached a) (old : History) → history_of a ≡ old → (queue : QueueId) (id : PacketId) (place : Place)
     → IsInPlace old queue id place → IsOpen a queue
 open-of a kept old seen_as queue id place found = is-open a kept queue found.opening (ap (λ h. owner (beginning h) h.entries queue) seen_as ∙ found.owner_is)
+
+-- the queue at the index of its number is its holder's
+pub holder-kept : (a : Inside) (kept : IsCached a) (old : History) → history_of a ≡ old → (queue : QueueId) (id : PacketId) (place : Place) → IsInPlace old queue id place → (i : ℕ) (one : Queue)
+    → IsQueueIndex a.queues.items queue (Some i) → one ≡ get_or a.queues.items i one → IsHolder old queue id one.client
+holder-kept a kept old seen_as queue id place found i one at value =
+    let there = open-of a kept old seen_as queue id place found in
+    let is : one ≡ there.q = kept-there a.queues.items queue i there.q one there.found at value in
+    let owned : Some (cached_opening there.q) ≡ Some found.opening =
+    sym (owner-kept a queue kept ∙ ap (option_map cached_opening) there.found) ∙ ap (λ h. owner (beginning h) h.entries queue) seen_as ∙ found.owner_is in
+    let same : cached_opening there.q ≡ found.opening = cc in
+    record {
+      opening = found.opening;
+      owner_is = found.owner_is;
+      client_is = ap (λ (o : Opening). o.client) (sym same) ∙ ap (λ (q : Queue). q.client) (sym is);
+      flying = found.flying;
+      found = found.found;
+    }
 
 -- a packet that was found has its place among those that are cached
 pub found-of : (a : Inside) (kept : IsCached a) (old : History) → history_of a ≡ old → (queue : QueueId) (found : FoundPacket)
@@ -198,20 +217,24 @@ below-next a kept queue can id next q some =
 -- how the queues follow an entry that changes one of them
 pub queues-after : (a : Inside) (kept : IsCached a) (queue : QueueId) (at : IsOpen a queue) (change : Queue → Queue) (view : QueueView → QueueView) (count : ℕ) (event : Event)
     (told : Outcome) (effects : List Effect)
-    → opening_of event ≡ None → cached_opening (change at.q) ≡ cached_opening at.q → IsSound (change at.q) → cached_view (Some (change at.q)) ≡ view (cached_view (Some at.q))
+    → ((all : Openings) → openings_after all event ≡ all) → ((q : Queue) → cached_queue (change q) ≡ cached_queue q) → IsSound (change at.q) → cached_view (Some (change at.q)) ≡ view (cached_view (Some at.q))
     → ((m : QueueId) → queue_at (start_of a) (with_entry a.audit.items event told effects) m
     ≡ (if queue.0 == m.0 then view (queue_at (start_of a) a.audit.items m) else queue_at (start_of a) a.audit.items m))
     → count ≡ length (flight (start_of a) (with_entry a.audit.items event told effects))
     → ((f : InFlight) → launched_by event told ≡ Some f → lies_in_regions (region_lengths a.start.policy) f.packet ≡ true)
-    → QueuesAfter a (with_queue a.queues.items queue change) count event told effects
-queues-after a kept queue at change view count event told effects none same sound alike now flying within = record {
-  openings = openings-changed a.queues.items queue change at.q at.found same ∙ sym (ap (with_some (map cached_opening a.queues.items)) none);
-  queues = queues-changed a.queues.items queue change at.q at.found view (start_of a) a.audit.items (with_entry a.audit.items event told effects) alike kept.queues now;
-  sound = sound-changed a.queues.items queue change at.q at.found sound kept.sound;
-  few_queues = omega (arith, length-changed a.queues.items queue change at.q at.found, kept.few_queues);
-  in_flight_count = flying;
-  within = within;
-}
+    → QueuesAfter a (with_queue a.queues.items queue change) a.opened count event told effects
+queues-after a kept queue at change view count event told effects none same sound alike now flying within =
+    let numbers : (q : Queue) → (change q).number ≡ q.number = λ q. ap (λ (one : OpenQueue). one.queue) (same q) in
+    record {
+      openings = openings-changed a.queues.items queue change at.q at.found kept.ascending a.opened (same at.q) ∙ sym (none (cached_openings a.opened a.queues.items));
+      queues = queues-changed a.queues.items queue change at.q at.found kept.ascending numbers view (start_of a) a.audit.items (with_entry a.audit.items event told effects) alike kept.queues now;
+      ascending = ascending-changed a.queues.items queue change at.q at.found kept.ascending numbers;
+      up_to = up_to-changed a.queues.items queue change at.q at.found kept.ascending numbers a.opened kept.up_to;
+      sound = sound-changed a.queues.items queue change at.q at.found kept.ascending sound kept.sound;
+      few_queues = omega (arith, length-changed a.queues.items queue change at.q at.found kept.ascending, kept.few_queues);
+      in_flight_count = flying;
+      within = within;
+    }
 
 -- ---- how the queues follow a packet that is handed over
 
@@ -228,12 +251,12 @@ module _ (a : Inside) (kept : IsCached a) (queue : QueueId) (id : PacketId) (byt
   flight-denied rule = flight-unlaunched (start_of a) a.audit.items (Take queue id bytes) (outcome.Taken (Denied (error_without_place queue id.0 rule))) [] refl
 
   -- it is denied
-  pub queues-denied : (rule : Rule) → QueuesAfter a (with_queue a.queues.items queue (with_denied (error_without_place queue id.0 rule))) a.in_flight_count (Take queue id bytes)
+  pub queues-denied : (rule : Rule) → QueuesAfter a (with_queue a.queues.items queue (with_denied (error_without_place queue id.0 rule))) a.opened a.in_flight_count (Take queue id bytes)
       (outcome.Taken (Denied (error_without_place queue id.0 rule))) []
   queues-denied rule = grind (
     arith,
     queues-after a kept queue can.opened (with_denied (error_without_place queue id.0 rule))
-        (denied (error_without_place queue id.0 rule)) a.in_flight_count _ _ _ refl refl (sound-denied (error_without_place queue id.0 rule)) refl
+        (denied (error_without_place queue id.0 rule)) a.in_flight_count _ _ _ (λ all. refl) (λ q. refl) (sound-denied (error_without_place queue id.0 rule)) refl
         (λ m. queue_at-denied (start_of a) a.audit.items queue id bytes rule m) (kept.in_flight_count ∙ ap length (sym (flight-denied rule)))
         (none-launched (Take queue id bytes) (outcome.Taken (Denied (error_without_place queue id.0 rule))) refl (start_of a)),
   )
@@ -268,9 +291,9 @@ module _ (a : Inside) (kept : IsCached a) (queue : QueueId) (id : PacketId) (byt
     )
 
     pub queues-launched : lies_in_regions (region_lengths a.start.policy) p ≡ true
-        → QueuesAfter a (with_queue a.queues.items queue (with_launched id p)) (a.in_flight_count + 1) (Take queue id bytes) (outcome.Taken Launched) []
+        → QueuesAfter a (with_queue a.queues.items queue (with_launched id p)) a.opened (a.in_flight_count + 1) (Take queue id bytes) (outcome.Taken Launched) []
     queues-launched within =
-        queues-after a kept queue can.opened (with_launched id p) (launched id p) (a.in_flight_count + 1) _ _ _ refl refl sound-launched refl
+        queues-after a kept queue can.opened (with_launched id p) (launched id p) (a.in_flight_count + 1) _ _ _ (λ all. refl) (λ q. refl) sound-launched refl
         (λ m. queue_at-launched (start_of a) a.audit.items queue id bytes p reads below-id m) flying-launched packet-within
       where
         packet-within : (f : InFlight) → launched_by (Take queue id bytes) (outcome.Taken Launched) ≡ Some f → lies_in_regions (region_lengths a.start.policy) f.packet ≡ true

@@ -7,14 +7,16 @@ pub use Rattle.access_core.specs.declared.kernel.Kernel.{Kernel}
 pub use Rattle.access_core.specs.declared.queue.Queue.{Queue}
 pub use Rattle.access_core.specs.inner.ArgumentBlocks.{AreBlocksOf, block_behind, block_of, bytes_or, has_block, is_block, is_given, lists_denied, lists_one, lists_right, name_of, packet_of, rights_for, rights_of}
 pub use Rattle.access_core.specs.inner.Cached.{HoldsNone, IsCached, IsEntered, core_of, error_places, history_of, is_full, origin_of, start_of, table_places}
-pub use Rattle.access_core.specs.inner.CachedQueue.{HasBlockPlaces, IsSound, QueueView, cached_opening, cached_view, free_of, free_places, place_of, queue_at}
+pub use Rattle.access_core.specs.inner.CachedQueue.{HasBlockPlaces, IsSound, QueueView, cached_opening, cached_openings, cached_queue, cached_view, free_of, free_places, place_of, queue_at}
+pub use Rattle.access_core.specs.inner.Closing.{IsRoom, flying_in, places_in, release_from, releases_in, without_blocks, without_queue}
 pub use Rattle.access_core.specs.inner.Deciding.{IsBlockPlaced, TakesNext, refusal_of}
 pub use Rattle.access_core.specs.inner.Given.{LeavesOut, MarksToo, is_listed}
 pub use Rattle.access_core.specs.inner.InPlace.{IsChanged, IsFinishedAs, IsFoundAt, IsInPlace, IsSized, RefusedAt, finish_owed, is_placed}
 pub use Rattle.access_core.specs.inner.Laying.{LiesWithin}
 pub use Rattle.access_core.specs.inner.LiesInRegions.{lies_in_regions}
+pub use Rattle.access_core.specs.inner.Numbers.{AscendFrom, IsNotFrom, IsQueueIndex, IsThere, has_number, queue_in}
 pub use Rattle.access_core.specs.inner.Polling.{look_owed, polled_as}
-pub use Rattle.access_core.specs.inner.QueueChanges.{CanFail, IsAbove, IsFoundOf, freed_by, packet_in, places_freed, with_advance, with_denied, with_leaving, with_queue, without_one}
+pub use Rattle.access_core.specs.inner.QueueChanges.{CanFail, IsAbove, IsFoundOf, changed_if, freed_by, packet_in, places_freed, with_advance, with_denied, with_leaving, with_queue, without_one}
 pub use Rattle.access_core.specs.inner.Running.{FaultsAs, IsHolder, fault_owed, lent_if_held, lent_whole, next_result, region_numbered, view_whole}
 pub use Rattle.aql_packet.specs.Ids.{same_packet}
 pub use Rattle.aql_packet.specs.Memory.{are_region_lengths, covers}
@@ -27,13 +29,11 @@ pub use Rattle.aql_packet.specs.declared.ids.QueueId.{QueueId}
 pub use Rattle.aql_packet.specs.declared.ids.SignalHandle.{SignalHandle}
 pub use Rattle.aql_packet.specs.declared.packet.KernelDispatch.{KernelDispatch}
 pub use Rattle.aql_packet.specs.declared.packet.Packet.{Packet}
-pub use Rattle.core_model.proofs.Holding.{owner-more}
 pub use Rattle.core_model.proofs.Behind.{all, first, found-whole, granted-now, held-flies, launch-whole, same-state}
 pub use Rattle.core_model.proofs.Launches.{IsNext-from_owed, launched_by-is}
 pub use Rattle.core_model.proofs.Lists.{all-from_list_all, filter-passes, found-all, found-passes}
 pub use Rattle.core_model.proofs.Meeting.{entered-owed, refuse_unless-holds}
-pub use Rattle.core_model.proofs.More.{arguments-more, errors-more, held-more, flight-more, in_force-more, is_stopped-more, memory_at-more, next_id-more, openings-more, progress-more, signals-more, with_error}
-pub use Rattle.core_model.proofs.More.{with_some}
+pub use Rattle.core_model.proofs.More.{arguments-more, errors-more, held-more, flight-more, in_force-more, is_stopped-more, memory_at-more, next_id-more, openings-more, progress-more, signals-more}
 pub use Rattle.core_model.specs.Flight.{flight, flight_after_effect, flight_of, in_flight, is_packet, launched_by, progress, progress_after, progress_by, releases, satisfied_by_either}
 pub use Rattle.core_model.specs.Grants.{in_force, in_force_after}
 pub use Rattle.core_model.specs.Headline.{AllInForce, HoldsInForce, MayReach, MayReachRange, argument_ranges}
@@ -49,9 +49,10 @@ pub use Rattle.core_model.specs.Memory.{byte_after, memory_at, memory_from, sign
 pub use Rattle.core_model.specs.Needs.{completion_signal, function_of, memory_needs, needs}
 pub use Rattle.core_model.specs.Owed.{Owed, answers, completion_of, enters, error_without_place, facts_of, for_packet, group_error, group_owed, old_if_asked, owed, owed_finish}
 pub use Rattle.core_model.specs.Owed.{owed_group}
-pub use Rattle.core_model.specs.Owed.{owed_poll, owed_verdict, refuses, release_of, signal_decrement}
+pub use Rattle.core_model.specs.Owed.{owed_poll, owed_verdict, refuses, release_of, releases_of, signal_decrement}
 pub use Rattle.core_model.specs.Queries.{AnswerOrRefusal, listing}
-pub use Rattle.core_model.specs.Queues.{error_of, hands_over_packet_of, next_id, openings, owner, stops_queue}
+pub use Rattle.core_model.specs.Queues.{OpenQueue, Openings, closes_queue, error_of, errors_after, hands_over_packet_of, is_queue, is_stopped_after, next_id, next_id_after, opening_in, openings, openings_after}
+pub use Rattle.core_model.specs.Queues.{owner, stops_queue, with_error}
 pub use Rattle.core_model.specs.declared.origin.Opening.{Opening}
 pub use Rattle.core_model.specs.Refusals.{refuse_unless}
 pub use Rattle.core_model.specs.View.{GivenAtLaunch, RegionRights, as_lent, first_address, given_at_launch, group_input, held_region, held_regions, rights_held}
@@ -61,7 +62,7 @@ pub use Rattle.core_model.specs.declared.entry.Effect.TheVariants.{Write}
 pub use Rattle.core_model.specs.declared.entry.Entry.{Entry}
 pub use Rattle.core_model.specs.declared.event.Event.{Event}
 pub use Rattle.core_model.specs.declared.event.Event.TheVariants.{Open, Take, Call}
-pub use Rattle.core_model.specs.declared.call.Call.TheVariants.{ChangeSignal, Finish, Grant, HostWrite, Poll, Revoke, RunNext, Stop}
+pub use Rattle.core_model.specs.declared.call.Call.TheVariants.{ChangeSignal, Close, Finish, Grant, HostWrite, Poll, Revoke, RunNext, Stop}
 pub use Rattle.core_model.specs.declared.event.CoreRequest.{CoreRequest}
 pub use Rattle.core_model.specs.declared.flight.InFlight.{InFlight}
 pub use Rattle.core_model.specs.declared.flight.Progress.{Progress}
@@ -108,7 +109,7 @@ pub use Rattle.signals.specs.Values.{applied}
 pub use Rattle.std.proofs.lemmas.Bool.{and_parts, leb-true, lt-ltb, ltb-false, ltb-true, or_parts, or_right}
 pub use Rattle.std.proofs.lemmas.Bool.Decides.{nat_tests}
 pub use Rattle.std.proofs.lemmas.List.{append-nil, length-map, length-replicate, map-append, same_lists, take_all}
-pub use Rattle.std.proofs.lemmas.List.Elements.{All-filter, All-head, All-map, All-nil, All-push, All-set, All-tail, All-weaker, filter-append}
+pub use Rattle.std.proofs.lemmas.List.Elements.{All-cons, All-filter, All-head, All-map, All-nil, All-push, All-set, All-tail, All-weaker, filter-append}
 pub use Rattle.std.proofs.lemmas.List.FromFn.{filter_of_map_range_with_len_more, get_or-map-range_with_len, get_or-range_with_len, length-map-range_with_len, length-range_with_len}
 pub use Rattle.std.proofs.lemmas.List.Sums.{count_by-le-length, fold-append}
 pub use Rattle.std.proofs.lemmas.Option.{get_or_from_slice_get, slice_get-get_or, slice_get_within}

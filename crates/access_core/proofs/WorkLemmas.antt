@@ -7,10 +7,9 @@ use Rattle.access_core.proofs.Terms.{All-filter, All-map, B1, Call, CanFail, Eff
 use Rattle.access_core.proofs.Terms.{Packet}
 use Rattle.access_core.proofs.Terms.{PacketId, Place, Poll, Progress, Queue, QueueError, QueueId, QueueView, RefusedAt, RunNext, SignalHandle, byte_after, cached_opening}
 use Rattle.access_core.proofs.Terms.{cached_view, completion_of, completion_signal, due, enters, error_without_place, finish_owed, flight, flight_after_effect, for_packet, found-all}
-use Rattle.access_core.proofs.Terms.{found-passes, freed_by, history_of, in_flight, is_packet, is_place_of, length-map, lies_in_regions, numbered, owed, owner, place_of, progress}
-use Rattle.access_core.proofs.Terms.{queue_at, region_lengths, signal_decrement, start_of, with_advance, with_leaving, with_progress, with_queue, without_packet}
+use Rattle.access_core.proofs.Terms.{found-passes, freed_by, history_of, in_flight, is_packet, is_place_of, length-map, lies_in_regions, owed, owner, place_of, progress}
+use Rattle.access_core.proofs.Terms.{queue_at, region_lengths, signal_decrement, Openings, cached_queue, openings_after, queue_in, start_of, with_advance, with_leaving, with_progress, with_queue, without_packet}
 use Rattle.access_core.specs.declared.access.leaving.Leaving.TheVariants as leaving
-use Rattle.core_model.specs.Queues.{opening_of}
 use Rattle.access_core.proofs.CachedMore.{QueuesAfter, none-launched}
 use Rattle.access_core.proofs.QueueAt.{after as after_entry, of_queue, released-count, released-of, IsAdvance, IsRelease, advanced, flight-advanced}
 use Rattle.access_core.proofs.QueueAt.{flight-released, queue_at-advanced, queue_at-released}
@@ -96,11 +95,11 @@ module _ (a : Inside) (kept : IsCached a) (queue : QueueId) (id : PacketId) wher
   release-room f found = grind (arith, filter-fewer, found-passes)
 
   -- how the queues move along with it
-  pub queues-released : (event : Event) (told : Outcome) (effects : List Effect) → IsRelease queue id event told effects → opening_of event ≡ None
+  pub queues-released : (event : Event) (told : Outcome) (effects : List Effect) → IsRelease queue id event told effects → ((all : Openings) → openings_after all event ≡ all)
       → (at : IsOpen a queue) (change : Queue → Queue) (view : QueueView → QueueView)
-      → cached_opening (change at.q) ≡ cached_opening at.q → IsSound (change at.q) → cached_view (Some (change at.q)) ≡ view (cached_view (Some at.q))
+      → ((q : Queue) → cached_queue (change q) ≡ cached_queue q) → IsSound (change at.q) → cached_view (Some (change at.q)) ≡ view (cached_view (Some at.q))
       → ((m : QueueId) (v : QueueView) → after_entry m event told v (if queue.0 == m.0 then without_packet id v.places else v.places) ≡ (if queue.0 == m.0 then view v else v))
-      → QueuesAfter a (with_queue a.queues.items queue change) (a.in_flight_count - freed_by (Some id) a.queues.items queue) event told effects
+      → QueuesAfter a (with_queue a.queues.items queue change) a.opened (a.in_flight_count - freed_by (Some id) a.queues.items queue) event told effects
   queues-released event told effects is none at change view same sound alike pick =
       queues-after a kept queue at change view _ event told effects none same sound alike
       (λ m. queue_at-released (start_of a) a.audit.items event told effects queue id is m ∙ pick m (queue_at (start_of a) a.audit.items m))
@@ -119,7 +118,7 @@ pub find-placed : (g : InFlight → Place) (n i : ℕ) (fs : List InFlight) → 
 find-placed g n i [] named = refl
 find-placed g n i (f ∷ fs) named = grind (arith, find-placed g n i fs named)
 
-module _ (a : Inside) (kept : IsCached a) (queue : QueueId) (id : PacketId) (q : Queue) (some : numbered a.queues.items queue.0 ≡ Some q) where
+module _ (a : Inside) (kept : IsCached a) (queue : QueueId) (id : PacketId) (q : Queue) (some : queue_in a.queues.items queue ≡ Some q) where
   owned : owner (start_of a) a.audit.items queue ≡ Some (cached_opening q)
   owned = owner-kept a queue kept ∙ ap (option_map cached_opening) some
 
@@ -133,6 +132,10 @@ module _ (a : Inside) (kept : IsCached a) (queue : QueueId) (id : PacketId) (q :
   -- where none is found, a call about it is refused
   pub none-in-place : find (is_place_of id) q.places ≡ None → RefusedAt (history_of a) queue id refusal.NotInFlight
   none-in-place is = grind (arith, sought, owned)
+
+-- where no open queue has the number, it is refused too
+pub unknown-place : (a : Inside) (kept : IsCached a) (queue : QueueId) (id : PacketId) → queue_in a.queues.items queue ≡ None → RefusedAt (history_of a) queue id refusal.UnknownQueue
+unknown-place a kept queue id none = λ rest. rw (owner-kept a queue kept, none) refl
 
 -- a packet in its place reaches only what lies whole in a region
 pub reaches-in_place : (a : Inside) (kept : IsCached a) (queue : QueueId) (id : PacketId) (place : Place) → IsInPlace (history_of a) queue id place
@@ -185,11 +188,11 @@ sound-advanced q id so_far sound =
 
 -- how the queues move along with it
 pub queues-advanced : (a : Inside) (kept : IsCached a) (queue : QueueId) (at : IsOpen a queue) (id : PacketId) (g : Progress → Progress) (event : Event) (told : Outcome)
-    (effects : List Effect) → IsAdvance queue id g event told effects → opening_of event ≡ None
+    (effects : List Effect) → IsAdvance queue id g event told effects → ((all : Openings) → openings_after all event ≡ all)
     → (so_far : Progress) → so_far ≡ g (progress (start_of a) a.audit.items queue id)
-    → QueuesAfter a (with_queue a.queues.items queue (with_advance id so_far)) a.in_flight_count event told effects
+    → QueuesAfter a (with_queue a.queues.items queue (with_advance id so_far)) a.opened a.in_flight_count event told effects
 queues-advanced a kept queue at id g event told effects is none so_far new =
-    queues-after a kept queue at (with_advance id so_far) (advanced id so_far) a.in_flight_count event told effects none refl (sound-advanced at.q id so_far at.sound) refl
+    queues-after a kept queue at (with_advance id so_far) (advanced id so_far) a.in_flight_count event told effects none (λ q. refl) (sound-advanced at.q id so_far at.sound) refl
     (λ m. queue_at-advanced (start_of a) a.audit.items event told effects queue id g is so_far new m)
     (kept.in_flight_count ∙ ap length (sym (flight-advanced (start_of a) a.audit.items event told effects queue id g is))) (none-launched _ _ is.launches (start_of a))
 

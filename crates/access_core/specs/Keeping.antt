@@ -1,13 +1,16 @@
 -- Which calls leave the places of a core's tables as they are, and which tables an opening lengthens (own).
-use Rattle.std.specs.Prelude.{◌≡◌, ℕ, ◌+◌, ◌*◌, ◌<◌, max, false, [], ◌∷◌, ◌++◌, length, Result, Ok, Err}
+use Rattle.std.specs.Prelude.{◌≡◌, ℕ, ◌+◌, ◌*◌, ◌<◌, max, false, [], ◌∷◌, ◌++◌, length, List, Result, Ok, Err}
 use Rattle.aql_packet.specs.declared.ids.QueueId.{QueueId}
 use Rattle.core_model.specs.History.{beginning}
 use Rattle.core_model.specs.Legal.{due, may_lack_memory}
 use Rattle.core_model.specs.Limits.{most_in_flight}
+use Rattle.core_model.specs.Owed.{Owed, enters}
 use Rattle.core_model.specs.Queues.{openings}
 use Rattle.core_model.specs.declared.refusal.Refusal.{Refusal}
 use Rattle.core_model.specs.declared.event.Event.{Event}
-use Rattle.core_model.specs.declared.event.Event.TheVariants.{Open}
+use Rattle.core_model.specs.declared.call.Call.{Call}
+use Rattle.core_model.specs.declared.call.Call.TheVariants.{Close}
+use Rattle.core_model.specs.declared.event.Event.TheVariants as event
 use Rattle.core_model.specs.declared.event.CoreRequest.{CoreRequest}
 use Rattle.core_model.specs.declared.event.CoreRequest.TheVariants as request
 use Rattle.access_core.specs.Cores.{Core, TablePlaces}
@@ -32,17 +35,39 @@ GrowsAsOpened open_before (Err why) old new = LacksForQueue open_before old new
 
 -- the same, where those were open that a history tells of
 abbrev pub GrowsByOpening : Core → Result QueueId Refusal → Core → Type 0
-GrowsByOpening old result new = GrowsAsOpened (length (openings (beginning old.history) old.history.entries)) result old.places new.places
+GrowsByOpening old result new = GrowsAsOpened (length (openings (beginning old.history) old.history.entries).queues) result old.places new.places
 
 -- an event leaves all places where it may not want memory: so does an opening that is refused
 abbrev pub KeepsPlaces : Event → Core → Core → Type 0
 KeepsPlaces event old new = may_lack_memory event (due old.history event) ≡ false → new.places ≡ old.places
 
--- an opening keeps the places so; every other request leaves all of them, even where it may want memory: a launch, which gets memory for
--- what its packet holds, finds a place for that in the table
+-- a queue was closed: its list of errors went with it, and each other table has as many places as before (own)
+pub record LosesQueue (old new : TablePlaces) : Type 0 where
+  pub before : List ℕ
+  pub lost : ℕ
+  pub behind : List ℕ
+  pub errors : old.error_places ≡ before ++ lost ∷ behind
+  pub others : new ≡ record old { error_places = before ++ behind }
+
+-- what becomes of the places by a close that is due this: refused it leaves them (own)
+abbrev pub ClosesAsDue : Owed → TablePlaces → TablePlaces → Type 0
+ClosesAsDue (enters _ _) old new = LosesQueue old new
+ClosesAsDue _ old new = new ≡ old
+
+-- the same, of a queue by its number
+abbrev pub ClosesInPlace : QueueId → Core → Core → Type 0
+ClosesInPlace queue old new = ClosesAsDue (due old.history (event.Call (Close queue))) old.places new.places
+
+-- a call leaves all places, but a close, with which its queue's list of errors goes (own)
+abbrev pub CalledInPlace : Call → Core → Core → Type 0
+CalledInPlace (Close queue) old new = ClosesInPlace queue old new
+CalledInPlace _ old new = new.places ≡ old.places
+
+-- an opening keeps the places so, and a call; every other request leaves all of them, even where it may want memory: a launch, which gets
+-- memory for what its packet holds, finds a place for that in the table
 abbrev pub ServedInPlace : CoreRequest → Core → Core → Type 0
-ServedInPlace (request.Open client agent size) old new = KeepsPlaces (Open client agent size) old new
+ServedInPlace (request.Open client agent size) old new = KeepsPlaces (event.Open client agent size) old new
 ServedInPlace (request.Take queue packet bytes) old new = new.places ≡ old.places
-ServedInPlace (request.Call asked) old new = new.places ≡ old.places
+ServedInPlace (request.Call asked) old new = CalledInPlace asked old new
 ServedInPlace (request.Query asked) old new = new.places ≡ old.places
 ServedInPlace (request.Reload policy) old new = new.places ≡ old.places

@@ -2,6 +2,8 @@
 pub mod Given
 pub mod ArgumentBlocks
 pub mod CachedQueue
+pub mod Numbers
+pub mod Closing
 pub mod QueueChanges
 pub mod LiesInRegions
 pub mod Deciding

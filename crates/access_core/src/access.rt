@@ -7,6 +7,7 @@ ghost use Rattle.core_model.specs.Legal.{entry_of};
 ghost use Rattle.access_core.specs.inner.Cached.{IsEntered, is_full};
 
 mod asked;
+mod closing;
 mod completing;
 mod granting;
 mod group_writes;
@@ -99,7 +100,10 @@ pub struct AccessCore {
     blocks: ArgumentBlocks,
     memory: Regions,
     signals: Signals,
+    /// The open queues, by number.
     queues: Vec<Queue>,
+    /// How many queues were ever opened: the number of the last.
+    opened: u64,
     /// How many packets are in flight, of all queues.
     in_flight_count: usize,
     capacity: usize,
@@ -118,6 +122,7 @@ impl Drop for AccessCore {
             memory: _,
             signals: _,
             queues: _,
+            opened: _,
             in_flight_count: _,
             capacity: _,
             audit: _,

@@ -4,6 +4,7 @@ ghost use Rattle.std.specs.Prelude.{Some, ◌≡◌, ◌<◌, ◌≤◌, ◌++�
 ghost use Rattle.std.specs.Option.{option_copied};
 ghost use Rattle.access_core.specs.inner.ArgumentBlocks.{AreNamedOnce, IsIndexOf, is_block, rights_for};
 ghost use Rattle.access_core.specs.Cores.{places_of};
+ghost use Rattle.access_core.specs.inner.Closing.{without_blocks};
 
 use aql_packet::{ClientId, PacketId, QueueId};
 use policy::{Object, Rights};
@@ -135,6 +136,14 @@ impl ArgumentBlocks {
             let block = self.blocks.remove(index);
             self.keep(block.rights);
         }
+    }
+
+    /// Drops the blocks of a queue that is closed. It takes no memory.
+    pub fn release_queue(&mut self, queue: QueueId)
+        ensures rest { self.new.items ≡ without_blocks queue self.old.items }
+        ensures places { places_of self.new ≡ places_of self.old }
+    {
+        self.blocks.retain(|block| block.queue.0 != queue.0);
     }
 
     // Keeps the memory of a list, where there is a place for it.

@@ -10,6 +10,7 @@ mod holders;
 mod kernel;
 mod lists;
 mod queue;
+mod release_room;
 mod tables;
 
 pub use access::{AccessCore, OpenFault};

@@ -1,13 +1,16 @@
 //! What the core keeps of a queue.
 
-use aql_packet::{AgentHandle, ClientId};
+use crate::release_room::ReleaseRoom;
+use aql_packet::{AgentHandle, ClientId, QueueId};
 use packet_processor::Places;
 use queue_error::QueueError;
 use sequences::Reserved;
 
-/// A queue that was opened.
+/// A queue that is open.
 #[derive(Drop)]
 pub struct Queue {
+    /// Its number, which no other queue has, before it or since.
+    pub number: QueueId,
     /// Whose it is.
     pub client: ClientId,
     /// The agent that runs its packets.
@@ -20,4 +23,6 @@ pub struct Queue {
     pub errors: Reserved<QueueError>,
     /// Its packets in flight, at most eight.
     pub places: Places,
+    /// Room for what its closing tells.
+    pub releases: ReleaseRoom,
 }

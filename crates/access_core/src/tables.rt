@@ -4,7 +4,7 @@
 /// Memory, signals and rights in force are as long as the policy has them.
 #[derive(Clone, Copy, Debug, PartialEq, Eq)]
 pub struct TableSizes {
-    /// Queues: as many as were opened.
+    /// Queues: as many as are open.
     pub queues: usize,
     /// Argument blocks: one of each packet in flight.
     pub argument_blocks: usize,

@@ -1,15 +1,17 @@
-//! Why a measurement told no figure.
+//! Why a run ended early.
 
+use access_core::{Kernel, OpenFault};
+use core_model::{JoinFault, Refusal};
 use executor::RunFault;
 use hsail_reader::ReadError;
 use kernel_check::CheckError;
-use policy::ReadPolicyError;
+use policy::{Policy, ReadPolicyError};
 use ring::{RingFault, Spent};
-use std::alloc::AllocError;
+use std::alloc::{AllocError, AllocFailed};
 use std::{fmt, io};
 use threads_load::LoadFault;
 
-/// Why a measurement told no figure.
+/// Why a run ended early: a measurement told no figure, or calls were not made to their end.
 #[derive(Clone, Copy)]
 pub enum Fault {
     /// There was no memory.
@@ -20,7 +22,7 @@ pub enum Fault {
     Stuck,
     /// A packet is not whole, or not the next of its producer.
     NotWhole,
-    /// A ring refused what it was asked.
+    /// Something was refused, and not for want of memory.
     Refused,
     /// A kernel was refused, or did not end as it has to.
     Kernel,
@@ -30,7 +32,7 @@ pub enum Fault {
     Script,
     /// A script's replies are not those that are wanted.
     OtherReplies,
-    /// A broker was not opened, or lanes did not finish what was published.
+    /// A broker did not open, or lanes did not finish what was published.
     Unsettled,
 }
 
@@ -45,12 +47,20 @@ impl Fault {
             Fault::System => "the clock or the output failed",
             Fault::Stuck => "no packet and no room came, however often they were looked for",
             Fault::NotWhole => "a packet is not whole, or not the next of its producer",
-            Fault::Refused => "a ring refused what it was asked",
+            Fault::Refused => "what was asked is refused",
             Fault::Kernel => "a kernel was refused, or did not end",
             Fault::OtherSum => "what the items stored does not add up",
             Fault::Script => "a script did not end well",
             Fault::OtherReplies => "the replies to a script are not those that are wanted",
-            Fault::Unsettled => "lanes did not finish what was published",
+            Fault::Unsettled => "a broker did not open, or lanes did not finish what was published",
+        }
+    }
+
+    /// The exit status: as of the broker's own program, 3 for want of memory.
+    pub fn status(self) -> u8 {
+        match self {
+            Fault::OutOfMemory => 3,
+            _ => 1,
         }
     }
 }
@@ -119,7 +129,46 @@ impl From<ReadPolicyError> for Fault {
     fn from(error: ReadPolicyError) -> Fault {
         match error {
             ReadPolicyError::OutOfMemory => Fault::OutOfMemory,
-            ReadPolicyError::Fault(_) => Fault::Unsettled,
+            ReadPolicyError::Fault(_) => Fault::Refused,
+        }
+    }
+}
+
+impl From<AllocFailed<[Kernel; 1]>> for Fault {
+    fn from(_: AllocFailed<[Kernel; 1]>) -> Fault {
+        Fault::OutOfMemory
+    }
+}
+
+impl From<OpenFault> for Fault {
+    fn from(fault: OpenFault) -> Fault {
+        match fault {
+            OpenFault::OutOfMemory => Fault::OutOfMemory,
+            _ => Fault::Refused,
+        }
+    }
+}
+
+impl From<Refusal> for Fault {
+    fn from(refusal: Refusal) -> Fault {
+        match refusal {
+            Refusal::OutOfMemory => Fault::OutOfMemory,
+            _ => Fault::Refused,
+        }
+    }
+}
+
+impl From<(Refusal, Policy)> for Fault {
+    fn from((refusal, _): (Refusal, Policy)) -> Fault {
+        Fault::from(refusal)
+    }
+}
+
+impl From<JoinFault> for Fault {
+    fn from(fault: JoinFault) -> Fault {
+        match fault {
+            JoinFault::OutOfMemory => Fault::OutOfMemory,
+            JoinFault::NotNext => Fault::Refused,
         }
     }
 }

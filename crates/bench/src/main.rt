@@ -1,11 +1,13 @@
-//! The program that measures. `bench ring PACKETS` measures the ring over atomics, `bench lanes PACKETS` lanes over a
-//! core under its lock, `bench script PACKETS` the broker from a script's text to its replies, `bench replay PACKETS` the
-//! replay of a journal beside the core that made its history, `bench kernels ITEMS` the executor of kernels, and
-//! `bench all PACKETS ITEMS` ring, lanes, script and kernels. Its figures go to standard error, and standard output says what is
-//! the same in every run.
+//! The program that measures, and that is refused memory. `bench ring PACKETS` measures the ring over atomics,
+//! `bench lanes PACKETS` lanes over a core under its lock, `bench script PACKETS` the broker from a script's text to its
+//! replies, `bench replay PACKETS` the replay of a journal beside the core that made its history, and
+//! `bench kernels ITEMS` the executor of kernels. `bench joins` joins two parts of a history, and `bench wants` makes
+//! calls of rings, lanes and a broker, each once more where it wants memory. `bench all PACKETS ITEMS` does all of this
+//! but the replay. The figures go to standard error, and standard output says what is the same in every run.
 #![tactic(auto)]
 
 mod fault;
+mod joins;
 mod kernel_speed;
 mod lane;
 mod lane_speed;
@@ -14,11 +16,13 @@ mod replay_speed;
 mod report;
 mod ring_speed;
 mod script_speed;
+mod wants;
 
 use clap::builder::ValueParser;
 use clap::error::ErrorKind;
 use clap::{Arg, ArgAction, ArgMatches, Command, Error};
 use fault::Fault;
+use joins::open_and_join;
 use kernel_speed::MOST_ITEMS;
 use lane_speed::MOST_LANE_PACKETS;
 use replay_speed::MOST_REPLAYED;
@@ -30,15 +34,13 @@ use std::sync::Wait;
 use std::thread::Threads;
 use std::time::Clock;
 use std::{env, io};
+use wants::call_all;
 
 /// How many packets a producer sends at the most, where the ring alone is measured.
 const MOST_RING_PACKETS: u64 = 1_000_000_000;
 
 /// How often everything is measured at the most.
 const MOST_RUNS: u64 = 1_000;
-
-/// The exit status where a measurement failed.
-const FAILED: u8 = 1;
 
 /// The exit status for a command line that isn't understood.
 const NOT_UNDERSTOOD: u8 = 2;
@@ -147,10 +149,24 @@ fn kernels_command<'a>(alloc: Global) -> Result<Command<'a>, AllocError> {
         .arg(runs(alloc))
 }
 
-// The command that measures all.
+// The command that joins parts.
+fn joins_command<'a>(alloc: Global) -> Command<'a> {
+    Command::new(alloc, "joins").about(
+        "Joins two parts of a history, once more where that wants memory",
+    )
+}
+
+// The command that makes calls which want memory.
+fn wants_command<'a>(alloc: Global) -> Command<'a> {
+    Command::new(alloc, "wants").about(
+        "Makes calls of rings, lanes and a broker, each once more where it wants memory",
+    )
+}
+
+// The command that does all.
 fn all_command<'a>(alloc: Global) -> Result<Command<'a>, AllocError> {
     Command::new(alloc, "all")
-        .about("Measures ring, lanes, scripts and kernels")
+        .about("Measures ring, lanes, scripts and kernels, and does what joins and wants do")
         .arg(script_packets(alloc))?
         .arg(items(alloc))?
         .arg(runs(alloc))
@@ -163,9 +179,11 @@ fn command<'a>(alloc: Global) -> Result<Command<'a>, AllocError> {
     let script = script_command(alloc)?;
     let replay = replay_command(alloc)?;
     let kernels = kernels_command(alloc)?;
+    let joins = joins_command(alloc);
+    let wants = wants_command(alloc);
     let all = all_command(alloc)?;
     Command::new(alloc, "bench")
-        .about("Measures the broker; the figures go to standard error")
+        .about("Measures the broker, and wants memory; the figures go to standard error")
         .version("0.1.0")
         .subcommand_required(true)
         .subcommand(ring)?
@@ -173,12 +191,14 @@ fn command<'a>(alloc: Global) -> Result<Command<'a>, AllocError> {
         .subcommand(script)?
         .subcommand(replay)?
         .subcommand(kernels)?
+        .subcommand(joins)?
+        .subcommand(wants)?
         .subcommand(all)
 }
 
 // What a command line asks for.
 #[derive(Clone, Copy)]
-struct Measurement {
+struct Request {
     // How many packets each producer sends, where the ring is measured.
     ring: Option<u64>,
     // The same where lanes are.
@@ -189,13 +209,18 @@ struct Measurement {
     replay: Option<u64>,
     // How many items a kernel has, where kernels are measured.
     items: Option<u32>,
+    // Whether parts are joined.
+    joins: bool,
+    // Whether calls are made that want memory.
+    wants: bool,
+    // How often all is measured.
     runs: u64,
 }
 
 // Measures what is asked for.
 fn measure<R: Print + Eprint + Clock + AllocGlobal + Threads + Wait + Sync>(
     rt: &R,
-    request: Measurement,
+    request: Request,
 ) -> Result<(), Fault> {
     if let Some(packets) = request.ring {
         measure_ring(rt, packets, request.runs)?;
@@ -211,6 +236,22 @@ fn measure<R: Print + Eprint + Clock + AllocGlobal + Threads + Wait + Sync>(
     }
     if let Some(items) = request.items {
         measure_kernels(rt, items, request.runs)?;
+    }
+    Ok(())
+}
+
+// Does what is asked for.
+fn perform<R: Print + Eprint + Clock + AllocGlobal + Threads + Wait + Sync>(
+    rt: &R,
+    host: &HostRuntime,
+    request: Request,
+) -> Result<(), Fault> {
+    measure(rt, request)?;
+    if request.joins {
+        open_and_join(host)?;
+    }
+    if request.wants {
+        call_all(rt, host)?;
     }
     Ok(())
 }
@@ -235,7 +276,7 @@ fn refused(rt: &HostRuntime, error: &Error) -> u8 {
 
 // What a command line asks for; or else the exit status, after what it is refused for, or its help, is
 // told.
-fn understand(rt: &HostRuntime, words: &[String]) -> Result<Measurement, u8> {
+fn understand(rt: &HostRuntime, words: &[String]) -> Result<Request, u8> {
     match matched(rt.alloc(), words) {
         Ok(matches) => requested(&matches).ok_or(NOT_UNDERSTOOD),
         Err(error) => Err(refused(rt, &error)),
@@ -243,24 +284,26 @@ fn understand(rt: &HostRuntime, words: &[String]) -> Result<Measurement, u8> {
 }
 
 // What the words of a command line ask for.
-fn requested(matches: &ArgMatches<'_>) -> Option<Measurement> {
+fn requested(matches: &ArgMatches<'_>) -> Option<Request> {
     let (name, asked) = matches.subcommand()?;
     let packets = asked.get_one("PACKETS");
     let all = name == "all";
-    Some(Measurement {
+    Some(Request {
         ring: packets.filter(|_| all || name == "ring"),
         lanes: packets.filter(|_| all || name == "lanes"),
         script: packets.filter(|_| all || name == "script"),
         replay: packets.filter(|_| name == "replay"),
         items: asked.get_one("ITEMS"),
+        joins: all || name == "joins",
+        wants: all || name == "wants",
         runs: asked.get_one("runs").unwrap_or(1),
     })
 }
 
-// Tells what failed.
+// Tells what failed, and the exit status.
 fn failed(rt: &impl Eprint, fault: Fault) -> u8 {
     let _ = eprintln!(rt; "{fault}");
-    FAILED
+    fault.status()
 }
 
 // The words of the command line, the program's own name first.
@@ -269,7 +312,7 @@ fn words(rt: &HostRuntime) -> io::Result<Vec<String>> {
 }
 
 // What the program's command line asks for, or else the exit status.
-fn asked(rt: &HostRuntime) -> Result<Measurement, u8> {
+fn asked(rt: &HostRuntime) -> Result<Request, u8> {
     match words(rt) {
         Ok(words) => understand(rt, words.as_slice()),
         Err(_) => Err(failed(rt, Fault::OutOfMemory)),
@@ -281,7 +324,7 @@ fn main(rt: HostRuntime) -> ExitCode {
         Ok(request) => request,
         Err(status) => return ExitCode::from(status),
     };
-    match measure(&rt, request) {
+    match perform(&rt, &rt, request) {
         Ok(()) => ExitCode::SUCCESS,
         Err(fault) => ExitCode::from(failed(&rt, fault)),
     }

@@ -22,5 +22,6 @@ pub mod Boards
 pub mod Fronts
 pub mod Sections
 pub mod Runs
+pub mod Numbers
 pub mod Turning
 pub mod Showing

@@ -1,22 +1,21 @@
 -- A run of sections is one whole history, and keeps what it was opened with.
-use Rattle.std.proofs.Common.{◌≡◌, ◌⊎◌, ℕ, suc, zero, ◌+◌, ◌≤◌, List, [], ◌∷◌, ◌++◌, length, refl, sym, ap, ◌∙◌, subst, ⊎_elim, inl, inr, arith, append_assoc, length-append}
+use Rattle.std.proofs.Common.{◌≡◌, ◌⊎◌, ℕ, suc, zero, ◌+◌, ◌≤◌, List, [], ◌∷◌, ◌++◌, length, refl, sym, ap, ◌∙◌, subst, ⊎_elim}
 use mathlib.Core.List.{IsPrefix}
 use Rattle.std.specs.Prelude.{Bool, true, false, ◌==◌, ◌<◌, if◌then◌else◌, Option, Some, None, All}
 use Rattle.std.proofs.lemmas.List.{append-nil}
 use Rattle.std.proofs.lemmas.Bool.Decides.{nat_tests}
-use Rattle.policy.specs.Policy.{numbered}
 use Rattle.aql_packet.specs.declared.ids.QueueId.{QueueId}
 use Rattle.core_model.specs.History.{History, Start, begin, beginning, opening_state}
 use Rattle.core_model.specs.Legal.{IsLegal, IsOpening, IsWhole}
-use Rattle.core_model.specs.Queues.{openings, owner}
+use Rattle.core_model.specs.Queues.{owner}
 use Rattle.core_model.specs.declared.origin.Opening.{Opening}
 use Rattle.core_model.specs.States.{state_after}
 use Rattle.core_model.specs.declared.entry.Entry.{Entry}
-use Rattle.core_model.proofs.Holding.{owner-more}
 use Rattle.core_model.proofs.States.{begin-opening, join-end, join-legal, legal-whole, state-now, whole-legal}
 use Rattle.access_core.specs.Cores.{Core}
 use Rattle.client_threads.specs.Sections.{AllFollow, Follows, IsFirst, gone, last_of, whole}
-use Rattle.client_threads.proofs.Sections.{none_out, number_same, same_number}
+use Rattle.client_threads.proofs.Numbers.{is_closed_by, open_in_parts, owner_follows}
+use Rattle.client_threads.proofs.Sections.{grows, none_out, number_same, same_number}
 
 -- ---- what stays
 
@@ -91,40 +90,17 @@ run_whole opened left first all =
 
 -- ---- queues
 
-owner_stays : (start : Start) (es more : List Entry) (queue : QueueId) (opening : Opening) → owner start es queue ≡ Some opening → owner start (es ++ more) queue ≡ Some opening
-owner_stays start es [] queue opening is = subst (λ (now : List Entry). owner start now queue ≡ Some opening) (sym (append-nil es)) is
-owner_stays start es (e ∷ more) queue opening is =
-    subst (λ (now : List Entry). owner start now queue ≡ Some opening) (append_assoc es (e ∷ []) more)
-    (owner_stays start (es ++ e ∷ []) more queue opening (owner-more start es e queue opening is))
+-- a queue that no entry closes keeps its opening
+pub owners_stay : (earlier : List Entry) (old : Core) (left : List Core) (queue : QueueId) (opening : Opening) → AllFollow old left → owner (beginning old.history) old.history.entries queue ≡ Some opening
+    → is_closed_by queue (whole earlier old left) ≡ false → owner (beginning (last_of old left).history) (last_of old left).history.entries queue ≡ Some opening
+owners_stay earlier old [] queue opening all is unclosed = is
+owners_stay earlier old (c ∷ cs) queue opening all is unclosed =
+    let now = earlier ++ gone old c in
+    let begun : IsPrefix (now ++ c.history.entries) (whole now c cs) = grows now c cs all.1 in
+    let among = open_in_parts (now ++ c.history.entries) begun.0 queue (subst (λ (es : List Entry). is_closed_by queue es ≡ false) (sym begun.1) unclosed) in
+    let own = open_in_parts now c.history.entries queue among.0 in
+    owners_stay now c cs queue opening all.1 (owner_follows old.history c.history queue opening all.0.follows own.1 is) unclosed
 
--- what is opened behind some entries is opened in the state behind them
-openings_now : (s : Start) (es : List Entry) → openings (state_after s es) [] ≡ openings s es
-unfolding openings
-openings_now s es = refl
-
-owner_follows : (a b : History) (queue : QueueId) (opening : Opening) → Follows a b → owner (beginning a) a.entries queue ≡ Some opening → owner (beginning b) b.entries queue ≡ Some opening
-owner_follows a b queue opening f is =
-    ⊎_elim
-    (λ (t : (b.origin ≡ a.origin) × IsPrefix a.entries b.entries).
-    subst (λ (s : Start). owner s b.entries queue ≡ Some opening) (sym (λ i. begin (f.kernels i) (t.0 i)))
-    (subst (λ (es : List Entry). owner (beginning a) es queue ≡ Some opening) t.1.1 (owner_stays (beginning a) a.entries t.1.0 queue opening is)))
-    (λ (t : beginning b ≡ state_after (beginning a) a.entries).
-    subst (λ (s : Start). owner s b.entries queue ≡ Some opening) (sym t)
-    (owner_stays (state_after (beginning a) a.entries) [] b.entries queue opening (ap (λ os. numbered os queue.0) (openings_now (beginning a) a.entries) ∙ is)))
-    f.goes
-
-pub owners_stay : (old : Core) (left : List Core) (queue : QueueId) (opening : Opening) → AllFollow old left → owner (beginning old.history) old.history.entries queue ≡ Some opening
-    → owner (beginning (last_of old left).history) (last_of old left).history.entries queue ≡ Some opening
-owners_stay old [] queue opening all is = is
-owners_stay old (c ∷ cs) queue opening all is = owners_stay c cs queue opening all.1 (owner_follows old.history c.history queue opening all.0.follows is)
-
-abbrev Owns : Core → QueueId → Opening → Type 0
-Owns core queue opening = owner (beginning core.history) core.history.entries queue ≡ Some opening
-
--- who opened a queue that was seen opened it still
-pub owners_grow : (opened : Core) (known left : List Core) (queue : QueueId) (opening : Opening) → IsPrefix known left → AllFollow opened left → Owns (last_of opened known) queue opening → Owns (last_of opened left) queue opening
-owners_grow opened [] left queue opening p all is = owners_stay opened left queue opening all is
-owners_grow opened (x ∷ xs) [] queue opening p all is = absurd (cc (p.1))
-owners_grow opened (x ∷ xs) (y ∷ ys) queue opening p all is =
-    let heads : x ≡ y = cc (p.1) in
-    owners_grow y xs ys queue opening (p.0, cc (p.1)) all.1 (subst (λ (z : Core). Owns (last_of z xs) queue opening) heads is)
+pub opening_stays : (old : Core) (left : List Core) (queue : QueueId) (opening : Opening) → AllFollow old left → owner (beginning old.history) old.history.entries queue ≡ Some opening
+    → is_closed_by queue (whole [] old left) ≡ false → owner (beginning (last_of old left).history) (last_of old left).history.entries queue ≡ Some opening
+opening_stays = owners_stay []

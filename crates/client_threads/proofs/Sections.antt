@@ -86,7 +86,7 @@ step_by e a b f true is =
 step : (e : List Entry) (a b : Core) → Follows a.history b.history → IsPrefix (e ++ a.history.entries) ((e ++ gone a b) ++ b.history.entries)
 step e a b f = step_by e a.history b.history f (b.history.origin.before == a.history.origin.before) refl
 
-grows : (e : List Entry) (core : Core) (left : List Core) → AllFollow core left → IsPrefix (e ++ core.history.entries) (whole e core left)
+pub grows : (e : List Entry) (core : Core) (left : List Core) → AllFollow core left → IsPrefix (e ++ core.history.entries) (whole e core left)
 grows e core [] all = prefix_self (e ++ core.history.entries)
 grows e core (c ∷ cs) all =
     prefix_trans (e ++ core.history.entries) ((e ++ gone core c) ++ c.history.entries) (whole (e ++ gone core c) c cs) (step e core c all.0.follows) (grows (e ++ gone core c) c cs all.1)

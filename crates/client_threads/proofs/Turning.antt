@@ -67,8 +67,13 @@ call_adds event old new reply (inl m) = by_owing (due old event) m.history_is
     by_owing (enters told effects) is = record { more = entry_of event told effects ∷ []; history = is; own = inr (told, effects, refl) }
 call_adds event old new reply (inr l) = adds_none event old new l.history_is
 
+-- and so adds entries
 pub call_appends : (event : Event) (old new : History) (reply : Result Outcome Refusal) → MeetsOrLacks event old new reply → Appends old new
 call_appends event old new reply m = let a = call_adds event old new reply m in record { more = a.more; history = a.history }
+
+-- so does one that takes no memory
+pub met_appends : (event : Event) (old new : History) (reply : Result Outcome Refusal) → Meets event old new reply → Appends old new
+met_appends event old new reply m = call_appends event old new reply (inl m)
 
 -- ---- a packet that is taken is entered
 

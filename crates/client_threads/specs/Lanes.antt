@@ -40,7 +40,7 @@ ids_of pending = map (λ p. p.id) pending
 
 -- what a lane served is what its pass retired, from id 0 on; what it keeps is the last of that; what is pending it served
 pub record IsLane (lane : LaneSeen) : Type 0 where
-  -- its queue is one of the few that a core opens
+  -- its queue is one of the few that a broker opens in its life
   pub few : lane.queue.0 ≤ most_queues
   pub numbered : AreNumbered 0 lane.served
   pub retired : map words_served lane.served ≡ lane.pass.part.retired

@@ -1,5 +1,5 @@
 -- What opening a broker and its queues makes (own).
-use Rattle.std.specs.Prelude.{◌≡◌, ℕ, ◌+◌, List, [], ◌∷◌, ◌++◌, length, map, Some, None, Result, ⊤}
+use Rattle.std.specs.Prelude.{◌≡◌, ◌⊎◌, ℕ, ◌+◌, ◌<◌, ◌≤◌, List, [], ◌∷◌, ◌++◌, map, None, Result, Ok, Err, ⊤}
 use Rattle.atomic_table.specs.Seated.{TableId}
 use Rattle.aql_packet.specs.declared.ids.ClientId.{ClientId}
 use Rattle.aql_packet.specs.declared.ids.AgentHandle.{AgentHandle}
@@ -8,9 +8,15 @@ use Rattle.policy.specs.Policy.{Declared}
 use Rattle.policy.specs.Results.{map_ok}
 use Rattle.core_model.specs.declared.event.Event.{Event}
 use Rattle.core_model.specs.declared.event.Event.TheVariants.{Open}
+use Rattle.core_model.specs.declared.outcome.Outcome.{Outcome}
+use Rattle.core_model.specs.declared.outcome.Outcome.TheVariants as outcome
+use Rattle.core_model.specs.declared.refusal.Refusal.{Refusal}
+use Rattle.core_model.specs.declared.refusal.Refusal.TheVariants as refusal
 use Rattle.core_model.specs.History.{History, beginning}
-use Rattle.core_model.specs.Queues.{openings, owner}
-use Rattle.core_model.specs.declared.origin.Opening.{Opening}
+use Rattle.core_model.specs.Legal.{MeetsOrLacks, due}
+use Rattle.core_model.specs.Limits.{most_queues}
+use Rattle.core_model.specs.Owed.{enters}
+use Rattle.core_model.specs.Queues.{openings}
 use Rattle.access_core.specs.Cores.{Core}
 use Rattle.access_core.specs.Opening.{Opens}
 use Rattle.access_core.specs.declared.access.OpenFault.{OpenFault}
@@ -36,13 +42,34 @@ OpensBroker policy kernels capacity result = Opens policy kernels capacity (map_
 abbrev pub opening_event : ClientId → AgentHandle → ℕ → ℕ → Event
 opening_event client agent size producers = Open client agent (judged_size size producers)
 
--- the number of the queue that is opened next
-abbrev pub next_queue : History → ℕ
-next_queue history = length (openings (beginning history) history.entries) + 1
+-- how many queues were ever opened (own)
+abbrev pub opened_so_far : History → ℕ
+opened_so_far history = (openings (beginning history) history.entries).opened
 
--- a core opened the queue with this number
+-- the number of the queue that is opened next (own)
+abbrev pub next_queue : History → ℕ
+next_queue history = opened_so_far history + 1
+
+-- the core would open a queue behind the last that a broker opens in its life, where closed ones count: it is refused, and all stays (own)
+pub record IsBehindLast (event : Event) (before : History) (reply : Result Outcome Refusal) (after : History) : Type 0 where
+  pub queue : QueueId
+  pub due_is : due before event ≡ enters (outcome.Opened queue) []
+  pub behind : most_queues < queue.0
+  pub reply_is : reply ≡ Err refusal.TooMany
+  pub history_is : after ≡ before
+
+-- a queue that is opened is one of those that a broker opens in its life (own)
+abbrev pub IsOneOfFew : Result Outcome Refusal → Type 0
+IsOneOfFew (Ok (outcome.Opened queue)) = queue.0 ≤ most_queues
+IsOneOfFew _ = ⊤
+
+-- a queue is opened, or refused, just as the core does it; but none behind the last (own)
+abbrev pub OpensQueue : Event → History → Result Outcome Refusal → History → Type 0
+OpensQueue event before reply after = (MeetsOrLacks event before after reply × IsOneOfFew reply) ⊎ IsBehindLast event before reply after
+
+-- a core opened the queue with this number, which may be closed by now (own)
 abbrev pub HasOpened : Core → ℕ → Type 0
-HasOpened core queue = (opening : Opening) × (owner (beginning core.history) core.history.entries (record { 0 = queue }) ≡ Some opening)
+HasOpened core queue = (0 < queue) × (queue ≤ opened_so_far core.history)
 
 -- each of these rings is of a queue that this core opened
 abbrev pub AreOpened : Core → List QueueRing → Type 0

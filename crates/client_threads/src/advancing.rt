@@ -35,7 +35,8 @@ pub enum Advanced {
 }
 
 /// Advances the first pending packet of a lane: it is finished, and only where its work isn't done, a barrier packet is
-/// polled and another's next group is run. A packet that stays pending then goes last.
+/// polled and another's next group is run. A packet that stays pending then goes last. One that isn't in flight, or whose
+/// queue was closed, is pending no more.
 pub fn advance_one(alloc: Global, lane: &mut Lane, core: &mut AccessCore) -> Advanced
     ensures { AdvancesTo lane.old core.old.history result lane.new core.new.history }
 {
@@ -170,6 +171,7 @@ fn leaves(reply: &Result<Outcome, Refusal>) -> bool
         Ok(Outcome::Polled(_)) => false,
         Ok(_) => true,
         Err(Refusal::NotInFlight) => true,
+        Err(Refusal::UnknownQueue) => true,
         Err(_) => false,
     }
 }

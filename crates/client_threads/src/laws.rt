@@ -1,13 +1,14 @@
 //! What the served lists and what sections tell.
 
-ghost use Rattle.std.specs.Prelude.{◌≡◌, ◌⊎◌, ℕ, List, [], ◌∷◌, ◌++◌, All, Some};
+ghost use Rattle.std.specs.Prelude.{◌≡◌, ◌⊎◌, ℕ, List, [], ◌∷◌, ◌++◌, All, Some, false};
+ghost use Rattle.std.specs.List.{list_any};
 ghost use mathlib.Core.List.{IsPrefix};
 ghost use Rattle.atomic_table.specs.Seated.{TableId};
 ghost use Rattle.aql_packet.specs.declared.ids.QueueId.{QueueId};
 ghost use Rattle.access_core.specs.Cores.{Core};
 ghost use Rattle.core_model.specs.History.{beginning};
 ghost use Rattle.core_model.specs.Legal.{IsWhole};
-ghost use Rattle.core_model.specs.Queues.{owner};
+ghost use Rattle.core_model.specs.Queues.{closes_queue, owner};
 ghost use Rattle.core_model.specs.declared.origin.Opening.{Opening};
 ghost use Rattle.client_threads.specs.declared.client_end.ClientEnd.{ClientEnd};
 ghost use Rattle.client_threads.specs.Boards.{Compared, PassSeen};
@@ -48,9 +49,10 @@ pub fn law_runs_are_whole_histories()
     ensures room { (opened : Core) (left : List Core) → AllFollow opened left → (last_of opened left).history.capacity ≡ opened.history.capacity }
 {}
 
-/// The client and the agent of a queue are those of its opening, whatever sections come then.
+/// The client and the agent of a queue are those of its opening, whatever sections come then, as long as no entry closes it.
 pub fn law_queues_keep_their_openings()
     ensures { (old : Core) (left : List Core) (queue : QueueId) (opening : Opening) → AllFollow old left →
         owner (beginning old.history) old.history.entries queue ≡ Some opening →
+        list_any (λ entry. closes_queue queue entry.event) (whole [] old left) ≡ false →
         owner (beginning (last_of old left).history) (last_of old left).history.entries queue ≡ Some opening }
 {}

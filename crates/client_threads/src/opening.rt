@@ -3,11 +3,12 @@
 ghost use Rattle.std.specs.Prelude.{◌≡◌, ℕ, List, ◌<◌, ◌≤◌, IfOk, IfErr, OnOk, Err, None, [], false, map, vec_capacity, vec_len};
 ghost use Rattle.policy.specs.Results.{map_ok};
 ghost use Rattle.core_model.specs.declared.event.Event.{Event};
-ghost use Rattle.core_model.specs.declared.limits.TheConstants.{QUEUES};
 ghost use Rattle.core_model.specs.declared.outcome.Outcome.{Outcome};
-ghost use Rattle.core_model.specs.Legal.{MeetsOrLacks};
+ghost use Rattle.core_model.specs.Legal.{MeetsOrLacks, due};
+ghost use Rattle.core_model.specs.Limits.{most_queues};
+ghost use Rattle.core_model.specs.Owed.{enters};
 ghost use Rattle.client_threads.specs.Desks.{seen};
-ghost use Rattle.client_threads.specs.Opening.{AreOpened, IsOpened, as_end, next_queue, opening_event};
+ghost use Rattle.client_threads.specs.Opening.{AreOpened, IsOneOfFew, IsOpened, OpensQueue, as_end, next_queue, opening_event};
 ghost use Rattle.client_threads.specs.Boards.{PassSeen};
 ghost use Rattle.client_threads.specs.Rings.{AreApart, QueueRing, ring_of};
 ghost use Rattle.client_threads.specs.Sections.{IsSection, last_of};
@@ -20,7 +21,7 @@ use crate::lane::Lane;
 use crate::room::{Held, Room, leave};
 use access_core::AccessCore;
 use aql_packet::{AgentHandle, ClientId, QueueId};
-use core_model::Refusal;
+use core_model::{QUEUES, Refusal};
 use crossbeam_utils::CachePadded;
 use doorbell::Doorbell;
 use ring::{ProcessorPass, ProducerPass, Ring};
@@ -41,7 +42,8 @@ pub(crate) struct Asked {
 
 impl<B: Room> Broker<B> {
     /// Opens a queue for a client, whose packets an agent runs, with a ring of `size` slots for so many producers. It is
-    /// refused just as this broker's core refuses it, wrong producers being a wrong size. After a refusal all is as before.
+    /// refused just as this broker's core refuses it, wrong producers being a wrong size. A broker opens 64 queues in its
+    /// life, those counted that were closed: a further one is refused as too many, too. After a refusal all is as before.
     /// The opening is a section of the core, which the front and the lane have seen then. It doesn't wait.
     pub fn open_queue(
         &mut self,
@@ -55,7 +57,7 @@ impl<B: Room> Broker<B> {
         requires front { front.old.board ≡ B.board }
         ensures front { front.new.board ≡ B.board }
         ensures section { IsSection B.opened front.old.left front.new.left (λ before after.
-            MeetsOrLacks (opening_event client agent size producers) before.history after.history (map_ok (λ o. Outcome.Opened o.0) result)) }
+            OpensQueue (opening_event client agent size producers) before.history (map_ok (λ o. Outcome.Opened o.0) result) after.history) }
         ensures opened { IfOk result (λ o. IsOpened self.old size producers front.new o.0 o.1.items o.2 self.new) }
         ensures refused { IfErr result (λ _. self.new ≡ self.old) }
     {
@@ -92,7 +94,7 @@ impl<B: Room> Held<B> {
         requires openings { (openings.old.board ≡ B.board) × AreOpened (last_of B.opened openings.old.left) (map seen desks.old.items) }
         ensures board { front.new.board ≡ B.board }
         ensures section { IsSection B.opened front.old.left front.new.left (λ before after.
-            MeetsOrLacks (opening_event asked.client asked.agent asked.size asked.producers) before.history after.history (map_ok (λ o. Outcome.Opened o.0) result)) }
+            OpensQueue (opening_event asked.client asked.agent asked.size asked.producers) before.history (map_ok (λ o. Outcome.Opened o.0) result) after.history) }
         ensures opened { IfOk result (λ o. IsOpened (map seen desks.old.items) asked.size asked.producers front.new o.0 o.1.items o.2 (map seen desks.new.items)) }
         ensures refused { IfErr result (λ _. map seen desks.new.items ≡ map seen desks.old.items) }
         ensures apart { AreApart (map seen desks.new.items) }
@@ -129,18 +131,40 @@ fn with_front(opened: Result<Opened, Refusal>, front: Front) -> Result<Opened, R
     }
 }
 
-// The number that a queue will have that is opened next, or why it isn't.
-#[tactic(auto, using(crate::proofs::Opened::openable, crate::proofs::Opened::refused_meets))]
+// The number that a queue will have in the core that is opened next, or why it isn't.
+#[tactic(auto, using(crate::proofs::Opened::refused_meets))]
 fn may_open(
     core: &AccessCore,
     client: ClientId,
     agent: AgentHandle,
     size: u64,
 ) -> Result<QueueId, Refusal>
-    ensures may { IfOk result (IsOpenable core.now.history (Event.Open client agent size)) }
+    ensures may { IfOk result (λ queue. due core.now.history (Event.Open client agent size) ≡ enters (Outcome.Opened queue) []) }
     ensures why { IfErr result (λ why. MeetsOrLacks (Event.Open client agent size) core.now.history core.now.history (Err why)) }
 {
     core.may_open(client, agent, size)
+}
+
+// The same, where it isn't behind the last that a broker opens.
+#[tactic(auto, using(crate::proofs::Opened::openable, crate::proofs::Opened::refused_behind, crate::proofs::Opened::refused_as_core))]
+fn may_open_here(
+    core: &AccessCore,
+    client: ClientId,
+    agent: AgentHandle,
+    size: u64,
+) -> Result<QueueId, Refusal>
+    ensures may { IfOk result (IsOpenable core.now.history (Event.Open client agent size)) }
+    ensures why { IfErr result (λ why. OpensQueue (Event.Open client agent size) core.now.history (Err why) core.now.history) }
+{
+    match may_open(core, client, agent, size) {
+        Err(why) => Err(why),
+        Ok(queue) => {
+            if queue.0 > QUEUES as u64 {
+                return Err(Refusal::TooMany);
+            }
+            Ok(queue)
+        }
+    }
 }
 
 // The ends of a queue, from the passes to its ring.
@@ -162,7 +186,7 @@ fn ends_of(
 #[tactic(auto, using(crate::proofs::KeptLanes::opened_keeps, crate::proofs::KeptLanes::opened_as))]
 fn lane_of(alloc: Global, queue: QueueId, pass: ProcessorPass, front: Front) -> Lane
     requires pass { (pass.part.retired ≡ []) × (pass.part.raising ≡ false) }
-    requires few { queue.0 ≤ QUEUES }
+    requires few { queue.0 ≤ most_queues }
     ensures { result ≡ record { queue = queue; pass = pass; served = []; kept = []; pending = []; front = front } }
 {
     Lane {
@@ -191,7 +215,7 @@ fn make_beside(
     producers: u64,
     front: Front,
 ) -> Result<Beside, AllocError>
-    requires few { queue.0 ≤ QUEUES }
+    requires few { queue.0 ≤ most_queues }
     ensures { IfOk result (IsBeside queue size producers front) }
 {
     let Ok((ring, passes, processor)) = Ring::new(alloc, size, producers) else {
@@ -218,7 +242,7 @@ fn make_room(
     producers: u64,
     front: Front,
 ) -> Result<Beside, AllocError>
-    requires few { queue.0 ≤ QUEUES }
+    requires few { queue.0 ≤ most_queues }
     ensures made { IfOk result (IsBeside queue size producers front) }
     ensures room { OnOk result (vec_len desks.new < vec_capacity desks.new) }
     ensures desks { desks.new.items ≡ desks.old.items }
@@ -228,7 +252,7 @@ fn make_room(
 }
 
 // Opens a queue in a core, and puts what was made for it behind the other desks.
-#[tactic(auto, using(crate::proofs::Opened::opened_meets))]
+#[tactic(auto, using(crate::proofs::Opened::opened_meets, crate::proofs::Opened::few_open))]
 fn enter_queue(
     alloc: Global,
     core: &mut AccessCore,
@@ -243,6 +267,7 @@ fn enter_queue(
     requires room { vec_len desks.old < vec_capacity desks.old }
     requires apart { AreApart (map seen desks.old.items) }
     ensures due { MeetsOrLacks (Event.Open client agent size) core.old.history core.new.history (map_ok (λ o. Outcome.Opened o.0) result) }
+    ensures few { IsOneOfFew (map_ok (λ o. Outcome.Opened o.0) result) }
     ensures entered { IfOk result (λ o. HasEntered made (map seen desks.old.items) (map seen desks.new.items) o.0 o.1.items o.2) }
     ensures refused { IfErr result (λ _. desks.new.items ≡ desks.old.items) }
     ensures apart { AreApart (map seen desks.new.items) }
@@ -259,7 +284,7 @@ fn enter_queue(
 }
 
 // Opens a queue in a core and beside it, with a lane that has seen what a front has.
-#[tactic(auto, using(crate::proofs::Opened::lacks, crate::proofs::Opened::entered_opened))]
+#[tactic(auto, using(crate::proofs::Opened::lacks, crate::proofs::Opened::opens_here, crate::proofs::Opened::entered_opened))]
 fn open_beside(
     alloc: Global,
     core: &mut AccessCore,
@@ -269,7 +294,7 @@ fn open_beside(
 ) -> Result<Opened, Refusal>
     requires apart { AreApart (map seen desks.old.items) }
     requires fresh { ring_of (next_queue core.old.history) (map seen desks.old.items) ≡ None }
-    ensures due { MeetsOrLacks (opening_event asked.client asked.agent asked.size asked.producers) core.old.history core.new.history (map_ok (λ o. Outcome.Opened o.0) result) }
+    ensures due { OpensQueue (opening_event asked.client asked.agent asked.size asked.producers) core.old.history (map_ok (λ o. Outcome.Opened o.0) result) core.new.history }
     ensures opened { IfOk result (λ o. IsOpened (map seen desks.old.items) asked.size asked.producers front o.0 o.1.items o.2 (map seen desks.new.items)) }
     ensures refused { IfErr result (λ _. map seen desks.new.items ≡ map seen desks.old.items) }
     ensures apart { AreApart (map seen desks.new.items) }
@@ -281,7 +306,7 @@ fn open_beside(
         producers,
     } = asked;
     let judged = judged_size(size, producers);
-    match may_open(core, client, agent, judged) {
+    match may_open_here(core, client, agent, judged) {
         Err(why) => Err(why),
         Ok(next) => match make_room(alloc, desks, next, judged, producers, front) {
             Err(_) => Err(Refusal::OutOfMemory),

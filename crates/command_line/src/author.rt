@@ -8,7 +8,7 @@ use crate::writers::Nowhere;
 use assemble::{AssembleError, Book, BookError, assemble_script};
 use commands::{Status, check_policy};
 use explain::text_help;
-use kernel_listing::{Listing, TextFault, list, told as fault_told};
+use kernel_listing::{Form, Listing, TextFault, list, told as fault_told};
 use std::alloc::{AllocError, Global};
 use std::io;
 use std::io::Write;
@@ -55,28 +55,30 @@ fn write_listing<O: io::Write, E: io::Write>(
     }
 }
 
-/// Lists the kernels of a text on `out`, or tells the text's fault on `err`.
-pub fn list_kernel<O: io::Write, E: io::Write>(
+// Lists the kernels of a text on `out` in a form, or tells the text's fault on `err`.
+fn list_plainly<O: io::Write, E: io::Write>(
     alloc: Global,
     text: &[u8],
+    form: Form,
     out: &mut O,
     err: &mut E,
 ) -> Status {
-    match list(alloc, text) {
+    match list(alloc, text, form) {
         Ok(listing) => write_listing(alloc, text, &listing, out, err),
         Err(_) => fails(err, "no memory\n"),
     }
 }
 
-// Lists the kernels of the text in a file as `list_kernel` does, and tells after a fault what helps.
+// Lists the kernels of the text in a file as `list_plainly` does, and tells after a fault what helps.
 fn list_explaining<O: io::Write, E: io::Write>(
     alloc: Global,
     file: &str,
     text: &[u8],
+    form: Form,
     out: &mut O,
     err: &mut E,
 ) -> Status {
-    let Ok(listing) = list(alloc, text) else {
+    let Ok(listing) = list(alloc, text, form) else {
         return fails(err, "no memory\n");
     };
     match (write_listing(alloc, text, &listing, out, err), listing) {
@@ -88,20 +90,20 @@ fn list_explaining<O: io::Write, E: io::Write>(
 }
 
 // Lists the kernels of the text in a file, and tells after a fault what helps, if it explains.
-fn list_file(rt: &HostRuntime, file: &str, explains: bool, text: &[u8]) -> Status {
+fn list_file(rt: &HostRuntime, file: &str, form: Form, explains: bool, text: &[u8]) -> Status {
     let mut out = rt.stdout();
     let mut err = rt.stderr();
     if explains {
-        list_explaining(rt.alloc(), file, text, &mut out, &mut err)
+        list_explaining(rt.alloc(), file, text, form, &mut out, &mut err)
     } else {
-        list_kernel(rt.alloc(), text, &mut out, &mut err)
+        list_plainly(rt.alloc(), text, form, &mut out, &mut err)
     }
 }
 
-/// Lists the kernels of the text in a file, and tells why it has a fault, if it explains.
-pub fn kernel(rt: &HostRuntime, file: &str, explains: bool) -> Status {
+/// Lists the kernels of the text in a file in a form, and tells why it has a fault, if it explains.
+pub fn kernel(rt: &HostRuntime, file: &str, form: Form, explains: bool) -> Status {
     match read_most(rt, file, MOST_TEXT) {
-        Ok(text) => list_file(rt, file, explains, text.as_slice()),
+        Ok(text) => list_file(rt, file, form, explains, text.as_slice()),
         Err(error) => unread(rt, file, explains, &error),
     }
 }

@@ -29,7 +29,4 @@ mod terminal;
 mod threads;
 mod writers;
 
-pub use author::{assemble_policy, list_kernel};
-pub use commands::run_strictly;
-pub use meanings::explained;
 pub use perform::{obey, out_of_memory};

@@ -360,7 +360,11 @@ fn perform_alone(rt: &HostRuntime, asked: &Asked<'_>) -> u8 {
             form,
             explains,
         } => list(rt, policy, form, explains).number(),
-        Invocation::Kernel { file, explains } => kernel(rt, file, explains).number(),
+        Invocation::Kernel {
+            file,
+            form,
+            explains,
+        } => kernel(rt, file, form, explains).number(),
         Invocation::Assemble { policy, explains } => assemble_by(rt, policy, explains).number(),
         Invocation::Explain { word } => number_of(explain(rt, word)),
         Invocation::Decode { slots, explains } => {

@@ -5,11 +5,12 @@ use crate::listing::ListForm;
 use crate::syntax::{
     ALWAYS, ASSEMBLE, AUDIT, CHECK, COMMANDS, DECODE, DIGITS, EXPLAIN, FILE, FROM, HELP, JOURNAL,
     JSON, KERNEL, LIST, MOST_NEXT, NEXT, PACKETS, PICTURE, POLICY, PRODUCERS, READABLE, REPLAY,
-    RUN, SLOTS, STATE, STRICT, THREADS, TO, WORD, program,
+    RUN, SLOTS, STATE, STEPS, STRICT, THREADS, TO, WORD, program,
 };
 use clap::error::ErrorKind;
 use clap::{ArgMatches, Error};
 use commands::Span;
+use kernel_listing::Form;
 use pages::{Page, rows_of};
 use std::alloc::{AllocError, Global};
 
@@ -98,9 +99,10 @@ pub enum Invocation<'a> {
         explains: bool,
         journal: &'a str,
     },
-    /// `kernel FILE`: to list the kernels of the text in this file.
+    /// `kernel FILE [--steps]`: to list the kernels of the text in this file.
     Kernel {
         file: &'a str,
+        form: Form,
         explains: bool,
     },
     /// `assemble POLICY`: to turn the script on standard input into one without readable packets, by the policy in
@@ -334,6 +336,15 @@ fn policy_request<'a>(
     }
 }
 
+// How a kernel is to be told.
+fn form_in(asked: &ArgMatches<'_>) -> Form {
+    if asked.get_flag(STEPS) {
+        Form::Steps
+    } else {
+        Form::Text
+    }
+}
+
 // The request of a command with its arguments.
 fn request_of<'a>(command: &str, asked: &ArgMatches<'a>, unasked: bool) -> Option<Invocation<'a>> {
     match command {
@@ -344,6 +355,7 @@ fn request_of<'a>(command: &str, asked: &ArgMatches<'a>, unasked: bool) -> Optio
         }),
         KERNEL => Some(Invocation::Kernel {
             file: asked.get_str(FILE)?,
+            form: form_in(asked),
             explains: explains_in(asked, unasked),
         }),
         _ => policy_request(command, asked, explains_in(asked, unasked)),

@@ -66,6 +66,9 @@ pub const FILE: &str = "FILE";
 /// The argument that names a rule, a refusal or a cause.
 pub const WORD: &str = "WORD";
 
+/// The option by which a kernel's steps are listed as cases have them.
+pub const STEPS: &str = "steps";
+
 /// The option by which a run ends at the first line that isn't done.
 pub const STRICT: &str = "strict";
 
@@ -244,8 +247,13 @@ const PICTURE_ARGUMENTS: [Argument; 7] = [
     EXPLAINING,
 ];
 
-const KERNEL_ARGUMENTS: [Argument; 2] = [
+const KERNEL_ARGUMENTS: [Argument; 3] = [
     argument!(FILE, Takes::Word, "The file of the kernel's text"),
+    argument!(
+        STEPS,
+        Takes::Nothing,
+        "Lists in place of the text the steps that it was turned into, as cases have them"
+    ),
     EXPLAINING,
 ];
 

@@ -1,5 +1,5 @@
 -- What isn't there: memory outside the regions stays 0, and of a packet that isn't in flight nothing is told.
-use Rattle.std.proofs.Common.{◌≡◌, ℕ, ◌+◌, ◌-◌, ◌/◌, ◌^◌, ◌<◌, ◌≤◌, List, [], ◌∷◌, ◌++◌, length, refl, sym, ◌∙◌, ap, subst, Bool, true, false, Option, Some, None, inl, inr, append_assoc, arith}
+use Rattle.std.proofs.Common.{◌≡◌, ℕ, ◌+◌, ◌-◌, ◌^◌, ◌<◌, ◌≤◌, List, [], ◌∷◌, ◌++◌, length, refl, sym, ◌∙◌, ap, subst, Bool, true, false, Some, None, inl, inr, append_assoc, arith}
 use Rattle.std.specs.Prelude.{◌&&◌, ◌||◌, ◌==◌, ◌⊎◌, All, find, fold, nat_le, nat_lt, slice_index, if◌then◌else◌}
 use Rattle.std.specs.List.{list_any}
 use Rattle.std.proofs.lemmas.Bool.{and_parts, eqb-true, leb-true, ltb-false, ltb-true}
@@ -19,7 +19,7 @@ use Rattle.core_model.specs.declared.entry.Effect.TheVariants.{Write, Signal, Re
 use Rattle.core_model.specs.declared.entry.Entry.{Entry}
 use Rattle.core_model.specs.declared.event.Event.{Event}
 use Rattle.core_model.specs.declared.event.Event.TheVariants.{Open, Take, Reload, Call}
-use Rattle.core_model.specs.declared.call.Call.TheVariants.{Grant, Revoke, Stop, RunNext, Poll, Finish, HostWrite, ChangeSignal}
+use Rattle.core_model.specs.declared.call.Call.TheVariants.{Grant, Revoke, Stop, Close, RunNext, Poll, Finish, HostWrite, ChangeSignal}
 use Rattle.core_model.specs.declared.flight.InFlight.{InFlight}
 use Rattle.core_model.specs.declared.flight.Progress.{Progress}
 use Rattle.core_model.specs.declared.flight.TheConstants.{LAUNCH_PROGRESS}
@@ -174,6 +174,7 @@ module _ (start : Start) (queue : QueueId) (id : PacketId) where
   stays es (Call (Revoke client on rights)) told effects owing none p is = is
   stays es (Open client agent size) told effects owing none p is = is
   stays es (Call (Stop q)) told effects owing none p is = is
+  stays es (Call (Close q)) told effects owing none p is = is
   stays es (Take q i bytes) told effects owing none p is = taken-stays q i bytes told p is
   stays es (Call (RunNext q i)) told effects owing none p is =
       let ran = run-entered start es told effects q i owing in

@@ -245,13 +245,13 @@ opening_decides a b = Decides-like _ whole parts
 
 pub queue_origin_decides : (a b : QueueOrigin) → Decides (queue_test.eq-value.it a b) (a ≡ b)
 queue_origin_decides a b = Decides-like _ whole parts
-    (Decides-and _ _ (opening_decides a.opening b.opening) (Decides-and _ _ (Decides-eqb a.next b.next) (Decides-and _ _ (booleans_Decides a.stopped b.stopped) (pointwise_decides error_decides a.errors b.errors))))
+    (Decides-and _ _ (queue_id_decides a.queue b.queue) (Decides-and _ _ (opening_decides a.opening b.opening) (Decides-and _ _ (Decides-eqb a.next b.next) (Decides-and _ _ (booleans_Decides a.stopped b.stopped) (pointwise_decides error_decides a.errors b.errors)))))
   where
-    whole : ((a.opening ≡ b.opening) × ((a.next ≡ b.next) × ((a.stopped ≡ b.stopped) × (a.errors ≡ b.errors)))) → a ≡ b
-    whole h = λ i. record { opening = h.0 i; next = h.1.0 i; stopped = h.1.1.0 i; errors = h.1.1.1 i }
+    whole : ((a.queue ≡ b.queue) × ((a.opening ≡ b.opening) × ((a.next ≡ b.next) × ((a.stopped ≡ b.stopped) × (a.errors ≡ b.errors))))) → a ≡ b
+    whole h = λ i. record { queue = h.0 i; opening = h.1.0 i; next = h.1.1.0 i; stopped = h.1.1.1.0 i; errors = h.1.1.1.1 i }
 
-    parts : a ≡ b → ((a.opening ≡ b.opening) × ((a.next ≡ b.next) × ((a.stopped ≡ b.stopped) × (a.errors ≡ b.errors))))
-    parts e = (ap (λ (x : QueueOrigin). x.opening) e, (ap (λ (x : QueueOrigin). x.next) e, (ap (λ (x : QueueOrigin). x.stopped) e, ap (λ (x : QueueOrigin). x.errors) e)))
+    parts : a ≡ b → ((a.queue ≡ b.queue) × ((a.opening ≡ b.opening) × ((a.next ≡ b.next) × ((a.stopped ≡ b.stopped) × (a.errors ≡ b.errors)))))
+    parts e = (ap (λ (x : QueueOrigin). x.queue) e, (ap (λ (x : QueueOrigin). x.opening) e, (ap (λ (x : QueueOrigin). x.next) e, (ap (λ (x : QueueOrigin). x.stopped) e, ap (λ (x : QueueOrigin). x.errors) e))))
 
 -- ---- rows on rights
 

@@ -16,7 +16,7 @@ use Rattle.policy.specs.Policy.{rules_of}
 use Rattle.policy.specs.Rights.{has}
 use Rattle.core_model.specs.declared.event.Event.{Event}
 use Rattle.core_model.specs.declared.event.Event.TheVariants.{Open, Take, Reload, Call}
-use Rattle.core_model.specs.declared.call.Call.TheVariants.{Grant, Revoke, Stop, RunNext, Poll, Finish, HostWrite, ChangeSignal}
+use Rattle.core_model.specs.declared.call.Call.TheVariants.{Grant, Revoke, Stop, Close, RunNext, Poll, Finish, HostWrite, ChangeSignal}
 use Rattle.core_model.specs.declared.outcome.Outcome.{Outcome}
 use Rattle.core_model.specs.declared.entry.Effect.{Effect}
 use Rattle.core_model.specs.declared.entry.Entry.{Entry}
@@ -56,6 +56,7 @@ module _ (start : Start) (client : ClientId) (on : Object) (one : Right) where
   after es (Reload rows) told effects owing before now = (and_parts (in_force start es client on one) _ now).1
   after es (Open _ _ _) told effects owing before now = before now
   after es (Call (Stop _)) told effects owing before now = before now
+  after es (Call (Close _)) told effects owing before now = before now
   after es (Take _ _ _) told effects owing before now = before now
   after es (Call (RunNext _ _)) told effects owing before now = before now
   after es (Call (Poll _ _)) told effects owing before now = before now

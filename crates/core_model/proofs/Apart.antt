@@ -1,27 +1,26 @@
 -- No two packets in flight have one name.
-use Rattle.std.proofs.Common.{◌≡◌, ℕ, ◌+◌, ◌<◌, ◌≤◌, List, [], ◌∷◌, ◌++◌, refl, sym, ◌∙◌, ap, subst, Bool, true, false, Option, Some, None, arith}
-use Rattle.std.specs.Prelude.{◌&&◌, ◌||◌, ◌==◌, All, filter, find, fold, not, if◌then◌else◌}
+use Rattle.std.proofs.Common.{◌≡◌, ◌+◌, ◌<◌, List, [], ◌∷◌, ◌++◌, refl, sym, ◌∙◌, ap, subst, Bool, true, false, Option, Some, None, arith}
+use Rattle.std.specs.Prelude.{◌||◌, ◌==◌, All, filter, find, fold, get_or, not, if◌then◌else◌}
 use Rattle.std.specs.List.{list_any}
 use Rattle.std.proofs.lemmas.Bool.{and_from, and_parts, eq-eqb, eqb-true}
 use Rattle.std.proofs.lemmas.List.Elements.{All-cons, All-head, All-nil, All-tail, All-weaker}
-use Rattle.aql_packet.specs.declared.ids.QueueId.{QueueId}
-use Rattle.aql_packet.specs.declared.ids.PacketId.{PacketId}
 use Rattle.core_model.specs.declared.entry.Effect.{Effect}
 use Rattle.core_model.specs.declared.entry.Effect.TheVariants.{Write, Signal, Release}
 use Rattle.core_model.specs.declared.entry.Entry.{Entry}
 use Rattle.core_model.specs.declared.flight.InFlight.{InFlight}
 use Rattle.core_model.specs.History.{Start}
-use Rattle.core_model.specs.Queues.{hands_over_packet_of, next_id}
+use Rattle.core_model.specs.Queues.{next_id}
 pub use Rattle.core_model.specs.Flight.{AreApart}
-use Rattle.core_model.specs.Flight.{flight, in_flight, flight_after, flight_after_effect, is_packet, launched_by, with_launched}
+use Rattle.core_model.specs.Flight.{flight, in_flight, flight_after_effect, is_packet, launched_by, with_launched}
 use Rattle.core_model.specs.Owed.{enters, owed}
 use Rattle.core_model.specs.Legal.{IsLegal, IsWhole}
 use Rattle.core_model.proofs.Absent.{by-entries}
 use Rattle.core_model.proofs.Behind.{all, first, same-state}
 use Rattle.core_model.proofs.Entered.{take-decided}
-use Rattle.core_model.proofs.Flying.{all-after}
-use Rattle.core_model.proofs.Launches.{IsLaunch, launched_by-is, next_id-grows}
-use Rattle.core_model.proofs.More.{flight-more, next_id-more}
+use Rattle.core_model.proofs.Closing.{all-unclosed}
+use Rattle.core_model.proofs.Flying.{all-left-after}
+use Rattle.core_model.proofs.Launches.{launched_by-is, next_id-grows, next_id-launched}
+use Rattle.core_model.proofs.More.{flight-more}
 
 none-kept : (test keep : InFlight → Bool) (fs : List InFlight) → list_any test fs ≡ false → list_any test (filter keep fs) ≡ false
 none-kept test keep [] none = none
@@ -60,24 +59,22 @@ module _ (start : Start) where
 
   module _ (es : List Entry) (e : Entry) (owing : owed start es e.event ≡ enters e.outcome e.effects) where
     -- a packet that is launched has its queue's next id
-    is-next : (f : InFlight) → launched_by e.event e.outcome ≡ Some f → f.id.0 ≡ next_id start es f.queue
+    pub is-next : (f : InFlight) → launched_by e.event e.outcome ≡ Some f → f.id.0 ≡ next_id start es f.queue
     is-next f is =
         let launch = launched_by-is e.event e.outcome f is in
         (take-decided start es e.outcome e.effects f.queue f.id launch.bytes (ap (owed start es) (sym launch.event_is) ∙ owing)).id_is_next
 
     one-more : (f : InFlight) → launched_by e.event e.outcome ≡ Some f → next_id start (es ++ e ∷ []) f.queue ≡ next_id start es f.queue + 1
-    one-more f is =
-        let launch = launched_by-is e.event e.outcome f is in
-        next_id-more start es e f.queue
-        ∙ ap (λ (b : Bool). if b then next_id start es f.queue + 1 else next_id start es f.queue) (ap (hands_over_packet_of f.queue) launch.event_is ∙ eq-eqb f.queue.0 f.queue.0 refl)
+    one-more f is = next_id-launched start es e f (launched_by-is e.event e.outcome f is)
 
     below-more : AreBelow es → AreBelow (es ++ e ∷ [])
     below-more below =
         subst (All (λ (f : InFlight). f.id.0 < next_id start (es ++ e ∷ []) f.queue)) (sym (flight-more start es e))
-        (all-after (λ (f : InFlight). f.id.0 < next_id start (es ++ e ∷ []) f.queue) e (flight start es)
-        (λ f is. let next = is-next f is in let more = one-more f is in omega (arith, next, more))
-        (All-weaker (λ (f : InFlight). f.id.0 < next_id start es f.queue) (λ (f : InFlight). f.id.0 < next_id start (es ++ e ∷ []) f.queue)
-        (λ f below. let grows = next_id-grows start es e f.queue in omega (arith, grows, below)) (flight start es) below))
+        (all-left-after (λ (f : InFlight). f.id.0 < next_id start (es ++ e ∷ []) f.queue) e (flight start es)
+        (λ f is. let next = is-next f is in let more = one-more f is in omega (arith, next, more)) (λ k d lt stays.
+        let grows = next_id-grows start es e (get_or (flight start es) k d).queue (all-unclosed start es e owing k d lt stays) in
+        let small = below k d lt in
+        omega (arith, grows, small)))
 
     -- so none in flight has its name
     differs : (f : InFlight) → launched_by e.event e.outcome ≡ Some f → (x : InFlight) → x.id.0 < next_id start es x.queue → is_packet x.queue x.id f ≡ false
@@ -109,8 +106,14 @@ module _ (start : Start) where
   unfolding flight next_id
   fact-first none = (subst AreApart (sym none) tt, subst (All (λ (f : InFlight). f.id.0 < start.next_id f.queue)) (sym none) (All-nil _))
 
+  fact-whole : (es : List Entry) → IsWhole start es → Fact es
+  fact-whole es whole = by-entries start Fact (λ es e whole owing. fact-more es e owing) es whole (fact-first (ap (λ (now : Start). now.flight) whole.opens))
+
+  pub below-whole : (es : List Entry) → IsWhole start es → AreBelow es
+  below-whole es whole = (fact-whole es whole).1
+
   apart-whole : (es : List Entry) → IsWhole start es → AreApart (flight start es)
-  apart-whole es whole = (by-entries start Fact (λ es e whole owing. fact-more es e owing) es whole (fact-first (ap (λ (now : Start). now.flight) whole.opens))).0
+  apart-whole es whole = (fact-whole es whole).0
 
 -- ---- each is found by its name
 

@@ -13,18 +13,16 @@ use Rattle.core_model.specs.declared.entry.Effect.TheVariants.{Write, Signal, Re
 use Rattle.core_model.specs.declared.entry.Entry.{Entry}
 use Rattle.core_model.specs.declared.flight.InFlight.{InFlight}
 use Rattle.core_model.specs.History.{Start, opening_state}
-use Rattle.core_model.specs.Queues.{Opening, owner}
+use Rattle.core_model.specs.Queues.{Opening, opening_in, openings, owner}
 use Rattle.core_model.specs.Flight.{flight, flight_after, flight_after_effect, in_flight, is_packet, launched_by, releases, with_launched}
 use Rattle.core_model.specs.Holds.{along, arguments, arguments_after, arguments_if, gives, held, held_after, is_launch, own_rights}
 use Rattle.core_model.specs.States.{state_after}
 use Rattle.core_model.specs.Legal.{IsLegal}
 use Rattle.core_model.specs.Headline.{AllInForce, HoldsInForce}
-use Rattle.core_model.specs.Grants.{in_force}
 use Rattle.core_model.proofs.Lists.{found-all}
+use Rattle.core_model.proofs.Openings.{AreOrdered, ordered-whole}
 use Rattle.core_model.proofs.Holding.{holding-legal}
 use Rattle.core_model.proofs.Entered.{named-found}
-use Rattle.policy.specs.Policy.{numbered}
-use Rattle.core_model.proofs.More.{flight-more, held-more}
 use Rattle.core_model.proofs.States.{state-join}
 
 -- ---- a packet that holds a right is in flight
@@ -94,6 +92,10 @@ module _ (s : Start) (es : List Entry) (legal : IsLegal s es) where
   pub same-state : state_after first all ≡ state_after s es
   same-state = state-join first legal.prior es ∙ sym (ap (λ (now : Start). state_after now es) legal.start_is)
 
+  -- the open queues have numbers from 1 up to how many were ever opened, ascending
+  pub ordered-legal : AreOrdered (openings s es)
+  ordered-legal = subst (λ (now : Start). AreOrdered now.openings) same-state (ordered-whole first refl all)
+
   held-flies-whole : (queue : QueueId) (id : PacketId) (client : ClientId) (on : Object) (right : Right) → held first all queue id client on right ≡ true → list_any (is_packet queue id) (flight first all) ≡ true
   unfolding held flight
   held-flies-whole queue id client on right has_it = flies-along first queue id client on right [] false [] all (λ no. absurd cc) has_it
@@ -132,7 +134,7 @@ module _ (s : Start) (es : List Entry) (legal : IsLegal s es) where
         (subst (λ i. held first all queue i opening.client on right ≡ true) (sym named.1)
         (sym (ap (λ (o : Option Opening). elim o [ None ↦ false | Some owning ↦ held first all queue id owning.client on right ]) owned) ∙ has_it))) in (
           opening,
-          ap (λ (now : Start). numbered now.openings queue.0) (sym same-state) ∙ owned,
-          subst (λ (now : Start). (on : Object) (right : Right) → (elim (numbered now.openings queue.0) [ None ↦ false | Some owning ↦ now.held queue id owning.client on right ]) ≡ true
+          ap (λ (now : Start). opening_in now.openings.queues queue) (sym same-state) ∙ owned,
+          subst (λ (now : Start). (on : Object) (right : Right) → (elim (opening_in now.openings.queues queue) [ None ↦ false | Some owning ↦ now.held queue id owning.client on right ]) ≡ true
               → now.in_force opening.client on right ≡ true) same-state own,
         )

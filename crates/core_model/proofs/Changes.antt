@@ -1,6 +1,6 @@
 -- The changes of each entry of a legal history, one by one: who asked for them, and which grants allowed them.
 use Rattle.std.proofs.Common.{◌≡◌, ◌<◌, ℕ, ℤ, ◌+◌, ◌^◌, pos, List, [], ◌∷◌, ◌++◌, length, refl, sym, ◌∙◌, ap, subst, Bool, true, false, Option, Some, None, ◌⊎◌, inl, inr, arith, zero, suc}
-use Rattle.std.specs.Prelude.{All, find, map, option_map, replicate, ◌%◌, ◌==◌, if◌then◌else◌}
+use Rattle.std.specs.Prelude.{All, find, get_or, map, option_map, replicate, ◌%◌, ◌==◌, if◌then◌else◌}
 use Rattle.std.specs.List.{Contains}
 use Rattle.std.specs.Int.{w64, to_le_bytes}
 use Rattle.std.proofs.lemmas.Bool.{eqb-true}
@@ -29,7 +29,7 @@ use Rattle.queue_error.specs.declared.rule.Rule.{Rule}
 use Rattle.queue_error.specs.declared.rule.Rule.TheVariants.{B1}
 use Rattle.core_model.specs.declared.event.Event.{Event}
 use Rattle.core_model.specs.declared.event.Event.TheVariants.{Open, Take, Reload, Call}
-use Rattle.core_model.specs.declared.call.Call.TheVariants.{Grant, Revoke, Stop, RunNext, Poll, Finish, HostWrite, ChangeSignal}
+use Rattle.core_model.specs.declared.call.Call.TheVariants.{Grant, Revoke, Stop, Close, RunNext, Poll, Finish, HostWrite, ChangeSignal}
 use Rattle.core_model.specs.declared.outcome.Outcome.{Outcome}
 use Rattle.core_model.specs.declared.outcome.Outcome.TheVariants as outcome
 use Rattle.core_model.specs.declared.outcome.Taken.TheVariants as taken
@@ -56,12 +56,12 @@ use Rattle.core_model.specs.Work.{group_count, number_in_memory, write_of, write
 use Rattle.core_model.specs.Holds.{own_rights}
 use Rattle.core_model.specs.View.{given_at_launch, group_input}
 use Rattle.core_model.proofs.Viewing.{IsWithinGrant, runs-granted}
-use Rattle.core_model.specs.Owed.{owed, enters, error_without_place, group_error, barrier_in, signal_decrement, release_of}
+use Rattle.core_model.specs.Owed.{owed, enters, error_without_place, group_error, barrier_in, signal_decrement, release_of, releases_of}
 use Rattle.core_model.specs.Legal.{IsWhole}
 use Rattle.core_model.specs.Headline.{AllInForce, ChangeIsGranted, InFlightSince, MayReach, MayReachRange, MayUseSignal, IsReleasedBy, ReleaseIsDue, WriteIsGranted, packet_named, ranges_written, writes_of}
 use Rattle.core_model.proofs.Lists.{all-left, all-one, all-right, filter-passes, found-all, found-passes}
 use Rattle.core_model.proofs.Holding.{flying-since}
-use Rattle.core_model.proofs.Entered.{named-found, IsQuiet, HasSeen, HasFailed, HasRun, GroupRan, KernelRan, GroupWrote, GroupFaulted, kernel-ended, grant-effects, revoke-effects, reload-effects, open-effects, stop-effects, take-decided, run-entered, poll-entered, finish-entered, write-entered, change-entered}
+use Rattle.core_model.proofs.Entered.{named-found, IsQuiet, HasSeen, HasFailed, HasRun, GroupRan, KernelRan, GroupWrote, GroupFaulted, kernel-ended, grant-effects, revoke-effects, reload-effects, open-effects, stop-effects, close-effects, take-decided, run-entered, poll-entered, finish-entered, write-entered, change-entered}
 
 -- ---- the ranges that a function names
 
@@ -205,6 +205,17 @@ module _ (start : Start) (es : List Entry) (legal : IsWhole start es) where
           let there : Contains (flight start es) f = found-all (Contains (flight start es)) (λ f. is_barrier f.packet) (flight_of start es queue) f (All-filter (λ g. g.queue.0 == queue.0) (Contains (flight start es)) (flight start es) (All-contains_itself (flight start es))) found in
           released (Call (Stop queue)) outcome.Accepted queue f.id (f, there, queue_is, refl, (sym (eqb-true _ _ own), barrier)))
 
+      closed : (queue : QueueId) → All (P (Call (Close queue)) outcome.Accepted) (releases_of queue (flight_of start es queue))
+      closed queue =
+          All-map (P (Call (Close queue)) outcome.Accepted) (λ (f : InFlight). effect.Release queue f.id) (flight_of start es queue) (λ k d below.
+          one (get_or (flight_of start es queue) k d) (filter-passes (λ g. g.queue.0 == queue.0) (flight start es) k d below)
+          (All-filter (λ g. g.queue.0 == queue.0) (Contains (flight start es)) (flight start es) (All-contains_itself (flight start es)) k d below))
+        where
+          one : (f : InFlight) → (f.queue.0 == queue.0) ≡ true → Contains (flight start es) f → P (Call (Close queue)) outcome.Accepted (effect.Release queue f.id)
+          one f own there =
+              let queue_is : f.queue ≡ queue = ap (λ n. record { 0 = n }) (eqb-true _ _ own) in
+              released (Call (Close queue)) outcome.Accepted queue f.id (f, there, queue_is, refl, sym (eqb-true _ _ own))
+
       finished : (queue : QueueId) (id : PacketId) (flying : InFlight) → in_flight start es queue id ≡ Some flying → All (P (Call (Finish queue id)) outcome.Accepted) (signal_decrement (signals start es) (completion_signal flying.packet) ++ effect.Release queue id ∷ [])
       finished queue id flying found =
           let since = flying-since start es legal queue id flying found in
@@ -248,6 +259,9 @@ module _ (start : Start) (es : List Entry) (legal : IsWhole start es) where
       each-change (Call (Stop queue)) told effects owing =
           let stop = stop-effects start es told effects queue owing in
           subst (λ o. All (P (Call (Stop queue)) o) effects) (sym stop.outcome_is) (subst (All (P (Call (Stop queue)) outcome.Accepted)) (sym stop.effects_are) (stopped queue))
+      each-change (Call (Close queue)) told effects owing =
+          let close = close-effects start es told effects queue owing in
+          subst (λ o. All (P (Call (Close queue)) o) effects) (sym close.outcome_is) (subst (All (P (Call (Close queue)) outcome.Accepted)) (sym close.effects_are) (closed queue))
       each-change (Take queue id bytes) told effects owing = subst (All (P (Take queue id bytes) told)) (sym (take-decided start es told effects queue id bytes owing).effects_are) (All-nil _)
       each-change (Call (RunNext queue id)) told effects owing =
           let has_run = run-entered start es told effects queue id owing in
@@ -336,6 +350,7 @@ module _ (start : Start) (es : List Entry) (legal : IsWhole start es) where
   error-named (Call (Revoke client on rights)) told effects error owing is = none-told told error is (revoke-effects start es told effects client on rights owing).is_quiet.no_error
   error-named (Open client agent size) told effects error owing is = none-told told error is (open-effects start es told effects client agent size owing).is_quiet.no_error
   error-named (Call (Stop queue)) told effects error owing is = none-told told error is (stop-effects start es told effects queue owing).no_error
+  error-named (Call (Close queue)) told effects error owing is = none-told told error is (close-effects start es told effects queue owing).no_error
   error-named (Take queue id bytes) told effects error owing is =
       let decided = take-decided start es told effects queue id bytes owing in
       denied decided.verdict (sym (ap error_of decided.outcome_is) ∙ is)
@@ -373,6 +388,7 @@ module _ (start : Start) (es : List Entry) (legal : IsWhole start es) where
   fault-released (Call (Revoke client on rights)) told effects error owing faults = none-told told error (error-told told error faults) (revoke-effects start es told effects client on rights owing).is_quiet.no_error
   fault-released (Open client agent size) told effects error owing faults = none-told told error (error-told told error faults) (open-effects start es told effects client agent size owing).is_quiet.no_error
   fault-released (Call (Stop queue)) told effects error owing faults = none-told told error (error-told told error faults) (stop-effects start es told effects queue owing).no_error
+  fault-released (Call (Close queue)) told effects error owing faults = none-told told error (error-told told error faults) (close-effects start es told effects queue owing).no_error
   fault-released (Take queue id bytes) told effects error owing faults = decided_so (take-decided start es told effects queue id bytes owing).verdict (take-decided start es told effects queue id bytes owing).outcome_is faults
     where
       decided_so : (verdict : Option Rule) → told ≡ (elim verdict [ None ↦ outcome.Taken taken.Launched | Some rule ↦ outcome.Taken (taken.Denied (error_without_place queue id.0 rule)) ]) → Faults told error → effects ≡ effect.Release error.queue error.packet ∷ []

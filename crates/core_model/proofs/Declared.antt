@@ -8,7 +8,7 @@ use Rattle.policy.specs.declared.object.Object.{Object}
 use Rattle.policy.specs.declared.rights.Right.{Right}
 use Rattle.policy.specs.declared.rights.Rights.{Rights}
 use Rattle.policy.specs.Object.{kind_of, number_of, object_of, same_object}
-use Rattle.policy.specs.Rules.{count, knows_object}
+use Rattle.policy.specs.Rules.{knows_object}
 use Rattle.std.specs.List.{list_any, range_with_len}
 use Rattle.std.proofs.Common.{◌≤◌, ◌<◌, ◌+◌, ℕ, zero, suc, arith, refl}
 use Rattle.std.specs.Prelude.{map, nat_lt, nat_le}
@@ -24,13 +24,13 @@ use Rattle.policy.specs.Rights.{all_rights, has}
 use Rattle.policy.specs.declared.rights.Right.TheVariants as right
 use Rattle.core_model.specs.declared.event.Event.{Event}
 use Rattle.core_model.specs.declared.event.Event.TheVariants.{Open, Take, Reload, Call}
-use Rattle.core_model.specs.declared.call.Call.TheVariants.{Grant, Revoke, Stop, RunNext, Poll, Finish, HostWrite, ChangeSignal}
+use Rattle.core_model.specs.declared.call.Call.TheVariants.{Grant, Revoke, Stop, Close, RunNext, Poll, Finish, HostWrite, ChangeSignal}
 use Rattle.core_model.specs.declared.outcome.Outcome.{Outcome}
 use Rattle.core_model.specs.declared.entry.Effect.{Effect}
 use Rattle.core_model.specs.declared.entry.Entry.{Entry}
 use Rattle.core_model.specs.History.{Start, opening_state}
 use Rattle.policy.specs.Pairs.{is_one_of}
-use Rattle.policy.proofs.PairLemmas.{same_object_is, each_right-has}
+use Rattle.policy.proofs.PairLemmas.{same_object_is}
 use Rattle.core_model.specs.Grants.{in_force, in_force_after}
 use Rattle.core_model.specs.Owed.{owed, enters}
 use Rattle.core_model.specs.Legal.{IsWhole, IsLegalAfter}
@@ -57,6 +57,7 @@ module _ (start : Start) (client : ClientId) (on : Object) (one : Right) where
   after es (Reload rows) told effects owing before now = before (and_parts (in_force start es client on one) _ now).0
   after es (Open _ _ _) told effects owing before now = before now
   after es (Call (Stop _)) told effects owing before now = before now
+  after es (Call (Close _)) told effects owing before now = before now
   after es (Take _ _ _) told effects owing before now = before now
   after es (Call (RunNext _ _)) told effects owing before now = before now
   after es (Call (Poll _ _)) told effects owing before now = before now

@@ -30,7 +30,7 @@ use Rattle.signals.specs.declared.operation.SignalOp.{SignalOp}
 use Rattle.queue_error.specs.declared.rule.Rule.{Rule}
 use Rattle.queue_error.specs.declared.rule.Rule.TheVariants.{B1}
 use Rattle.core_model.specs.declared.event.Event.TheVariants.{Open, Take, Reload, Call}
-use Rattle.core_model.specs.declared.call.Call.TheVariants.{Grant, Revoke, Stop, RunNext, Poll, Finish, HostWrite, ChangeSignal}
+use Rattle.core_model.specs.declared.call.Call.TheVariants.{Grant, Revoke, Stop, Close, RunNext, Poll, Finish, HostWrite, ChangeSignal}
 use Rattle.core_model.specs.declared.outcome.WaitCause.{WaitCause}
 use Rattle.core_model.specs.declared.outcome.Outcome.{Outcome}
 use Rattle.core_model.specs.declared.outcome.Outcome.TheVariants as outcome
@@ -48,7 +48,7 @@ use Rattle.core_model.specs.declared.flight.Progress.{Progress}
 use Rattle.core_model.specs.History.{Start}
 use Rattle.core_model.specs.Grants.{in_force}
 use Rattle.core_model.specs.Memory.{signals}
-use Rattle.core_model.specs.Queues.{error_of, Opening, owner, openings, next_id, is_down, is_stopped}
+use Rattle.core_model.specs.Queues.{error_of, Opening, owner, openings, next_queue, next_id, is_down, is_stopped}
 use Rattle.core_model.specs.declared.outcome.TheConstants.{NONE_SATISFIED}
 use Rattle.core_model.specs.Flight.{flight, flight_of, in_flight, is_packet, progress, satisfied_by_either}
 use Rattle.core_model.specs.Holds.{blocked, holder}
@@ -59,7 +59,7 @@ use Rattle.core_model.specs.Needs.{completion_signal}
 use Rattle.core_model.specs.LaunchRules.{first_failing_rule, cause_to_wait, is_barrier}
 use Rattle.core_model.specs.View.{GivenAtLaunch, given_at_launch, group_input}
 use Rattle.core_model.specs.Work.{group_count, write_of_run, agent_writes, is_ready, is_negative, seen_dependencies, newly_seen_positions}
-use Rattle.core_model.specs.Owed.{refuses, Owed, owed, answers, enters, owed_verdict, for_packet, error_without_place, facts_of, is_host_size, is_finished, signal_decrement, owed_take, group_error, group_owed, owed_group, owed_poll, owed_finish, owed_sight, barrier_in, release_of, old_if_asked}
+use Rattle.core_model.specs.Owed.{refuses, Owed, owed, answers, enters, owed_verdict, for_packet, error_without_place, facts_of, is_host_size, is_finished, signal_decrement, owed_take, group_error, group_owed, owed_group, owed_poll, owed_finish, owed_sight, barrier_in, release_of, releases_of, old_if_asked}
 use Rattle.core_model.proofs.Lists.{found-passes}
 use Rattle.core_model.proofs.Launches.{refuse_if-passed, refuse_unless-passed, for_some-found}
 
@@ -133,8 +133,8 @@ module _ (start : Start) (es : List Entry) (told : Outcome) (effects : List Effe
   pub record HasOpened (client : ClientId) (agent : AgentHandle) : Type 0 where
     pub is_quiet : IsQuiet
     pub granted : in_force start es client (object.Agent agent) right.Use ≡ true
-    pub outcome_is : told ≡ outcome.Opened (record { 0 = length (openings start es) + 1 })
-    pub few : length (openings start es) < QUEUES
+    pub outcome_is : told ≡ outcome.Opened (next_queue (openings start es).opened)
+    pub few : length (openings start es).queues < QUEUES
 
   pub open-effects : (client : ClientId) (agent : AgentHandle) (size : ℕ) → owed start es (Open client agent size) ≡ enters told effects → HasOpened client agent
   unfolding owed
@@ -142,8 +142,8 @@ module _ (start : Start) (es : List Entry) (told : Outcome) (effects : List Effe
       let one = refuse_unless-passed (knows_client (rules_of start.policy) client) _ _ told effects owing in
       let two = refuse_unless-passed (in_force start es client (object.Agent agent) right.Use) _ _ told effects one.rest_is in
       let three = refuse_unless-passed (is_ring_size size) _ _ told effects two.rest_is in
-      let last = refuse_if-passed (nat_le QUEUES (length (openings start es))) _ _ told effects three.rest_is in
-      record { is_quiet = quiet (outcome.Opened (record { 0 = length (openings start es) + 1 })) refl last; granted = two.test_is; outcome_is = cc; few = leb-false _ _ (refused-not (nat_le QUEUES (length (openings start es))) _ _ told effects three.rest_is).0 }
+      let last = refuse_if-passed (nat_le QUEUES (length (openings start es).queues)) _ _ told effects three.rest_is in
+      record { is_quiet = quiet (outcome.Opened (next_queue (openings start es).opened)) refl last; granted = two.test_is; outcome_is = cc; few = leb-false _ _ (refused-not (nat_le QUEUES (length (openings start es).queues)) _ _ told effects three.rest_is).0 }
 
   -- ---- a stop releases at most
 
@@ -159,6 +159,23 @@ module _ (start : Start) (es : List Entry) (told : Outcome) (effects : List Effe
       let last = refuse_if-passed (is_stopped start es queue) _ _ told effects found.rest_is in
       let is : outcome.Accepted ≡ told = cc in
       record { effects_are = cc; outcome_is = sym is; no_error = ap error_of (sym is) }
+
+  -- ---- a close releases all
+
+  pub record HasClosed (queue : QueueId) : Type 0 where
+    pub opening : Opening
+    pub owner_is : owner start es queue ≡ Some opening
+    pub effects_are : effects ≡ releases_of queue (flight_of start es queue)
+    pub outcome_is : told ≡ outcome.Accepted
+    pub no_error : error_of told ≡ None
+
+  pub close-effects : (queue : QueueId) → owed start es (Call (Close queue)) ≡ enters told effects → HasClosed queue
+  unfolding owed
+  close-effects queue owing =
+      let found = for_some-found (owner start es queue) _ _ told effects owing in
+      let last = found.rest_is in
+      let is : outcome.Accepted ≡ told = cc in
+      record { opening = found.found; owner_is = found.is; effects_are = cc; outcome_is = sym is; no_error = ap error_of (sym is) }
 
   -- ---- a packet that is handed over
 

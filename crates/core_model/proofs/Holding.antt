@@ -1,9 +1,8 @@
 -- What packets in flight hold is in force: no revocation takes what one of them holds.
-use Rattle.std.proofs.Common.{◌≡◌, ℕ, ◌-◌, ◌<◌, List, [], ◌∷◌, ◌++◌, refl, sym, ◌∙◌, ap, subst, Bool, true, false, Option, Some, None, arith, append_assoc, zero, suc}
-use Rattle.std.specs.Prelude.{All, get_or, option_map, slice_get, nat_lt, filter, map, not, ◌&&◌, ◌||◌, ◌==◌, if◌then◌else◌}
+use Rattle.std.proofs.Common.{◌≡◌, ℕ, ◌<◌, List, [], ◌∷◌, ◌++◌, refl, sym, ◌∙◌, ap, subst, Bool, true, false, Option, Some, None, arith, append_assoc}
+use Rattle.std.specs.Prelude.{All, get_or, option_map, filter, map, not, ◌&&◌, ◌||◌, ◌==◌, if◌then◌else◌}
 use Rattle.std.specs.List.{flat_map, list_all, list_any}
 use Rattle.std.proofs.lemmas.Bool.{and_from, and_parts, eq-eqb, eqb-true}
-use Rattle.std.proofs.lemmas.List.{append-nil}
 use Rattle.std.proofs.lemmas.List.Elements.{All-nil, All-cons, All-head, All-tail, All-append, All-map, All-weaker}
 use Rattle.aql_packet.specs.declared.ids.ClientId.{ClientId}
 use Rattle.aql_packet.specs.declared.ids.QueueId.{QueueId}
@@ -12,19 +11,18 @@ use Rattle.aql_packet.specs.declared.packet.Packet.{Packet}
 use Rattle.aql_packet.specs.declared.packet.Packet.TheVariants as packet
 use Rattle.regions.specs.Memory.{lies_in_region, region_of}
 use Rattle.aql_packet.specs.Reading.{decoded}
-use Rattle.policy.specs.Policy.{numbered, region_lengths, rules_of}
+use Rattle.policy.specs.Policy.{region_lengths, rules_of}
 use Rattle.policy.specs.declared.object.Object.{Object}
 use Rattle.policy.specs.declared.object.Object.TheVariants as object
 use Rattle.policy.specs.declared.rights.Right.{Right}
 use Rattle.policy.specs.declared.rights.Rights.{Rights}
 use Rattle.policy.specs.Object.{same_object}
 use Rattle.policy.specs.Rights.{all_rights, bit_of, has}
-use Rattle.policy.specs.declared.rights.Right.TheVariants as right
 use Rattle.queue_error.specs.declared.rule.Rule.{Rule}
 use Rattle.queue_error.specs.declared.rule.Rule.TheVariants as rule
 use Rattle.core_model.specs.declared.event.Event.{Event}
 use Rattle.core_model.specs.declared.event.Event.TheVariants.{Open, Take, Reload, Call}
-use Rattle.core_model.specs.declared.call.Call.TheVariants.{Grant, Revoke, Stop, RunNext, Poll, Finish, HostWrite, ChangeSignal}
+use Rattle.core_model.specs.declared.call.Call.TheVariants.{Grant, Revoke, Stop, Close, RunNext, Poll, Finish, HostWrite, ChangeSignal}
 use Rattle.core_model.specs.declared.outcome.Outcome.TheVariants as outcome
 use Rattle.core_model.specs.declared.outcome.Taken.TheVariants.{Launched}
 use Rattle.core_model.specs.declared.entry.Effect.{Effect}
@@ -34,7 +32,7 @@ use Rattle.core_model.specs.declared.need.Need.{Need}
 use Rattle.core_model.specs.History.{Start, opening_state}
 use Rattle.policy.specs.Pairs.{is_one_of}
 use Rattle.core_model.specs.Grants.{in_force, in_force_after}
-use Rattle.core_model.specs.Queues.{Opening, owner, openings, opening_of, next_id}
+use Rattle.core_model.specs.Queues.{Opening, closes_queue, owner, next_id}
 use Rattle.core_model.specs.Flight.{flight, in_flight, is_packet, launched_by, releases, releases_packet}
 use Rattle.core_model.specs.Needs.{needs, object_of}
 use Rattle.core_model.specs.LaunchRules.{Facts, holds_rule, need_is_met, launch_rules, lies_whole}
@@ -44,8 +42,10 @@ use Rattle.core_model.specs.Owed.{owed, enters, facts_of}
 use Rattle.core_model.specs.Legal.{IsWhole, entry_of}
 use Rattle.core_model.specs.Headline.{AllInForce, HasItsRights, HoldsInForce, InFlightSince, Launch}
 use Rattle.core_model.proofs.Lists.{filter-passes, found-all, none-passes, all-from_list_all, all-left, all-right}
-use Rattle.core_model.proofs.More.{arguments-more, held-more, in_force-more, openings-more, with_some}
-use Rattle.core_model.proofs.Launches.{AreBelowNext-legal, IsNext-from_owed, launched_by-is, was_launched}
+use Rattle.core_model.proofs.More.{arguments-more, held-more, in_force-more}
+use Rattle.core_model.proofs.Openings.{owner-more}
+use Rattle.core_model.proofs.Closing.{all-unclosed}
+use Rattle.core_model.proofs.Launches.{IsNext-from_owed, below-open, launched_by-is, was_launched}
 use Rattle.core_model.proofs.Viewing.{among-granted}
 use Rattle.policy.proofs.PairLemmas.{same_object_is}
 use Rattle.std.proofs.lemmas.List.Folds.{list_any-append}
@@ -73,23 +73,6 @@ module _ (start : Start) (queue : QueueId) (id : PacketId) (client : ClientId) (
   unfolding held
   held-none opens es none =
       ap (λ (s : Start). along (held_after start queue id client on right) [] (s.held queue id client on right) es) opens ∙ none-along [] es none
-
--- a queue stays whose it is
-slice_get-more : {X : Type 0} (xs : List X) (x y : X) (k : ℕ) → slice_get xs k ≡ Some x → slice_get (xs ++ y ∷ []) k ≡ Some x
-slice_get-more [] x y k is = absurd (cc)
-slice_get-more (z ∷ zs) x y zero is = is
-slice_get-more (z ∷ zs) x y (suc k) is = slice_get-more zs x y k is
-
-numbered-more : {X : Type 0} (xs : List X) (o : Option X) (x : X) (n : ℕ) → numbered xs n ≡ Some x → numbered (with_some xs o) n ≡ Some x
-numbered-more xs None x n is = is
-numbered-more xs (Some y) x n is = by_test (nat_lt 0 n) refl
-  where
-    by_test : (b : Bool) → nat_lt 0 n ≡ b → numbered (xs ++ y ∷ []) n ≡ Some x
-    by_test true positive = rw positive (slice_get-more xs x y (n - 1) (rw positive at is))
-    by_test false positive = let none : numbered xs n ≡ None = rw positive refl in absurd (cc)
-
-pub owner-more : (start : Start) (es : List Entry) (e : Entry) (queue : QueueId) (opening : Opening) → owner start es queue ≡ Some opening → owner start (es ++ e ∷ []) queue ≡ Some opening
-owner-more start es e queue opening is = rw openings-more (numbered-more (openings start es) (opening_of e.event) opening queue.0 is)
 
 -- ---- the least of some packets
 
@@ -240,7 +223,7 @@ module _ (start : Start) (es : List Entry) (e : Entry) where
               let launch = launched_by-is e.event e.outcome g is in
               let next = IsNext-from_owed start es g.queue g.id launch.bytes e.outcome e.effects (rw launch.event_is at owing) in
               let next_is : g.id.0 ≡ next_id start es queue = subst (λ q. g.id.0 ≡ next_id start es q) queue_is next.id_is in
-              let below : id.0 < next_id start es queue = AreBelowNext-legal start es legal queue id was in
+              let below : id.0 < next_id start es queue = below-open start es legal queue id next.opening (subst (λ q. owner start es q ≡ Some next.opening) queue_is next.owner_is) was in
               absurd (omega arith)
 
   -- a packet holds what it held, unless an entry launches or releases it
@@ -256,14 +239,14 @@ module _ (start : Start) (es : List Entry) (e : Entry) where
   arguments-kept queue id none stays = arguments-more start es e queue id ∙ (rw (stays, none) refl)
 
   -- one entry more, after which the rights are in force yet
-  holds-more : IsWhole start es → owed start es e.event ≡ enters e.outcome e.effects → (f : InFlight) (h : HoldsNow start es f) → list_any (releases_packet f) e.effects ≡ false →
+  holds-more : IsWhole start es → owed start es e.event ≡ enters e.outcome e.effects → (f : InFlight) (h : HoldsNow start es f) → closes_queue f.queue e.event ≡ false → list_any (releases_packet f) e.effects ≡ false →
       All (λ g. in_force_after h.launch.opening.client g.0 g.1 (in_force start es h.launch.opening.client g.0 g.1) e.event ≡ true) (rights_at_launch start h.launch.before h.launch.opening f.packet) → HoldsNow start later f
-  holds-more legal owing f h stays in_force_yet =
+  holds-more legal owing f h unclosed stays in_force_yet =
       let none = launched-once legal owing f.queue f.id (was-launched f.queue f.id h.launch) in
       record {
         launch = launch-more f.queue f.id h.launch;
         packet_is = h.packet_is;
-        owner_is = owner-more start es e f.queue h.launch.opening h.owner_is;
+        owner_is = owner-more start es e f.queue h.launch.opening unclosed h.owner_is;
         held_is = λ client on right. held-kept f.queue f.id none stays client on right ∙ h.held_is client on right;
         arguments_are = arguments-kept f.queue f.id none stays ∙ h.arguments_are;
         granted_then = h.granted_then;
@@ -288,6 +271,7 @@ module _ (start : Start) (es : List Entry) (e : Entry) where
       any-own own test (one ∷ more) = grind (arith, any-own own test more)
   kept-by legal (Open _ _ _) f h free none = h.granted
   kept-by legal (Call (Stop _)) f h free none = h.granted
+  kept-by legal (Call (Close _)) f h free none = h.granted
   kept-by legal (Take _ _ _) f h free none = h.granted
   kept-by legal (Call (RunNext _ _)) f h free none = h.granted
   kept-by legal (Call (Poll _ _)) f h free none = h.granted
@@ -335,7 +319,7 @@ module _ (start : Start) (es : List Entry) (e : Entry) where
   more : IsWhole start es → owed start es e.event ≡ enters e.outcome e.effects → All (HoldsNow start es) (flight start es) → All (λ f. list_any (releases_packet f) e.effects ≡ false → HoldsNow start later f) (flight start es)
   more legal owing all k d below stays =
       let h = all k d below in
-      holds-more legal owing _ h stays (kept-by legal e.event _ h (λ rows is. unblocked owing rows is k d below) (λ client on rights is. unheld owing client on rights is k d below))
+      holds-more legal owing _ h (all-unclosed start es e owing k d below stays) stays (kept-by legal e.event _ h (λ rows is. unblocked owing rows is k d below) (λ client on rights is. unheld owing client on rights is k d below))
 
   -- ---- at its launch
 
@@ -395,7 +379,7 @@ module _ (start : Start) (es : List Entry) (e : Entry) where
       let opening = granted.opening in
       let packet_is : granted.packet ≡ f.packet = one-packet (decoded launch.bytes) granted.packet f.packet granted.allowed.is_read launch.reads in
       let entry_is : e ≡ entry_of (Take f.queue f.id launch.bytes) (outcome.Taken Launched) [] = λ i. record { event = event_is i; outcome = outcome_is i; effects = granted.effects_are i } in
-      let none : was_launched es f.queue f.id ≡ false = by_test (was_launched es f.queue f.id) refl granted.allowed.id_is_next in
+      let none : was_launched es f.queue f.id ≡ false = by_test opening granted.allowed.owner_is (was_launched es f.queue f.id) refl granted.allowed.id_is_next in
       let itself : is_packet f.queue f.id f ≡ true = and_from _ _ (eq-eqb f.queue.0 f.queue.0 refl) (eq-eqb f.id.0 f.id.0 refl) in
       let facts : Facts = facts_of start es opening in
       let needed = rules-met facts granted.packet launch_rules (needs-met facts launch.bytes granted.packet granted.allowed.every_rule) in
@@ -404,7 +388,7 @@ module _ (start : Start) (es : List Entry) (e : Entry) where
       record {
         launch = record { before = es; bytes = launch.bytes; opening = opening; packet = granted.packet; place = record { after = []; whole = ap (λ x. es ++ x ∷ []) entry_is }; allowed = granted.allowed };
         packet_is = packet_is;
-        owner_is = owner-more start es e f.queue opening granted.allowed.owner_is;
+        owner_is = owner-more start es e f.queue opening (ap (closes_queue f.queue) event_is) granted.allowed.owner_is;
         held_is = λ client on right. held-more start es e f.queue f.id client on right ∙ given opening f itself client on right _ _ _ _ (held-none start f.queue f.id client on right legal.opens es none) launches granted.allowed.owner_is granted.effects_are;
         arguments_are = arguments-more start es e f.queue f.id ∙ given-arguments f itself (arguments start es f.queue f.id) _ _ launches granted.effects_are;
         granted_then = subst (λ q. All (λ h. in_force start es opening.client h.0 h.1 ≡ true) (rights_at_launch start es opening q)) packet_is met;
@@ -416,9 +400,9 @@ module _ (start : Start) (es : List Entry) (e : Entry) where
       one-packet : (o : Option Packet) (p q : Packet) → o ≡ Some p → o ≡ Some q → p ≡ q
       one-packet o p q one other = let same : Some p ≡ Some q = sym one ∙ other in cc
 
-      by_test : (b : Bool) → was_launched es f.queue f.id ≡ b → f.id.0 ≡ next_id start es f.queue → was_launched es f.queue f.id ≡ false
-      by_test true was at = let below : f.id.0 < next_id start es f.queue = AreBelowNext-legal start es legal f.queue f.id was in absurd (omega arith)
-      by_test false was at = was
+      by_test : (opening : Opening) → owner start es f.queue ≡ Some opening → (b : Bool) → was_launched es f.queue f.id ≡ b → f.id.0 ≡ next_id start es f.queue → was_launched es f.queue f.id ≡ false
+      by_test opening owned true was at = let below : f.id.0 < next_id start es f.queue = below-open start es legal f.queue f.id opening owned was in absurd (omega arith)
+      by_test opening owned false was at = was
 
 module _ (start : Start) (es : List Entry) (legal : IsWhole start es) where
   holding : All (HoldsNow start es) (flight start es)

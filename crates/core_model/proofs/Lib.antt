@@ -5,8 +5,10 @@ mod Alike
 pub mod Meeting
 pub mod Legality
 pub mod Lists
+pub mod Openings
 pub mod Launches
 pub mod Entered
+pub mod Closing
 pub mod Flying
 pub mod Handed
 pub mod Launching
@@ -16,6 +18,7 @@ pub mod Viewing
 pub mod Changes
 pub mod Absent
 pub mod Apart
+pub mod ClosedLaw
 pub mod Turns
 pub mod TakenIds
 pub mod Seeing

@@ -1,6 +1,6 @@
 -- One entry more: how each question's answer changes with it.
-use Rattle.std.proofs.Common.{◌≡◌, ℕ, ◌+◌, List, [], ◌∷◌, ◌++◌, sym, ◌∙◌, ap, true, append_assoc}
-use Rattle.std.specs.Prelude.{fold, if◌then◌else◌}
+use Rattle.std.proofs.Common.{◌≡◌, ℕ, List, [], ◌∷◌, ◌++◌, sym, ◌∙◌, ap, append_assoc}
+use Rattle.std.specs.Prelude.{fold}
 use Rattle.std.proofs.lemmas.List.{append-nil}
 use Rattle.std.specs.List.{flat_map}
 use Rattle.std.proofs.lemmas.List.Sums.{fold-append}
@@ -15,10 +15,10 @@ use Rattle.core_model.specs.History.{Start, effects_of}
 use Rattle.core_model.specs.Grants.{in_force, in_force_after}
 use Rattle.core_model.specs.Policies.{rows_after, rows_at}
 use Rattle.core_model.specs.Memory.{memory_at, byte_after, signals, signals_after}
-use Rattle.core_model.specs.Queues.{openings, opening_of, next_id, hands_over_packet_of, errors, error_of, is_stopped, stops_queue}
+use Rattle.core_model.specs.Queues.{openings, openings_after, next_id, next_id_after, errors, errors_after, is_stopped, is_stopped_after}
 use Rattle.core_model.specs.Flight.{flight, flight_after, progress, progress_after}
 use Rattle.core_model.specs.Holds.{along, arguments, arguments_after, held, held_after}
-pub use Rattle.core_model.specs.Queues.{with_error, with_some}
+pub use Rattle.core_model.specs.Queues.{with_error}
 
 pub in_force-more : (start : Start) (es : List Entry) (e : Entry) (client : ClientId) (on : Object) (right : Right) → in_force start (es ++ e ∷ []) client on right ≡ in_force_after client on right (in_force start es client on right) e.event
 unfolding in_force
@@ -40,19 +40,19 @@ pub signals-more : (start : Start) (es : List Entry) (e : Entry) → signals sta
 unfolding signals
 signals-more start es e = ap (fold signals_after start.signals) (effects_of-more es e) ∙ fold-append _ _ (effects_of es) e.effects
 
-pub openings-more : (start : Start) (es : List Entry) (e : Entry) → openings start (es ++ e ∷ []) ≡ with_some (openings start es) (opening_of e.event)
+pub openings-more : (start : Start) (es : List Entry) (e : Entry) → openings start (es ++ e ∷ []) ≡ openings_after (openings start es) e.event
 unfolding openings
 openings-more start es e = fold-append _ _ es (e ∷ [])
 
-pub next_id-more : (start : Start) (es : List Entry) (e : Entry) (queue : QueueId) → next_id start (es ++ e ∷ []) queue ≡ (if hands_over_packet_of queue e.event then next_id start es queue + 1 else next_id start es queue)
+pub next_id-more : (start : Start) (es : List Entry) (e : Entry) (queue : QueueId) → next_id start (es ++ e ∷ []) queue ≡ next_id_after queue (next_id start es queue) e.event
 unfolding next_id
 next_id-more start es e queue = fold-append _ _ es (e ∷ [])
 
-pub errors-more : (start : Start) (es : List Entry) (e : Entry) (queue : QueueId) → errors start (es ++ e ∷ []) queue ≡ with_error queue (errors start es queue) (error_of e.outcome)
+pub errors-more : (start : Start) (es : List Entry) (e : Entry) (queue : QueueId) → errors start (es ++ e ∷ []) queue ≡ errors_after queue (errors start es queue) e
 unfolding errors
 errors-more start es e queue = fold-append _ _ es (e ∷ [])
 
-pub is_stopped-more : (start : Start) (es : List Entry) (e : Entry) (queue : QueueId) → is_stopped start (es ++ e ∷ []) queue ≡ (if stops_queue queue e.event then true else is_stopped start es queue)
+pub is_stopped-more : (start : Start) (es : List Entry) (e : Entry) (queue : QueueId) → is_stopped start (es ++ e ∷ []) queue ≡ is_stopped_after queue (is_stopped start es queue) e.event
 unfolding is_stopped
 is_stopped-more start es e queue = fold-append _ _ es (e ∷ [])
 

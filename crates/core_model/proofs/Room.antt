@@ -15,7 +15,7 @@ use Rattle.policy.specs.Policy.{Declared, rules_of}
 use Rattle.queue_error.specs.declared.error.QueueError.{QueueError}
 use Rattle.core_model.specs.declared.event.Event.{Event}
 use Rattle.core_model.specs.declared.event.Event.TheVariants.{Open, Take, Reload, Call}
-use Rattle.core_model.specs.declared.call.Call.TheVariants.{Grant, Revoke, Stop, RunNext, Poll, Finish, HostWrite, ChangeSignal}
+use Rattle.core_model.specs.declared.call.Call.TheVariants.{Grant, Revoke, Stop, Close, RunNext, Poll, Finish, HostWrite, ChangeSignal}
 use Rattle.core_model.specs.declared.event.CoreRequest.{CoreRequest}
 use Rattle.core_model.specs.declared.event.CoreRequest.TheVariants as request
 use Rattle.core_model.specs.declared.outcome.Outcome.{Outcome}
@@ -29,7 +29,7 @@ use Rattle.core_model.specs.declared.flight.InFlight.{InFlight}
 use Rattle.core_model.specs.declared.flight.Progress.{Progress}
 use Rattle.core_model.specs.declared.refusal.Refusal.{Refusal}
 use Rattle.core_model.specs.declared.refusal.Refusal.TheVariants as refusal
-use Rattle.core_model.specs.History.{beginning, opening_state, History, Start}
+use Rattle.core_model.specs.History.{beginning, History, Start}
 use Rattle.core_model.specs.Flight.{flight, flight_after, flight_after_effect, flight_of, in_flight, is_packet, progress, satisfied_by_either}
 use Rattle.core_model.specs.LaunchRules.{cause_to_wait, first_failing_rule, is_barrier}
 use Rattle.core_model.specs.Queues.{Opening, is_down, is_stopped, next_id, openings, owner}
@@ -46,8 +46,8 @@ use Rattle.core_model.specs.Refusals.{for_some, refuse_unless}
 use Rattle.core_model.specs.declared.outcome.WaitCause.{WaitCause}
 use Rattle.queue_error.specs.declared.rule.Rule.{Rule}
 use Rattle.aql_packet.specs.Reading.{barrier_bit}
-use Rattle.core_model.specs.Owed.{Owed, answers, barrier_in, completion_of, enters, error_without_place, facts_of, for_packet, group_owed, is_finished, is_host_size, old_if_asked, owed, owed_finish, owed_group, owed_poll, owed_sight, owed_take, owed_verdict, refuses, release_of, signal_decrement}
-use Rattle.core_model.specs.Legal.{AreReplies, IsOpening, IsServed, MeetsOrLacks, ReloadMeetsOrLacks, due, entry_of, history_after, lacks_room, within_room}
+use Rattle.core_model.specs.Owed.{Owed, answers, barrier_in, completion_of, enters, error_without_place, facts_of, for_packet, group_owed, is_finished, is_host_size, old_if_asked, owed, owed_finish, owed_group, owed_poll, owed_sight, owed_take, owed_verdict, refuses, release_of, releases_of, signal_decrement}
+use Rattle.core_model.specs.Legal.{AreReplies, IsOpening, IsServed, MeetsOrLacks, ReloadMeetsOrLacks, entry_of, history_after, lacks_room, within_room}
 use Rattle.core_model.specs.Queries.{AnswerOrRefusal}
 use Rattle.core_model.specs.Room.{FindsRoom, HasRoom}
 use Rattle.core_model.proofs.Lists.{found-passes}
@@ -58,8 +58,8 @@ use Rattle.core_model.specs.Memory.{signals}
 use Rattle.core_model.specs.Work.{agent_writes, group_count, is_negative, is_ready, newly_seen_positions, seen_dependencies}
 use Rattle.core_model.specs.declared.outcome.Satisfied.{Satisfied}
 use Rattle.core_model.specs.declared.outcome.TheConstants.{NONE_SATISFIED}
-use Rattle.std.specs.List.{list_any}
-use Rattle.core_model.proofs.Entered.{GroupFaulted, GroupRan, GroupWrote, HasFailed, HasRun, HasSeen, KernelRan, finish-entered, kernel-ended, poll-entered, run-entered, stop-effects}
+use Rattle.std.specs.List.{Contains, list_any}
+use Rattle.core_model.proofs.Entered.{GroupFaulted, GroupRan, GroupWrote, HasFailed, HasRun, HasSeen, KernelRan, close-effects, finish-entered, kernel-ended, poll-entered, run-entered, stop-effects}
 
 -- ---- how many are left
 
@@ -77,6 +77,24 @@ fewer-named : (test : InFlight → Bool) (queue : QueueId) (id : PacketId) (fs :
     option_map (λ (f : InFlight). f.id) (find test (filter (λ (f : InFlight). f.queue.0 == queue.0) fs)) ≡ Some id → length (filter (λ f. not (is_packet queue id f)) fs) + 1 ≤ length fs
 fewer-named test queue id [] found = absurd cc
 fewer-named test queue id (f ∷ fs) found = grind (arith, not_more (λ g. not (is_packet queue id g)) fs, fewer-named test queue id fs)
+
+-- changes lead to no more packets in flight
+not_more-after : (effects : List Effect) (fs : List InFlight) → length (fold flight_after_effect fs effects) ≤ length fs
+not_more-after [] fs = omega arith
+not_more-after (effect.Write address bytes ∷ rest) fs = not_more-after rest fs
+not_more-after (effect.Signal signal old new ∷ rest) fs = not_more-after rest fs
+not_more-after (effect.Release queue id ∷ rest) fs =
+    let one = not_more-after rest (filter (λ f. not (is_packet queue id f)) fs) in
+    let two = not_more (λ f. not (is_packet queue id f)) fs in
+    omega (arith, one, two)
+
+-- the releases of all of a queue, where there is one, lead to fewer
+fewer-of : (queue : QueueId) (fs own : List InFlight) (f : InFlight) → filter (λ (g : InFlight). g.queue.0 == queue.0) fs ≡ own → Contains own f → length (fold flight_after_effect fs (releases_of queue own)) + 1 ≤ length fs
+fewer-of queue fs [] f is there = let none = there.1 in absurd (omega (arith, none))
+fewer-of queue fs (g ∷ gs) f is there =
+    let one = fewer-named (λ (h : InFlight). true) queue g.id fs (ap (λ (hs : List InFlight). option_map (λ (h : InFlight). h.id) (find (λ h. true) hs)) is) in
+    let rest = not_more-after (releases_of queue gs) (filter (λ h. not (is_packet queue g.id h)) fs) in
+    omega (arith, one, rest)
 
 completed : (values : List ℤ) (signal : SignalHandle) (queue : QueueId) (id : PacketId) (flying : List InFlight) →
     fold flight_after_effect flying (signal_decrement values signal ++ effect.Release queue id ∷ []) ≡ filter (λ f. not (is_packet queue id f)) flying
@@ -164,6 +182,16 @@ module _ (history : History) (room : HasRoom history) where
           let out = fewer-named (λ f. is_barrier f.packet) queue barrier flying some in
           let left : flight_after flying (entry_of (Call (Stop queue)) told effects) ≡ filter (λ g. not (is_packet queue barrier g)) flying = ap (fold flight_after_effect flying) (done.effects_are ∙ ap (release_of queue) some) in
           finds (Call (Stop queue)) told effects owing (subst (λ (fs : List InFlight). length fs + 1 ≤ length flying) (sym left) out)
+
+  pub close-finds : (queue : QueueId) (f : InFlight) → Contains (flight_of (beginning history) history.entries queue) f → FindsRoom history (Call (Close queue))
+  close-finds queue f there = finds-by (Call (Close queue)) so
+    where
+      so : (told : Outcome) (effects : List Effect) → owed (beginning history) history.entries (Call (Close queue)) ≡ enters told effects → FindsRoom history (Call (Close queue))
+      so told effects owing =
+          let done = close-effects (beginning history) history.entries told effects queue owing in
+          let out = fewer-of queue flying (flight_of (beginning history) history.entries queue) f refl there in
+          let left : flight_after flying (entry_of (Call (Close queue)) told effects) ≡ fold flight_after_effect flying (releases_of queue (flight_of (beginning history) history.entries queue)) = ap (fold flight_after_effect flying) done.effects_are in
+          finds (Call (Close queue)) told effects owing (subst (λ (fs : List InFlight). length fs + 1 ≤ length flying) (sym left) out)
 
 -- ---- nothing is owed a refusal for want of room
 
@@ -260,13 +288,18 @@ never-owed start entries (Open client agent size) is =
     unless-never (knows_client (rules_of start.policy) client) refusal.UnknownClient _ (λ e. absurd cc)
     (unless-never (in_force start entries client (object.Agent agent) right.Use) (refusal.Denied right.Use) _ (λ e. absurd cc)
     (unless-never (is_ring_size size) refusal.BadSize _ (λ e. absurd cc)
-    (if-never (nat_le QUEUES (length (openings start entries))) refusal.TooMany _ (λ e. absurd cc) (entered-never _ [])))) is
+    (if-never (nat_le QUEUES (length (openings start entries).queues)) refusal.TooMany _ (λ e. absurd cc) (entered-never _ [])))) is
 never-owed start entries (Call (Stop queue)) is = by_owner (owner start entries queue) is
   where
     by_owner : (o : Option Opening) → for_some o (refuses refusal.UnknownQueue) (λ opening.
         if is_stopped start entries queue then refuses refusal.QueueDown else enters outcome.Accepted (release_of queue (barrier_in (flight_of start entries queue)))) ≡ refuses refusal.AuditFull → ⊥
     by_owner None same = absurd cc
     by_owner (Some opening) same = if-never (is_stopped start entries queue) refusal.QueueDown _ (λ e. absurd cc) (entered-never _ _) same
+never-owed start entries (Call (Close queue)) is = by_owner (owner start entries queue) is
+  where
+    by_owner : (o : Option Opening) → for_some o (refuses refusal.UnknownQueue) (λ opening. enters outcome.Accepted (releases_of queue (flight_of start entries queue))) ≡ refuses refusal.AuditFull → ⊥
+    by_owner None same = absurd cc
+    by_owner (Some opening) same = absurd cc
 never-owed start entries (Take queue id bytes) is = by_owner (owner start entries queue) is
   where
     by_owner : (o : Option Opening) → for_some o (refuses refusal.UnknownQueue) (owed_take start entries queue id bytes) ≡ refuses refusal.AuditFull → ⊥

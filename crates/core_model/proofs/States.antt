@@ -14,10 +14,10 @@ use Rattle.core_model.specs.declared.entry.Entry.{Entry}
 use Rattle.core_model.specs.declared.event.Event.{Event}
 use Rattle.core_model.specs.declared.event.Query.{Query}
 use Rattle.core_model.specs.declared.flight.InFlight.{InFlight}
-use Rattle.core_model.specs.History.{History, IsOpeningOrigin, Opening, Origin, PacketOrigin, Part, QueueOrigin, Start, begin, beginning, effects_of, no_queue, opening_state, packet_in, queue_in}
+use Rattle.core_model.specs.History.{History, IsOpeningOrigin, Openings, Origin, PacketOrigin, Part, QueueOrigin, Start, begin, beginning, effects_of, no_queue, open_queue, opening_state, packet_in, queue_in}
 use Rattle.regions.specs.Memory.{byte_at, lies_in_region, zeros}
 use Rattle.regions.proofs.Laws.{byte_at-outside, byte_at-zeros, lengths_of-zeros}
-use Rattle.policy.specs.Policy.{Declared, numbered, region_lengths}
+use Rattle.policy.specs.Policy.{Declared, region_lengths}
 use Rattle.core_model.specs.declared.event.Query.TheVariants as query
 use Rattle.std.specs.Option.{unwrap_or}
 use Rattle.core_model.specs.declared.flight.TheConstants.{LAUNCH_PROGRESS}
@@ -25,7 +25,7 @@ use Rattle.kernel_check.specs.Programs.{Program}
 use Rattle.core_model.specs.Grants.{in_force}
 use Rattle.core_model.specs.Policies.{rows_at}
 use Rattle.core_model.specs.Memory.{byte_after, memory_at, signals, signals_after}
-use Rattle.core_model.specs.Queues.{hands_over_packet_of, openings, owner, next_id, errors, is_stopped}
+use Rattle.core_model.specs.Queues.{closes_queue, hands_over_packet_of, openings, owner, next_id, next_id_after, errors, is_stopped}
 use Rattle.core_model.specs.Flight.{flight, launched_by, progress, releases}
 use Rattle.core_model.specs.Holds.{along, arguments, arguments_after, arguments_if, gives, held, held_after, is_launch}
 use Rattle.core_model.specs.States.{state_after}
@@ -122,7 +122,7 @@ module _ (s : Start) (a b : List Entry) where
   -- ---- what launches give
 
   -- what a launch is judged by
-  abbrev judged : (ClientId → Object → Right → Bool) → (ℕ → ℕ) → List Opening → Start
+  abbrev judged : (ClientId → Object → Right → Bool) → (ℕ → ℕ) → Openings → Start
   judged granted memory opened = record s { in_force = granted; memory = memory; openings = opened }
 
   judged-join : judged (in_force s (a ++ b)) (memory_at s (a ++ b)) (openings s (a ++ b)) ≡ judged (in_force mid b) (memory_at mid b) (openings mid b)
@@ -329,12 +329,9 @@ none-written lengths x = by_place (lies_in_region lengths x) refl
     by_place true lies = ap (λ (o : Option ℕ). unwrap_or o 0) (byte_at-zeros lengths x lies)
     by_place false lies = ap (λ (o : Option ℕ). unwrap_or o 0) (byte_at-outside (zeros lengths) x (ap (λ (ls : List ℕ). lies_in_region ls x) (lengths_of-zeros lengths) ∙ lies))
 
-none-numbered : (n : ℕ) → numbered {X = QueueOrigin} [] n ≡ None
-none-numbered n = grind arith
-
 -- of no queues nothing is told
 none-told : (queues : List QueueOrigin) → queues ≡ [] → (queue : QueueId) → queue_in queues queue ≡ no_queue
-none-told queues none queue = ap (λ (qs : List QueueOrigin). queue_in qs queue) none ∙ ap (λ (o : Option QueueOrigin). unwrap_or o no_queue) (none-numbered queue.0)
+none-told queues none queue = ap (λ (qs : List QueueOrigin). queue_in qs queue) none
 
 -- it is the opening state
 pub begin-opening : (policy : Declared) (kernels : List Program) (o : Origin) → IsOpeningOrigin policy o → begin kernels o ≡ opening_state policy kernels
@@ -344,7 +341,7 @@ begin-opening policy kernels o opened = λ i. record {
   in_force = λ client on right. opened.grants.none_in_force client on right i;
   memory = λ x. (ap (λ (bytes : List (List ℕ)). unwrap_or (byte_at bytes x) 0) opened.memory ∙ none-written (region_lengths policy) x) i;
   signals = opened.signals i;
-  openings = map (λ (q : QueueOrigin). q.opening) (opened.queues i);
+  openings = record { opened = opened.opened i; queues = map open_queue (opened.queues i) };
   next_id = λ queue. (none-told o.queues opened.queues queue i).next;
   errors = λ queue. (none-told o.queues opened.queues queue i).errors;
   is_stopped = λ queue. (none-told o.queues opened.queues queue i).stopped;
@@ -356,15 +353,18 @@ begin-opening policy kernels o opened = λ i. record {
 }
 
 -- no queue's next id is above how many entries came before
-next-along : (queue : QueueId) (from : ℕ) (es : List Entry) → fold (λ next entry. if hands_over_packet_of queue entry.event then next + 1 else next) from es ≤ from + length es
+next-along : (queue : QueueId) (from : ℕ) (es : List Entry) → fold (λ next entry. next_id_after queue next entry.event) from es ≤ from + length es
 next-along queue from [] = omega arith
-next-along queue from (e ∷ es) = by_test (hands_over_packet_of queue e.event) (next-along queue (from + 1) es) (next-along queue from es)
+next-along queue from (e ∷ es) = by_tests (closes_queue queue e.event) (hands_over_packet_of queue e.event) (next-along queue 0 es) (next-along queue (from + 1) es) (next-along queue from es)
   where
-    by_test : (b : Bool) → fold (λ next entry. if hands_over_packet_of queue entry.event then next + 1 else next) (from + 1) es ≤ (from + 1) + length es
-        → fold (λ next entry. if hands_over_packet_of queue entry.event then next + 1 else next) from es ≤ from + length es
-        → fold (λ next entry. if hands_over_packet_of queue entry.event then next + 1 else next) (if b then from + 1 else from) es ≤ from + length (e ∷ es)
-    by_test true one none = omega (arith, one)
-    by_test false one none = omega (arith, none)
+    AreLow : ℕ → Type 0
+    AreLow next = fold (λ next entry. next_id_after queue next entry.event) next es ≤ next + length es
+
+    by_tests : (closes hands : Bool) → AreLow 0 → AreLow (from + 1) → AreLow from
+        → fold (λ next entry. next_id_after queue next entry.event) (if closes then 0 else if hands then from + 1 else from) es ≤ from + length (e ∷ es)
+    by_tests true hands none one same = omega (arith, none)
+    by_tests false true none one same = omega (arith, one)
+    by_tests false false none one same = omega (arith, same)
 
 pub next_id-le : (s : Start) (es : List Entry) (queue : QueueId) → next_id s es queue ≤ s.next_id queue + length es
 unfolding next_id
@@ -385,7 +385,7 @@ same-begin kernels one other same = λ i. record {
   in_force = λ client on right. same.granted client on right i;
   memory = λ x. unwrap_or (byte_at (same.memory i) x) 0;
   signals = same.signals i;
-  openings = map (λ q. q.opening) (same.queues i);
+  openings = record { opened = same.opened i; queues = map open_queue (same.queues i) };
   next_id = λ queue. (queue_in (same.queues i) queue).next;
   errors = λ queue. (queue_in (same.queues i) queue).errors;
   is_stopped = λ queue. (queue_in (same.queues i) queue).stopped;

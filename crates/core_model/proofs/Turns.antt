@@ -1,5 +1,5 @@
 -- Packets are taken in turn, each id once; queues are opened in turn; and beginnings of legal histories are legal.
-use Rattle.std.proofs.Common.{rules, ◌≡◌, ◌<◌, ℕ, ◌+◌, ◌-◌, List, [], ◌∷◌, ◌++◌, length, refl, sym, ◌∙◌, ap, subst, Bool, true, false, Option, Some, None, arith, append_assoc, ◌⊎◌, inl, inr}
+use Rattle.std.proofs.Common.{rules, ◌≡◌, ◌<◌, ℕ, ◌+◌, ◌-◌, List, [], ◌∷◌, ◌++◌, length, refl, sym, ◌∙◌, ap, subst, Bool, true, false, Option, Some, None, arith, ◌⊎◌, inl, inr}
 use Rattle.std.specs.Prelude.{option_map, slice_get, nat_lt, ◌||◌}
 use Rattle.std.proofs.lemmas.Bool.{and_from, eq-eqb}
 use Rattle.aql_packet.specs.declared.ids.AgentHandle.{AgentHandle}
@@ -16,17 +16,16 @@ use Rattle.core_model.specs.declared.outcome.Taken.TheVariants.{Launched, Denied
 use Rattle.core_model.specs.declared.entry.Effect.{Effect}
 use Rattle.core_model.specs.declared.entry.Entry.{Entry}
 use Rattle.core_model.specs.History.{Start}
-use Rattle.core_model.specs.Queues.{Opening, openings, owner, next_id}
+use Rattle.core_model.specs.Queues.{Opening, Openings, next_queue, opening_in, openings, owner, next_id}
 use Rattle.core_model.specs.declared.flight.InFlight.{InFlight}
 use Rattle.core_model.specs.Flight.{launched_by}
 use Rattle.core_model.specs.Holds.{is_launch}
 use Rattle.core_model.specs.Owed.{owed, enters, error_without_place}
-use Rattle.core_model.specs.Legal.{IsWhole, IsLegalAfter, entry_of}
+use Rattle.core_model.specs.Legal.{IsWhole, entry_of}
 use Rattle.core_model.specs.Headline.{Launch, IsOpened}
-use Rattle.std.proofs.lemmas.List.{append-nil}
-use Rattle.core_model.proofs.Holding.{owner-more}
 use Rattle.core_model.proofs.More.{openings-more}
-use Rattle.core_model.proofs.Launches.{was_launched, AreBelowNext-legal}
+use Rattle.core_model.proofs.Openings.{next-unowned, numbered-whole, owner-opened, owner-stays}
+use Rattle.core_model.proofs.Launches.{was_launched, below-open}
 use Rattle.core_model.proofs.Launching.{legal-at}
 use Rattle.core_model.proofs.Entered.{open-effects, take-decided}
 
@@ -93,26 +92,16 @@ module _ (queue : QueueId) (id : PacketId) where
         where
           by_test : (b : Bool) → was_launched l.before queue id ≡ b → was_launched l.before queue id ≡ false
           by_test true was =
-              let below : id.0 < next_id start l.before queue = AreBelowNext-legal start l.before (legal-at start es l.before _ legal l.place).0 queue id was in
+              let below : id.0 < next_id start l.before queue = below-open start l.before (legal-at start es l.before _ legal l.place).0 queue id l.opening l.allowed.owner_is was in
               let at = l.allowed.id_is_next in absurd (omega arith)
           by_test false was = was
 
 -- ---- a queue that is opened is a new one, its opener's
 
-slice_get-end : {X : Type 0} (xs : List X) → slice_get xs (length xs) ≡ None
-slice_get-end [] = refl
-slice_get-end (x ∷ xs) = slice_get-end xs
-
 -- one item more has the next number
 pub slice_get-last : {X : Type 0} (xs : List X) (x : X) → slice_get (xs ++ x ∷ []) (length xs) ≡ Some x
 slice_get-last [] x = refl
 slice_get-last (y ∷ xs) x = slice_get-last xs x
-
-pub numbered-end : {X : Type 0} (xs : List X) → numbered xs (length xs + 1) ≡ None
-numbered-end xs =
-    let positive : nat_lt 0 (length xs + 1) ≡ true = search rules in
-    let place : length xs + 1 - 1 ≡ length xs = omega arith in
-    rw (positive, place) (slice_get-end xs)
 
 pub numbered-new : {X : Type 0} (xs : List X) (x : X) → numbered (xs ++ x ∷ []) (length xs + 1) ≡ Some x
 numbered-new xs x =
@@ -120,22 +109,19 @@ numbered-new xs x =
     let place : length xs + 1 - 1 ≡ length xs = omega arith in
     rw (positive, place) (slice_get-last xs x)
 
--- a queue stays its opener's, whatever entries follow
-owner-stays : (start : Start) (es more : List Entry) (queue : QueueId) (opening : Opening) → owner start es queue ≡ Some opening → owner start (es ++ more) queue ≡ Some opening
-owner-stays start es [] queue opening is = subst (λ (now : List Entry). owner start now queue ≡ Some opening) (sym (append-nil es)) is
-owner-stays start es (e ∷ more) queue opening is =
-    subst (λ (now : List Entry). owner start now queue ≡ Some opening) (append_assoc es (e ∷ []) more)
-    (owner-stays start (es ++ e ∷ []) more queue opening (owner-more start es e queue opening is))
-
-pub queue-opened : (start : Start) (es : List Entry) (told : Outcome) (effects : List Effect) (client : ClientId) (agent : AgentHandle) (size : ℕ) → owed start es (Open client agent size) ≡ enters told effects →
+pub queue-opened : (start : Start) (es : List Entry) → IsWhole start es → (told : Outcome) (effects : List Effect) (client : ClientId) (agent : AgentHandle) (size : ℕ) → owed start es (Open client agent size) ≡ enters told effects →
     IsOpened start es (entry_of (Open client agent size) told effects) client agent
-queue-opened start es told effects client agent size owing =
+queue-opened start es legal told effects client agent size owing =
     let made = open-effects start es told effects client agent size owing in
+    let opening : Opening = record { client = client; agent = agent } in
+    let queue : QueueId = next_queue (openings start es).opened in
+    let new : owner start es queue ≡ None = next-unowned (openings start es) (numbered-whole start legal.opens es) in
     record {
-      queue = record { 0 = length (openings start es) + 1 };
+      queue = queue;
       outcome_is = made.outcome_is;
       granted = made.granted;
-      is_new = numbered-end (openings start es);
-      owner_is = λ more. owner-stays start (es ++ entry_of (Open client agent size) told effects ∷ []) more (record { 0 = length (openings start es) + 1 }) (record { client = client; agent = agent })
-          (ap (λ os. numbered os (length (openings start es) + 1)) (openings-more start es (entry_of (Open client agent size) told effects)) ∙ numbered-new (openings start es) (record { client = client; agent = agent }));
+      is_new = new;
+      number_is = refl;
+      owner_is = λ more unclosed. owner-stays start (es ++ entry_of (Open client agent size) told effects ∷ []) more queue opening unclosed
+          (ap (λ (all : Openings). opening_in all.queues queue) (openings-more start es (entry_of (Open client agent size) told effects)) ∙ owner-opened (openings start es) opening new);
     }

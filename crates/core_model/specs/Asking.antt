@@ -50,7 +50,8 @@ asks_in_flight None owing = false
 asks_in_flight (Some f) owing = asks_for_group f.packet owing
 
 -- Whether an event that is due this asks for memory by what it copies or makes a list of: a launch, a group, a client's write its bytes, a
--- reload its rows. Of the others only an opening may lack memory: it makes a list for its queue's errors, of places whatever it is handed (own).
+-- reload its rows. Of the others only an opening may lack memory: it makes lists for its queue's errors and releases, of places whatever it
+-- is handed (own).
 abbrev pub asks_for_memory : History → Event → Owed → Bool
 asks_for_memory history (Take queue id bytes) owing =
     nat_lt 0 (listed_at_launch (beginning history) history.entries (owner (beginning history) history.entries queue) (launched_by (Take queue id bytes) (outcome.Taken Launched)))

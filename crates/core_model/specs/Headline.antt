@@ -1,5 +1,5 @@
 -- What a legal history shows: for each thing that it tells, who asked for it and which grant in force allowed it.
-use Rattle.std.specs.Prelude.{ℕ, ℤ, pos, ◌==◌, ◌&&◌, ◌≡◌, ◌<◌, ◌⊎◌, true, false, List, [], ◌∷◌, ◌++◌, length, map, filter, Option, Some, None, All}
+use Rattle.std.specs.Prelude.{ℕ, ℤ, pos, ◌+◌, ◌==◌, ◌&&◌, ◌≡◌, ◌<◌, ◌⊎◌, true, false, List, [], ◌∷◌, ◌++◌, length, map, filter, Option, Some, None, All}
 use Rattle.std.specs.List.{Contains, list_any}
 use Rattle.aql_packet.specs.declared.ids.AgentHandle.{AgentHandle}
 use Rattle.aql_packet.specs.declared.ids.ClientId.{ClientId}
@@ -26,7 +26,7 @@ use Rattle.queue_error.specs.declared.rule.Rule.TheVariants.{B1}
 use Rattle.queue_error.specs.declared.error.QueueError.{QueueError}
 use Rattle.core_model.specs.declared.event.Event.{Event}
 use Rattle.core_model.specs.declared.event.Event.TheVariants.{Take, Call}
-use Rattle.core_model.specs.declared.call.Call.TheVariants.{RunNext, Poll, Finish, Stop, HostWrite, ChangeSignal}
+use Rattle.core_model.specs.declared.call.Call.TheVariants.{RunNext, Poll, Finish, Stop, Close, HostWrite, ChangeSignal}
 use Rattle.core_model.specs.declared.outcome.Outcome.TheVariants as outcome
 use Rattle.core_model.specs.declared.outcome.Taken.TheVariants.{Launched}
 use Rattle.core_model.specs.declared.outcome.Worked.TheVariants.{Faulted}
@@ -45,7 +45,7 @@ use Rattle.core_model.specs.History.{beginning, HeldRights, Start, History}
 use Rattle.core_model.specs.Grants.{in_force}
 use Rattle.policy.specs.Policy.{region_lengths}
 use Rattle.core_model.specs.Memory.{signals}
-use Rattle.core_model.specs.Queues.{Opening, owner, is_down, next_id}
+use Rattle.core_model.specs.Queues.{Opening, closes_queue, openings, owner, is_down, next_id}
 use Rattle.core_model.specs.Flight.{flight, flight_of, in_flight, progress, satisfied_by_either}
 use Rattle.core_model.specs.Kernels.{kernel_of}
 use Rattle.core_model.specs.Needs.{range_at, function_of, result_range, dependencies, completion_signal}
@@ -238,12 +238,14 @@ ChangeIsGranted start before event _ = Unit {0}
 
 -- ---- releases
 
--- what releases this packet: that it completes, that it faults, or that its queue is stopped, if it is a barrier packet (own)
+-- what releases this packet: that it completes, that it faults, that its queue is stopped, if it is a barrier packet, or that its queue
+-- is closed (own)
 abbrev pub IsReleasedBy : Event → Outcome → InFlight → Type 0
 IsReleasedBy (Call (Finish queue id)) outcome.Accepted f = (queue ≡ f.queue) × (id ≡ f.id)
 IsReleasedBy (Call (RunNext queue id)) (outcome.Worked (Faulted error)) f = (queue ≡ f.queue) × (id ≡ f.id)
 IsReleasedBy (Call (Poll queue id)) (outcome.Polled (Failed error)) f = (queue ≡ f.queue) × (id ≡ f.id)
 IsReleasedBy (Call (Stop queue)) outcome.Accepted f = (queue.0 ≡ f.queue.0) × (is_barrier f.packet ≡ true)
+IsReleasedBy (Call (Close queue)) outcome.Accepted f = queue.0 ≡ f.queue.0
 IsReleasedBy _ _ f = ⊥
 
 -- a packet is released that is in flight, by what releases it (own)
@@ -301,14 +303,16 @@ pub record HoldsInForce (start : Start) (entries : List Entry) (f : InFlight) : 
 
 -- ---- queues
 
--- an entry behind these opens a queue that wasn't there, for a client that may use the agent, whose it is from then on, whatever
--- entries follow (own)
+-- an entry behind these opens a queue that wasn't there, under the number behind all that were ever opened, for a client that may use
+-- the agent, whose it is from then on, whatever entries follow, until one closes it (own)
 pub record IsOpened (start : Start) (before : List Entry) (entry : Entry) (client : ClientId) (agent : AgentHandle) : Type 0 where
   pub queue : QueueId
   pub outcome_is : entry.outcome ≡ outcome.Opened queue
   pub granted : in_force start before client (object.Agent agent) right.Use ≡ true
   pub is_new : owner start before queue ≡ None
-  pub owner_is : (more : List Entry) → owner start ((before ++ entry ∷ []) ++ more) queue ≡ Some (record { client = client; agent = agent })
+  pub number_is : queue.0 ≡ (openings start before).opened + 1
+  pub owner_is : (more : List Entry) → list_any (λ later. closes_queue queue later.event) more ≡ false →
+      owner start ((before ++ entry ∷ []) ++ more) queue ≡ Some (record { client = client; agent = agent })
 
 -- ---- listings
 

@@ -1,5 +1,5 @@
 -- What a history is: what it begins from, and the entries since.
-use Rattle.std.specs.Prelude.{◌≡◌, ℕ, ℤ, Bool, false, List, [], map, find, Option, Some, None}
+use Rattle.std.specs.Prelude.{◌≡◌, ℕ, ℤ, ◌==◌, Bool, false, List, [], map, find, Option, Some, None}
 use Rattle.std.specs.List.{flat_map}
 use Rattle.std.specs.Option.{unwrap_or}
 use Rattle.aql_packet.specs.Ids.{same_packet}
@@ -11,7 +11,7 @@ use Rattle.aql_packet.specs.declared.ids.PacketId.{PacketId}
 use Rattle.kernel_check.specs.Programs.{Program}
 use Rattle.policy.specs.declared.object.Object.{Object}
 use Rattle.policy.specs.declared.rights.Right.{Right}
-use Rattle.policy.specs.Policy.{Declared, initial_values, numbered, region_lengths, rules_of}
+use Rattle.policy.specs.Policy.{Declared, initial_values, region_lengths, rules_of}
 use Rattle.queue_error.specs.declared.error.QueueError.{QueueError}
 use Rattle.core_model.specs.declared.entry.Entry.{Entry}
 use Rattle.core_model.specs.declared.entry.Effect.{Effect}
@@ -27,6 +27,16 @@ pub use Rattle.core_model.specs.declared.origin.Origin.{Origin}
 abbrev pub HeldRights : Type 0
 HeldRights = Object → Right → Bool
 
+-- an open queue: its number, and its opening (own)
+pub record OpenQueue : Type 0 where
+  pub queue : QueueId
+  pub opening : Opening
+
+-- how many queues were ever opened, and those that are open, in the order in which they were opened (own)
+pub record Openings : Type 0 where
+  pub opened : ℕ
+  pub queues : List OpenQueue
+
 -- what a history begins from: the answer to each question about the state, as it was behind all entries before (own)
 pub record Start : Type 0 where
   -- the policy, and its kernels, checked, in order
@@ -37,8 +47,8 @@ pub record Start : Type 0 where
   -- the byte at each address, and the values of the signals
   pub memory : ℕ → ℕ
   pub signals : List ℤ
-  -- the queues' openings, and of each queue the id of its next packet, its errors, and whether it was stopped
-  pub openings : List Opening
+  -- the queues' openings, and of each open queue the id of its next packet, its errors, and whether it was stopped; of any other queue nothing
+  pub openings : Openings
   pub next_id : QueueId → ℕ
   pub errors : QueueId → List QueueError
   pub is_stopped : QueueId → Bool
@@ -59,7 +69,7 @@ opening_state policy kernels = record {
   in_force = λ client on right. false;
   memory = λ x. 0;
   signals = initial_values policy;
-  openings = [];
+  openings = record { opened = 0; queues = [] };
   next_id = λ queue. 0;
   errors = λ queue. [];
   is_stopped = λ queue. false;
@@ -74,11 +84,15 @@ opening_state policy kernels = record {
 
 -- what is told of a queue that isn't there (own)
 abbrev pub no_queue : QueueOrigin
-no_queue = record { opening = record { client = record { 0 = 0 }; agent = record { 0 = 0 } }; next = 0; stopped = false; errors = [] }
+no_queue = record { queue = record { 0 = 0 }; opening = record { client = record { 0 = 0 }; agent = record { 0 = 0 } }; next = 0; stopped = false; errors = [] }
 
--- the queue with this number, which counts from 1 (own)
+-- the open queue with this number (own)
 abbrev pub queue_in : List QueueOrigin → QueueId → QueueOrigin
-queue_in queues queue = unwrap_or (numbered queues queue.0) no_queue
+queue_in queues queue = unwrap_or (find (λ q. q.queue.0 == queue.0) queues) no_queue
+
+-- a queue's number, with its opening (own)
+abbrev pub open_queue : QueueOrigin → OpenQueue
+open_queue q = record { queue = q.queue; opening = q.opening }
 
 -- the packet in flight with this queue and id, if there is one (own)
 abbrev pub packet_in : List PacketOrigin → QueueId → PacketId → Option PacketOrigin
@@ -96,7 +110,7 @@ begin kernels o = record {
   in_force = in_force o.grants;
   memory = λ x. unwrap_or (byte_at o.memory x) 0;
   signals = o.signals;
-  openings = map (λ q. q.opening) o.queues;
+  openings = record { opened = o.opened; queues = map open_queue o.queues };
   next_id = λ queue. (queue_in o.queues queue).next;
   errors = λ queue. (queue_in o.queues queue).errors;
   is_stopped = λ queue. (queue_in o.queues queue).stopped;
@@ -115,6 +129,7 @@ pub record IsOpeningOrigin (policy : Declared) (o : Origin) : Type 0 where
   pub grants : IsNew o.grants
   pub memory : o.memory ≡ zeros (region_lengths policy)
   pub signals : o.signals ≡ initial_values policy
+  pub opened : o.opened ≡ 0
   pub queues : o.queues ≡ []
   pub packets : o.packets ≡ []
   pub before : o.before ≡ 0

@@ -69,6 +69,7 @@ pub record SameOrigin (one other : Origin) : Type 0 where
   pub held : (queue : QueueId) (id : PacketId) (client : ClientId) (on : Object) (right : Right) → ledger.holds one.grants queue id client on right ≡ ledger.holds other.grants queue id client on right
   pub memory : one.memory ≡ other.memory
   pub signals : one.signals ≡ other.signals
+  pub opened : one.opened ≡ other.opened
   pub queues : one.queues ≡ other.queues
   pub packets : one.packets ≡ other.packets
   pub before : one.before ≡ other.before

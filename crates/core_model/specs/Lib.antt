@@ -21,4 +21,5 @@ pub mod Rotation
 pub mod Takes
 pub mod Room
 pub mod Headline
+pub mod Closed
 pub mod inner

@@ -7,7 +7,7 @@ use Rattle.core_model.specs.declared.outcome.Satisfied.{Satisfied}
 abbrev pub most_in_flight : ℕ
 most_in_flight = 8
 
--- how many queues are opened at the most (own)
+-- how many queues are open at the most (own)
 abbrev pub most_queues : ℕ
 most_queues = 64
 

@@ -25,7 +25,7 @@ use Rattle.queue_error.specs.declared.rule.Rule.TheVariants.{B1}
 use Rattle.queue_error.specs.declared.error.QueueError.{QueueError}
 use Rattle.core_model.specs.declared.event.Event.{Event}
 use Rattle.core_model.specs.declared.event.Event.TheVariants.{Open, Take, Reload, Call}
-use Rattle.core_model.specs.declared.call.Call.TheVariants.{Grant, Revoke, Stop, RunNext, Poll, Finish, HostWrite, ChangeSignal}
+use Rattle.core_model.specs.declared.call.Call.TheVariants.{Grant, Revoke, Stop, Close, RunNext, Poll, Finish, HostWrite, ChangeSignal}
 use Rattle.core_model.specs.declared.entry.Effect.{Effect}
 use Rattle.core_model.specs.declared.entry.Effect.TheVariants as effect
 use Rattle.core_model.specs.declared.entry.Entry.{Entry}
@@ -44,7 +44,7 @@ use Rattle.core_model.specs.Refusals.{for_some, refuse_unless}
 use Rattle.core_model.specs.History.{Start}
 use Rattle.core_model.specs.Grants.{in_force, in_force_on_range}
 use Rattle.core_model.specs.Memory.{signals}
-use Rattle.core_model.specs.Queues.{Opening, openings, owner, next_id, is_stopped, is_down}
+use Rattle.core_model.specs.Queues.{Opening, openings, owner, next_queue, next_id, is_stopped, is_down}
 use Rattle.core_model.specs.Limits.{none_satisfied}
 use Rattle.core_model.specs.Flight.{flight_of, in_flight, progress, satisfied_by_either}
 use Rattle.core_model.specs.Limits.{most_host_bytes, most_queues}
@@ -174,6 +174,10 @@ release_of queue (Some id) = effect.Release queue id ∷ []
 abbrev pub barrier_in : List InFlight → Option PacketId
 barrier_in flying = option_map (λ f. f.id) (find (λ f. is_barrier f.packet) flying)
 
+-- the releases of some packets of a queue, in order (own)
+abbrev pub releases_of : QueueId → List InFlight → List Effect
+releases_of queue flying = map (λ f. effect.Release queue f.id) flying
+
 -- what a change of a signal answers: the old value for an exchange or a compare-and-swap, else 0 (own)
 abbrev pub old_if_asked : SignalOp → ℤ → ℤ
 old_if_asked (op.Exchange _) old = old
@@ -195,12 +199,14 @@ owed start entries (Open client agent size) =
     refuse_unless (knows_client (rules_of start.policy) client) (refuses refusal.UnknownClient)
     (refuse_unless (in_force start entries client (object.Agent agent) right.Use) (refuses (refusal.Denied right.Use))
     (refuse_unless (is_ring_size size) (refuses refusal.BadSize)
-    (if nat_le most_queues (length (openings start entries)) then refuses refusal.TooMany
-    else enters (outcome.Opened (record { 0 = length (openings start entries) + 1 })) [])))
+    (if nat_le most_queues (length (openings start entries).queues) then refuses refusal.TooMany
+    else enters (outcome.Opened (next_queue (openings start entries).opened)) [])))
 owed start entries (Call (Stop queue)) =
     for_some (owner start entries queue) (refuses refusal.UnknownQueue) (λ opening.
     if is_stopped start entries queue then refuses refusal.QueueDown
     else enters outcome.Accepted (release_of queue (barrier_in (flight_of start entries queue))))
+owed start entries (Call (Close queue)) =
+    for_some (owner start entries queue) (refuses refusal.UnknownQueue) (λ opening. enters outcome.Accepted (releases_of queue (flight_of start entries queue)))
 owed start entries (Take queue id bytes) =
     for_some (owner start entries queue) (refuses refusal.UnknownQueue) (owed_take start entries queue id bytes)
 owed start entries (Call (RunNext queue id)) = for_packet start entries queue id (owed_group start entries queue id (given_at_launch start entries queue id))

@@ -29,6 +29,10 @@ pub enum Call {
     Stop {
         queue: QueueId,
     },
+    /// A queue is closed: it is gone from then on, with each packet of it in flight.
+    Close {
+        queue: QueueId,
+    },
     /// The next group of a kernel or agent dispatch in flight is run.
     RunNext {
         queue: QueueId,
@@ -86,6 +90,7 @@ impl Call {
                 rights: *rights,
             },
             Call::Stop { queue } => Call::Stop { queue: *queue },
+            Call::Close { queue } => Call::Close { queue: *queue },
             Call::RunNext { queue, packet } => Call::RunNext {
                 queue: *queue,
                 packet: *packet,

@@ -2,6 +2,7 @@
 //! force allowed it; and what clients are told.
 
 ghost use Rattle.std.specs.Prelude.{ℕ, ℤ, List, [], ◌∷◌, ◌++◌, ◌+◌, ◌≡◌, ◌⊎◌, All, None, Some, Result, Ok, Err, true, false, length, slice_get};
+ghost use Rattle.std.specs.List.{Contains, list_any};
 ghost use Rattle.aql_packet.specs.declared.ids.Address.{Address};
 ghost use Rattle.aql_packet.specs.declared.ids.AgentHandle.{AgentHandle};
 ghost use Rattle.aql_packet.specs.declared.ids.ClientId.{ClientId};
@@ -29,7 +30,7 @@ ghost use Rattle.core_model.specs.declared.entry.Effect.TheVariants as effect;
 ghost use Rattle.core_model.specs.declared.entry.Entry.{Entry};
 ghost use Rattle.core_model.specs.declared.event.Event.{Event};
 ghost use Rattle.core_model.specs.declared.event.Event.TheVariants.{Open, Take, Call};
-ghost use Rattle.core_model.specs.declared.call.Call.TheVariants.{ChangeSignal, Finish, Grant, HostWrite, Poll, RunNext, Stop};
+ghost use Rattle.core_model.specs.declared.call.Call.TheVariants.{ChangeSignal, Close, Finish, Grant, HostWrite, Poll, RunNext, Stop};
 ghost use Rattle.core_model.specs.declared.event.Query.{Query};
 ghost use Rattle.core_model.specs.declared.event.Query.TheVariants as query;
 ghost use Rattle.core_model.specs.declared.event.CoreRequest.{CoreRequest};
@@ -61,13 +62,14 @@ ghost use Rattle.core_model.specs.declared.outcome.TheConstants.{NONE_SATISFIED}
 ghost use Rattle.aql_packet.specs.Memory.{are_region_lengths};
 ghost use Rattle.core_model.specs.Holds.{arguments, held, own_rights};
 ghost use Rattle.core_model.specs.View.{GivenAtLaunch, given_at_launch};
-ghost use Rattle.core_model.specs.Queues.{Opening, error_of, next_id, owner};
+ghost use Rattle.core_model.specs.Queues.{Opening, closes_queue, error_of, next_id, owner};
 ghost use Rattle.core_model.specs.Flight.{AreApart, LawOfFlight, flight, flight_of, in_flight, progress};
 ghost use Rattle.core_model.specs.Work.{agent_writes};
 ghost use Rattle.core_model.specs.Owed.{barrier_in, enters, is_host_size, old_if_asked, owed, owed_group, refuses};
 ghost use Rattle.core_model.specs.Legal.{AreReplies, IsFollowedBy, IsLegal, IsLegalPart, IsOpening, IsServed, IsWhole, joined, MeetsOrLacks, entry_of};
 ghost use Rattle.core_model.specs.Queries.{AnswerOrRefusal, query_answer};
 ghost use Rattle.core_model.specs.Room.{FindsRoom, HasRoom};
+ghost use Rattle.core_model.specs.Closed.{IsClosed, IsGone, NothingIsToldOf, names_queue};
 ghost use Rattle.core_model.specs.Headline.{AllInForce, ChangeIsGranted, GoesOn, HoldsInForce, InFlightSince, IsCompleted, IsDenied, IsEntryBehind, IsListed, IsOpened, IsPolled, Launch, MayBeLaunched, MayReach, MayReachRange, ReleaseIsDue, WriteIsGranted, packet_named, ranges_seen};
 
 /// A launched packet is the next of a queue that is open and need not wait, is laid out by its bytes, and
@@ -90,12 +92,13 @@ pub fn law_each_packet_is_taken_in_turn()
         IsWhole start entries → (one other : Launch start entries queue id) → (one.before ≡ other.before) × (one.packet ≡ other.packet) }
 {}
 
-/// What a legal history takes of a queue has the ids from its start's next one on, each once, in order; the next
-/// id is the first that was not taken.
+/// What a legal history takes of a queue has the ids from its start's next one on, each once, in order; where no
+/// entry closes the queue, the next id is the first that was not taken.
 pub fn law_taken_ids_go_on_from_the_start()
     ensures ids { (start : Start) (entries : List Entry) (queue : QueueId) (place : ℕ) (served : Served) →
         IsLegal start entries → slice_get (takes entries queue) place ≡ Some served → served.id.0 ≡ next_id start [] queue + place }
-    ensures count { (start : Start) (entries : List Entry) (queue : QueueId) → next_id start entries queue ≡ next_id start [] queue + length (takes entries queue) }
+    ensures count { (start : Start) (entries : List Entry) (queue : QueueId) → list_any (λ entry. closes_queue queue entry.event) entries ≡ false →
+        next_id start entries queue ≡ next_id start [] queue + length (takes entries queue) }
 {}
 
 /// A denied packet's error names the packet and the first launch rule that fails by the grants in force
@@ -122,7 +125,7 @@ pub fn law_each_signal_change_was_granted()
 {}
 
 /// Each packet that is released is in flight, and is the one that completes, or faults, or is the
-/// barrier packet of a queue that is stopped.
+/// barrier packet of a queue that is stopped, or is of a queue that is closed.
 pub fn law_each_release_is_due()
     ensures { (start : Start) (entries before : List Entry) (entry : Entry) →
         IsWhole start entries → IsEntryBehind entries before entry → All (ReleaseIsDue start before entry.event entry.outcome) entry.effects }
@@ -197,12 +200,30 @@ pub fn law_each_grant_is_allowed()
         (are_allowed (rules_of (policy_at start before)) client on rights ≡ true) × (effects ≡ []) }
 {}
 
-/// A queue is opened for a client that may use the agent, and is a new one, which is the client's from
-/// then on.
+/// A queue is opened for a client that may use the agent, and is a new one, under the number behind all
+/// that were ever opened, which is the client's from then on, until it is closed.
 pub fn law_each_queue_is_its_openers()
     ensures { (start : Start) (entries before : List Entry) (client : ClientId) (agent : AgentHandle) (size : ℕ) (told : Outcome) (effects : List Effect) →
         IsWhole start entries → IsEntryBehind entries before (entry_of (Open client agent size) told effects) →
         IsOpened start before (entry_of (Open client agent size) told effects) client agent }
+{}
+
+/// A close is of an open queue; it releases each packet of it in flight, ascending by id, and changes
+/// nothing else: it completes none, and writes nothing.
+pub fn law_each_close_releases_all()
+    ensures { (start : Start) (entries before : List Entry) (queue : QueueId) (told : Outcome) (effects : List Effect) →
+        IsWhole start entries → IsEntryBehind entries before (entry_of (Call (Close queue)) told effects) →
+        (told ≡ outcome.Accepted) × IsClosed start before queue effects }
+{}
+
+/// A queue that was closed is gone, whatever legal entries follow: nothing of it is told, held or in
+/// flight, what names it is refused, so that no later entry does, and no later queue has its number.
+pub fn law_closed_queues_stay_gone()
+    ensures gone { (start : Start) (before more : List Entry) (queue : QueueId) (told : Outcome) (effects : List Effect) →
+        IsLegal start (before ++ entry_of (Call (Close queue)) told effects ∷ more) → IsGone start (before ++ entry_of (Call (Close queue)) told effects ∷ more) queue }
+    ensures unnamed { (start : Start) (before more : List Entry) (queue : QueueId) (told : Outcome) (effects : List Effect) →
+        IsLegal start (before ++ entry_of (Call (Close queue)) told effects ∷ more) →
+        All (λ entry. (names_queue queue entry.event ≡ false) × (entry.outcome ≡ outcome.Opened queue → ⊥)) more }
 {}
 
 /// A client's write is made only with WRITE in force, and then whole; its change of a signal only with
@@ -340,8 +361,9 @@ pub fn law_whole_histories_begin_at_an_opening()
 {}
 
 /// Of what isn't there a legal history tells nothing: memory outside the regions stays 0; a packet that
-/// isn't in flight holds no right, has no arguments, and its progress is that of a launch; and no two
-/// packets in flight have one name, so that each is found by its queue and id.
+/// isn't in flight holds no right, has no arguments, and its progress is that of a launch; a queue that isn't
+/// open has taken nothing, has no error and no packet in flight, and wasn't stopped; and no two packets in
+/// flight have one name, so that each is found by its queue and id.
 pub fn law_nothing_is_told_of_what_is_not_there()
     ensures memory { (start : Start) (entries : List Entry) (address : ℕ) → are_region_lengths (region_lengths start.policy) ≡ true →
         IsLegal start entries → lies_in_region (region_lengths start.policy) address ≡ false → memory_at start entries address ≡ 0 }
@@ -351,6 +373,7 @@ pub fn law_nothing_is_told_of_what_is_not_there()
         IsLegal start entries → in_flight start entries queue id ≡ None → progress start entries queue id ≡ launch_progress }
     ensures arguments { (start : Start) (entries : List Entry) (queue : QueueId) (id : PacketId) →
         IsLegal start entries → in_flight start entries queue id ≡ None → arguments start entries queue id ≡ [] }
+    ensures queues { (start : Start) (entries : List Entry) (queue : QueueId) → IsLegal start entries → owner start entries queue ≡ None → NothingIsToldOf start entries queue }
     ensures apart { (start : Start) (entries : List Entry) → IsLegal start entries → AreApart (flight start entries) }
     ensures named { (start : Start) (entries : List Entry) →
         IsLegal start entries → All (λ f. in_flight start entries f.queue f.id ≡ Some f) (flight start entries) }
@@ -365,8 +388,9 @@ pub fn law_audits_keep_room_for_packets_in_flight()
 {}
 
 /// Where an audit keeps them, what takes a packet out of flight is never refused for want of room: a
-/// completion, a group that is owed a fault, a poll that is owed a failure, and the stop of a queue that has
-/// a barrier packet in flight are due what they are owed, and nothing is owed that refusal.
+/// completion, a group that is owed a fault, a poll that is owed a failure, the stop of a queue that has a
+/// barrier packet in flight, and the close of one that has a packet in flight are due what they are owed, and
+/// nothing is owed that refusal.
 pub fn law_what_leaves_flight_finds_room()
     ensures completion { (history : History) (queue : QueueId) (id : PacketId) → HasRoom history → FindsRoom history (Call (Finish queue id)) }
     ensures fault { (history : History) (queue : QueueId) (id : PacketId) (error : QueueError) (effects : List Effect) → HasRoom history →
@@ -375,6 +399,8 @@ pub fn law_what_leaves_flight_finds_room()
         owed (beginning history) history.entries (Call (Poll queue id)) ≡ enters (outcome.Polled (polled.Failed error)) effects → FindsRoom history (Call (Poll queue id)) }
     ensures stop { (history : History) (queue : QueueId) (barrier : PacketId) → HasRoom history →
         barrier_in (flight_of (beginning history) history.entries queue) ≡ Some barrier → FindsRoom history (Call (Stop queue)) }
+    ensures close { (history : History) (queue : QueueId) (flying : InFlight) → HasRoom history →
+        Contains (flight_of (beginning history) history.entries queue) flying → FindsRoom history (Call (Close queue)) }
     ensures owes { (start : Start) (entries : List Entry) (event : Event) → owed start entries event ≡ refuses refusal.AuditFull → ⊥ }
 {}
 

@@ -4,7 +4,7 @@
 /// launches nothing more after the first, and each packet in flight leaves one at the most.
 pub const MOST_IN_FLIGHT: usize = 8;
 
-/// How many queues are opened at the most.
+/// How many queues are open at the most.
 pub const QUEUES: usize = 64;
 
 /// How many bytes a client reads or writes in one call at the most.

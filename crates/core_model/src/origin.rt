@@ -5,7 +5,7 @@ ghost use Rattle.core_model.specs.History.{policy_in};
 ghost use Rattle.core_model.specs.Legal.{SameOrigin};
 
 use crate::flight::{InFlight, Progress};
-use aql_packet::{AgentHandle, ClientId};
+use aql_packet::{AgentHandle, ClientId, QueueId};
 use grants::Grants;
 use policy::{Policy, PolicyRows};
 use queue_error::QueueError;
@@ -23,9 +23,11 @@ pub struct Opening {
     pub agent: AgentHandle,
 }
 
-/// A queue, as a history begins with it.
+/// An open queue, as a history begins with it.
 #[derive(Debug, Drop, PartialEq, Eq)]
 pub struct QueueOrigin {
+    /// Its number.
+    pub queue: QueueId,
     pub opening: Opening,
     /// The id of its next packet.
     pub next: u64,
@@ -56,7 +58,9 @@ pub struct Origin {
     pub memory: Regions,
     /// The values of the signals.
     pub signals: Signals,
-    /// The queues, of which the first is queue 1.
+    /// How many queues were ever opened: the next that is opened has the number behind.
+    pub opened: u64,
+    /// The open queues, in the order in which they were opened.
     pub queues: Sequence<QueueOrigin>,
     /// The packets in flight, in the order of their launches.
     pub packets: Sequence<PacketOrigin>,
@@ -70,6 +74,7 @@ impl QueueOrigin {
         ensures { IfOk result (λ copy. copy ≡ self.now) }
     {
         Ok(QueueOrigin {
+            queue: self.queue,
             opening: self.opening,
             next: self.next,
             stopped: self.stopped,
@@ -102,6 +107,7 @@ impl Origin {
             grants: self.grants.copy(alloc)?,
             memory: self.memory.copy(alloc)?,
             signals: self.signals.copy(alloc)?,
+            opened: self.opened,
             queues: copy_queues(alloc, self.queues.as_slice())?,
             packets: copy_packets(alloc, self.packets.as_slice())?,
             before: self.before,
@@ -117,6 +123,7 @@ impl Origin {
             & self.grants.is_same(&other.grants)
             & self.memory.is_same(&other.memory)
             & self.signals.is_same(&other.signals)
+            & (self.opened == other.opened)
             & are_same_queues(self.queues.as_slice(), other.queues.as_slice())
             & are_same_packets(self.packets.as_slice(), other.packets.as_slice())
             & (self.before == other.before)

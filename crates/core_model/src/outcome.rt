@@ -59,7 +59,7 @@ pub enum Polled {
 /// What an event came to.
 #[derive(Clone, Copy, Debug, PartialEq, Eq)]
 pub enum Outcome {
-    /// A grant, a revocation, a stop, a completion or a write was made.
+    /// A grant, a revocation, a stop, a close, a completion or a write was made.
     Accepted,
     /// A queue was opened under this number.
     Opened(QueueId),

@@ -41,7 +41,7 @@ module _ (i : GroupInput) (location : Location) (count : ℕ) (first : Contents)
   failed_as (fault.Fault f) fails = (leads_begun (faulted f) fails, comes_to (faulted f) tt fails)
 
 -- no more of a product than of the product of what its factors are at the most
-product_le : (a b c x y z : ℕ) → a ≤ x → b ≤ y → c ≤ z → a * b * c ≤ x * y * z
+pub product_le : (a b c x y z : ℕ) → a ≤ x → b ≤ y → c ≤ z → a * b * c ≤ x * y * z
 product_le a b c x y z p q r =
     let first : a * b ≤ x * b = mul-le-mul_right b p in
     let second : x * b ≤ x * y = mul-le-mul_left x q in

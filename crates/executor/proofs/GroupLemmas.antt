@@ -23,17 +23,17 @@ abbrev pub behind_all : List Standing → Advance → Advance
 behind_all [] next = next
 behind_all (s ∷ rest) next = behind s (behind_all rest next)
 
-stepped_behind : (earlier items : List Standing) (m : Contents) → behind_all earlier (stepped items m) ≡ stepped (earlier ++ items) m
+pub stepped_behind : (earlier items : List Standing) (m : Contents) → behind_all earlier (stepped items m) ≡ stepped (earlier ++ items) m
 stepped_behind [] items m = refl
 stepped_behind (s ∷ rest) items m = ap (behind s) (stepped_behind rest items m)
 
-failed_behind : (earlier : List Standing) (f : ItemFault) → behind_all earlier (failed f) ≡ failed f
+pub failed_behind : (earlier : List Standing) (f : ItemFault) → behind_all earlier (failed f) ≡ failed f
 failed_behind [] f = refl
 failed_behind (s ∷ rest) f = ap (behind s) (failed_behind rest f)
 
 module _ (a : Surroundings) (p : Program) where
   -- the least item that can take a turn is the first behind those that can't
-  advance_after : (earlier : List Standing) (first n : ℕ) (i : Item) (executed : ℕ) (rest : List Standing) (m : Contents) → AreStopped earlier → first + length earlier ≡ n
+  pub advance_after : (earlier : List Standing) (first n : ℕ) (i : Item) (executed : ℕ) (rest : List Standing) (m : Contents) → AreStopped earlier → first + length earlier ≡ n
       → advance a p first (earlier ++ ready i executed ∷ rest) m
       ≡ behind_all earlier (taken n (slice_index p.lines i.next) executed rest (turn (context_of_item a n) p.steps i executed m))
   advance_after [] first n i executed rest m are e =

@@ -15,3 +15,10 @@ mod GroupEnds
 mod ReadBytes
 mod WordLemmas
 mod RightRuns
+mod Layers
+mod LockLemmas
+mod GlobalFootprints
+mod GroupFootprints
+mod AtomicFootprints
+mod TurnFootprints
+mod OrderedRuns

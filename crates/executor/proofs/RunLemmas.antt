@@ -12,7 +12,8 @@ use Rattle.std.proofs.lemmas.Bool.{cases_lt, lt-ltb, le-ltb}
 use Rattle.std.proofs.lemmas.Bool.Decides.{nat_tests}
 use Rattle.executor.specs.declared.written_range.WrittenRange.{WrittenRange}
 use Rattle.executor.specs.Written.{laid, all_laid, end_of, nothing, AreRuns}
-use Rattle.executor.specs.inner.Pages.{in_blocks, byte_at, region_byte}
+use Rattle.std.proofs.lemmas.Nat.Bits.{bit_at-zero}
+use Rattle.executor.specs.inner.Pages.{in_blocks, byte_at, page_byte, region_byte}
 use Rattle.executor.specs.Told.{noted, runs_below, runs_of, with_byte}
 use Rattle.executor.specs.inner.Told.{adjoins_last, Ascends, Follows, Told, Agrees, Gathers}
 use Rattle.executor.proofs.OnlyRuns.{only_runs}
@@ -157,6 +158,20 @@ gathers_gap base size place part before runs so_far inside lacks = λ at told ag
     told_skipped at (base + place) (base + (place + 1)) runs (omega arith)
     (λ x p q. let e : x ≡ base + place = omega arith in ap at e ∙ (agrees place inside ∙ lacks))
     (so_far at told agrees)
+
+-- a page without a byte, and what it adds
+pub untouched : (page : Page) → page.mask ≡ 0 → (x : ℕ) → page_byte page x ≡ None
+untouched page is x = rw (is, bit_at-zero x) refl
+
+pub gathers_nothing : (base size : ℕ) (part : ℕ → Option ℕ) (runs : List WrittenRange) → ((x : ℕ) → part x ≡ None)
+    → Gathers base size part size runs runs
+gathers_nothing base size part runs lacks = λ at told agrees.
+    told_skipped at base (base + size) runs (omega arith)
+    (λ x p q.
+    let e : x ≡ base + (x - base) = omega arith in
+    let inside : x - base < size = omega arith in
+    ap at e ∙ (agrees (x - base) inside ∙ lacks (x - base)))
+    told
 
 module _ {Block : Type 0} (byte_of : Block → ℕ → Option ℕ) (size : ℕ) (is : IsSize size) (base whole : ℕ) (blocks : List Block) where
   -- one more block

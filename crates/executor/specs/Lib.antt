@@ -16,4 +16,6 @@ pub mod Group
 pub mod Runs
 pub mod Results
 pub mod Laws
+pub mod Footprints
+pub mod LockStep
 pub mod inner

@@ -40,7 +40,7 @@ pub enum Outcome {
 
 /// What an argument has, as its type reads it.
 #[inline(always)]
-fn argument(arguments: &[u8], step: &ArgumentStep) -> u64
+pub fn argument(arguments: &[u8], step: &ArgumentStep) -> u64
     requires { step.now.offset + number_bytes step.now.kind ≤ length arguments.now }
     ensures { result ≡ converted step.now.kind step.now.kind
         (little_number (number_bytes step.now.kind) (drop step.now.offset arguments.now)) }

@@ -1,317 +1,112 @@
 //! A flat step of one work-item.
-ghost use Rattle.std.specs.Prelude.{◌≡◌, ◌+◌, ◌<◌, ◌^◌, Some, if◌then◌else◌};
-ghost use Rattle.kernel_check.specs.Flat.{both, with_constant, both_shift, shift_with_constant, both_compared, compared_with_constant, control_step, single_step, double_step, register_and, plain};
-ghost use Rattle.kernel_check.specs.declared.flat.FlatStep.TheVariants as flat;
-ghost use Rattle.kernel_check.specs.declared.step.Source.TheVariants as source;
-ghost use Rattle.kernel_check.specs.declared.step.Step.TheVariants as step_arm;
-ghost use Rattle.executor.specs.Registers.{read1};
+ghost use Rattle.std.specs.Prelude.{◌<◌, ◌^◌};
+ghost use Rattle.kernel_check.specs.Flat.{plain};
 ghost use Rattle.executor.specs.inner.Flat.{Goes};
 ghost use Rattle.executor.specs.inner.Held.{contents, surroundings};
 
-use crate::access::{self, StoreError};
-use crate::address::address_of;
-use crate::conversion::{bytes_of, convert};
+use crate::flat_accesses::{
+    answer, group_load_double, group_load_single, load_double, load_single, store,
+};
+use crate::flat_bits::{and1, choose1, compare1, or1, xor1};
+use crate::flat_reach::reach;
+use crate::flat_sources::{
+    both, both_compared, both_shift, compared_with_constant, kind8, kind16, kind32, kind64,
+    register_and, shift_with_constant, triple, with_constant,
+};
+use crate::flat_values::{
+    branch, calculate32, calculate64, choose32, choose64, convert_step, mad32_of, mad64_of, run1,
+    run32, run64, widen,
+};
 use crate::item::ItemContext;
 use crate::memory::Memory;
 use crate::registers::Registers;
-use crate::values::{value1, value32, value64};
-use hsail_reader::Comparison;
 use kernel_check::{
-    AnyRegister, AnySource, Compare, ControlOperation, DoubleOperation, FlatStep, LoadStep,
-    NumberType, Pair, Pointer, RegisterNumber, Shift64, SingleOperation, Source, StoreStep, Triple,
+    AnyRegister, AnySource, ControlOperation, ConvertStep, DoubleOperation, FlatStep, NumberType,
+    SingleOperation, Source, StoreStep,
 };
-use queue_error::Rule;
+use queue_error::{Rule, SegmentAddress};
 use std::alloc::Global;
 
 /// What comes of a flat step.
 #[derive(Clone, Copy)]
 pub enum Gone {
-    /// The item goes on at a step.
+    /// The item goes on at the next step.
+    Onward,
+    /// It goes on at a step.
     Next(usize),
-    /// It broke a rule by an access to an address of global memory.
-    Broke(Rule, u64),
+    /// It waits at a barrier, behind which its next step stands.
+    Arrived,
+    Ended,
+    /// It broke a rule by an access to an address.
+    Broke(Rule, SegmentAddress),
     OutOfMemory,
     /// Nothing: the step has no flat form.
     Other,
 }
 
-/// Two registers as sources.
-#[inline(always)]
-fn both<N>(left: RegisterNumber, right: RegisterNumber) -> Pair<Source<N>>
-    ensures { result ≡ both left right }
-{
-    Pair {
-        left: Source::Register(left),
-        right: Source::Register(right),
-    }
-}
-
-/// A register, with a constant behind.
-#[inline(always)]
-fn with_constant<N>(left: RegisterNumber, constant: N) -> Pair<Source<N>>
-    ensures { result ≡ with_constant left constant }
-{
-    Pair {
-        left: Source::Register(left),
-        right: Source::Constant(constant),
-    }
-}
-
-/// Two registers as the sources of a shift of 64 bits.
-#[inline(always)]
-fn both_shift(left: RegisterNumber, right: RegisterNumber) -> Shift64
-    ensures { result ≡ both_shift left right }
-{
-    Shift64 {
-        value: Source::Register(left),
-        count: Source::Register(right),
-    }
-}
-
-/// A register that a shift of 64 bits moves by a constant.
-#[inline(always)]
-fn shift_with_constant(left: RegisterNumber, constant: u32) -> Shift64
-    ensures { result ≡ shift_with_constant left constant }
-{
-    Shift64 {
-        value: Source::Register(left),
-        count: Source::Constant(constant),
-    }
-}
-
-/// Two registers that are compared.
-#[inline(always)]
-fn both_compared<N>(
-    comparison: Comparison,
-    left: RegisterNumber,
-    right: RegisterNumber,
-) -> Compare<Source<N>>
-    ensures { result ≡ both_compared comparison left right }
-{
-    Compare {
-        comparison,
-        left: Source::Register(left),
-        right: Source::Register(right),
-    }
-}
-
-/// A register that is compared with a constant.
-#[inline(always)]
-fn compared_with_constant<N>(
-    comparison: Comparison,
-    left: RegisterNumber,
-    constant: N,
-) -> Compare<Source<N>>
-    ensures { result ≡ compared_with_constant comparison left constant }
-{
-    Compare {
-        comparison,
-        left: Source::Register(left),
-        right: Source::Constant(constant),
-    }
-}
-
-/// Puts what an operation comes to into a `$c` register, and goes on.
-#[inline(always)]
-fn run1(
-    context: &ItemContext<'_>,
-    r: &mut Registers,
-    next: usize,
-    memory: &Memory,
-    to: RegisterNumber,
-    operation: ControlOperation,
-) -> Gone
-    requires { next < 2 ^ 32 }
-    ensures { Goes (control_step to operation) (surroundings context.now) r.old next (contents memory.now) result r.new (contents memory.now) }
-{
-    let bit = value1(r, &operation);
-    r.set1(to, bit);
-    Gone::Next(next + 1)
-}
-
-/// Puts what an operation comes to into an `$s` register, and goes on.
-#[inline(always)]
-fn run32(
-    context: &ItemContext<'_>,
-    r: &mut Registers,
-    next: usize,
-    memory: &Memory,
-    to: RegisterNumber,
-    operation: SingleOperation,
-) -> Gone
-    requires { next < 2 ^ 32 }
-    ensures { Goes (single_step to operation) (surroundings context.now) r.old next (contents memory.now) result r.new (contents memory.now) }
-{
-    let bits = value32(r, &operation);
-    r.set32(to, bits);
-    Gone::Next(next + 1)
-}
-
-/// Puts what an operation comes to into a `$d` register, and goes on.
-#[inline(always)]
-fn run64(
-    context: &ItemContext<'_>,
-    r: &mut Registers,
-    next: usize,
-    memory: &Memory,
-    to: RegisterNumber,
-    operation: DoubleOperation,
-) -> Gone
-    requires { next < 2 ^ 32 }
-    ensures { Goes (double_step to operation) (surroundings context.now) r.old next (contents memory.now) result r.new (contents memory.now) }
-{
-    let bits = value64(r, &operation);
-    r.set64(to, bits);
-    Gone::Next(next + 1)
-}
-
-/// A flat step of 32 bits with two sources, by what puts them together.
+/// A flat step of 32 bits with two registers, by what puts them together.
 macro_rules! single {
-    ($context:ident, $r:ident, $next:ident, $memory:ident, $to:ident => $operation:ident, $sources:ident, $left:ident, $right:ident) => {
-        run32($context, $r, $next, $memory, *$to, SingleOperation::$operation($sources(*$left, *$right)))
+    ($context:ident, $r:ident, $next:ident, $memory:ident, $p:ident => $operation:ident, $sources:ident) => {
+        run32($context, $r, $next, $memory, $p.to, SingleOperation::$operation($sources($p.left, $p.right)))
     };
 }
 
-/// One of 64 bits.
+/// One with a constant of 32 bits behind.
+macro_rules! single_constant {
+    ($context:ident, $r:ident, $next:ident, $memory:ident, $p:ident => $operation:ident, $sources:ident) => {
+        run32($context, $r, $next, $memory, $p.to, SingleOperation::$operation($sources($p.left, $p.constant)))
+    };
+}
+
+/// `mad` of 32 bits.
+macro_rules! single_mad {
+    ($context:ident, $r:ident, $next:ident, $memory:ident, $to:expr => $first:expr, $second:expr, $third:expr) => {
+        run32($context, $r, $next, $memory, $to, SingleOperation::MultiplyAdd(triple($first, $second, $third)))
+    };
+}
+
+/// A flat step of 64 bits with two registers, by what puts them together.
 macro_rules! double {
-    ($context:ident, $r:ident, $next:ident, $memory:ident, $to:ident => $operation:ident, $sources:ident, $left:ident, $right:ident) => {
-        run64($context, $r, $next, $memory, *$to, DoubleOperation::$operation($sources(*$left, *$right)))
+    ($context:ident, $r:ident, $next:ident, $memory:ident, $p:ident => $operation:ident, $sources:ident) => {
+        run64($context, $r, $next, $memory, $p.to, DoubleOperation::$operation($sources($p.left, $p.right)))
     };
 }
 
-/// A flat comparison.
-macro_rules! compare {
-    ($context:ident, $r:ident, $next:ident, $memory:ident, $to:ident => $operation:ident, $sources:ident, $comparison:ident, $left:ident, $right:ident) => {
-        run1($context, $r, $next, $memory, *$to, ControlOperation::$operation($sources(*$comparison, *$left, *$right)))
+/// One with a constant of 32 bits behind.
+macro_rules! double_constant {
+    ($context:ident, $r:ident, $next:ident, $memory:ident, $p:ident => $operation:ident, $sources:ident) => {
+        run64($context, $r, $next, $memory, $p.to, DoubleOperation::$operation($sources($p.left, $p.constant)))
     };
 }
 
-/// The three sources of `mad`.
-#[inline(always)]
-fn triple<N>(first: Source<N>, second: Source<N>, third: Source<N>) -> Triple<Source<N>>
-    ensures { result ≡ record { first = first; second = second; third = third } }
-{
-    Triple {
-        first,
-        second,
-        third,
-    }
+/// `mad` of 64 bits.
+macro_rules! double_mad {
+    ($context:ident, $r:ident, $next:ident, $memory:ident, $to:expr => $first:expr, $second:expr, $third:expr) => {
+        run64($context, $r, $next, $memory, $to, DoubleOperation::MultiplyAdd(triple($first, $second, $third)))
+    };
 }
 
-/// `cvt_u64_u32` of a register.
-#[inline(always)]
-fn widen(
-    context: &ItemContext<'_>,
-    r: &mut Registers,
-    next: usize,
-    memory: &Memory,
-    to: RegisterNumber,
-    source: RegisterNumber,
-) -> Gone
-    requires { next < 2 ^ 32 }
-    ensures { Goes (plain (flat.Widen to source)) (surroundings context.now) r.old next (contents memory.now) result r.new (contents memory.now) }
-{
-    let bits = r.read32(Source::Register(source)) as u64;
-    r.set64(to, convert(NumberType::U32, NumberType::U64, bits));
-    Gone::Next(next + 1)
-}
-
-/// Where a branch on a register leads.
-#[inline(always)]
-fn branch(r: &Registers, next: usize, condition: RegisterNumber, other: usize) -> usize
-    requires { next < 2 ^ 32 }
-    ensures { result ≡ (if read1 r.now (source.Register condition) then other else next + 1) }
-{
-    if r.read1(Source::Register(condition)) {
-        other
-    } else {
-        next + 1
-    }
-}
-
-/// The place of an access: what a register has, and a number behind.
-#[inline(always)]
-fn register_and(base: RegisterNumber, offset: u64) -> Pointer
-    ensures { result ≡ register_and base offset }
-{
-    Pointer {
-        base: Some(base),
-        offset,
-    }
-}
-
-/// A load from global memory. What comes of it.
-#[inline(always)]
-fn load(
-    context: &ItemContext<'_>,
-    r: &mut Registers,
-    next: usize,
-    memory: &Memory,
-    step: &LoadStep,
-) -> Gone
-    requires { next < 2 ^ 32 }
-    ensures { Goes (Some (step_arm.Load step.now)) (surroundings context.now) r.old next (contents memory.now) result r.new (contents memory.now) }
-{
-    let address = address_of(r, step.pointer);
-    match access::load(context.view, &memory.written, address, bytes_of(step.kind)) {
-        Ok(value) => {
-            r.set_any(step.target, convert(step.kind, step.kind, value));
-            Gone::Next(next + 1)
-        }
-        Err(rule) => Gone::Broke(rule, address),
-    }
-}
-
-/// A store to global memory. What comes of it.
-#[inline(always)]
-fn store(
-    alloc: Global,
-    context: &ItemContext<'_>,
-    r: &Registers,
-    next: usize,
-    memory: &mut Memory,
-    step: &StoreStep,
-) -> Gone
-    requires { next < 2 ^ 32 }
-    ensures { Goes (Some (step_arm.Store step.now)) (surroundings context.now) r.now next (contents memory.old) result r.now (contents memory.new) }
-{
-    let address = address_of(r, step.pointer);
-    let value = r.read_any(step.source);
-    let size = bytes_of(step.kind);
-    match access::store(
-        alloc,
-        context.view,
-        &mut memory.written,
-        address,
-        size,
-        value,
-    ) {
-        Ok(()) => Gone::Next(next + 1),
-        Err(StoreError::Broke(rule)) => Gone::Broke(rule, address),
-        Err(StoreError::OutOfMemory) => Gone::OutOfMemory,
-    }
-}
-
-/// A flat load, by its type and the class of its target.
-macro_rules! load {
-    ($context:ident, $r:ident, $next:ident, $memory:ident, $to:ident, $base:ident, $offset:ident => $kind:ident, $class:ident) => {
-        load(
+/// `cvt`, by its types and the classes of its registers.
+macro_rules! conversion {
+    ($context:ident, $r:ident, $next:ident, $memory:ident, $to:expr, $source:expr => $from:expr, $kind:expr, $from_class:ident, $to_class:ident) => {
+        convert_step(
             $context,
             $r,
             $next,
             $memory,
-            &LoadStep {
-                kind: NumberType::$kind,
-                target: AnyRegister::$class(*$to),
-                pointer: register_and(*$base, *$offset),
+            &ConvertStep {
+                from: $from,
+                to: $kind,
+                target: AnyRegister::$to_class($to),
+                source: AnySource::$from_class(Source::Register($source)),
             },
         )
     };
 }
 
-/// A flat store, by its type and the class of its source.
+/// A store to global memory, by its type and its source.
 macro_rules! store {
-    ($alloc:ident, $context:ident, $r:ident, $next:ident, $memory:ident, $source:ident, $base:ident, $offset:ident => $kind:ident, $class:ident) => {
+    ($alloc:ident, $context:ident, $r:ident, $next:ident, $memory:ident => $kind:expr, $source:expr, $base:ident, $offset:expr) => {
         store(
             $alloc,
             $context,
@@ -319,9 +114,9 @@ macro_rules! store {
             $next,
             $memory,
             &StoreStep {
-                kind: NumberType::$kind,
-                source: AnySource::$class(Source::Register(*$source)),
-                pointer: register_and(*$base, *$offset),
+                kind: $kind,
+                source: $source,
+                pointer: register_and(*$base, $offset),
             },
         )
     };
@@ -341,316 +136,451 @@ pub fn go(
     ensures { Goes (plain flat.now) (surroundings context.now) r.old next (contents memory.old) result r.new (contents memory.new) }
 {
     match flat {
-        FlatStep::Other => Gone::Other,
-        FlatStep::Move32 { to, source } => {
-            run32(
-                context,
-                r,
-                next,
-                memory,
-                *to,
-                SingleOperation::Move(Source::Register(*source)),
-            )
-        }
-        FlatStep::Set32 { to, constant } => {
-            run32(
-                context,
-                r,
-                next,
-                memory,
-                *to,
-                SingleOperation::Move(Source::Constant(*constant)),
-            )
-        }
-        FlatStep::Add32 { to, left, right } =>
-            single!(context, r, next, memory, to => Add, both, left, right),
-        FlatStep::Add32Constant { to, left, constant } =>
-            single!(context, r, next, memory, to => Add, with_constant, left, constant),
-        FlatStep::Subtract32 { to, left, right } =>
-            single!(context, r, next, memory, to => Subtract, both, left, right),
-        FlatStep::Subtract32Constant { to, left, constant } =>
-            single!(context, r, next, memory, to => Subtract, with_constant, left, constant),
-        FlatStep::Multiply32 { to, left, right } =>
-            single!(context, r, next, memory, to => Multiply, both, left, right),
-        FlatStep::Multiply32Constant { to, left, constant } =>
-            single!(context, r, next, memory, to => Multiply, with_constant, left, constant),
-        FlatStep::And32 { to, left, right } =>
-            single!(context, r, next, memory, to => And, both, left, right),
-        FlatStep::And32Constant { to, left, constant } =>
-            single!(context, r, next, memory, to => And, with_constant, left, constant),
-        FlatStep::Or32 { to, left, right } =>
-            single!(context, r, next, memory, to => Or, both, left, right),
-        FlatStep::Or32Constant { to, left, constant } =>
-            single!(context, r, next, memory, to => Or, with_constant, left, constant),
-        FlatStep::Xor32 { to, left, right } =>
-            single!(context, r, next, memory, to => Xor, both, left, right),
-        FlatStep::Xor32Constant { to, left, constant } =>
-            single!(context, r, next, memory, to => Xor, with_constant, left, constant),
-        FlatStep::ShiftLeft32 { to, left, right } =>
-            single!(context, r, next, memory, to => ShiftLeft, both, left, right),
-        FlatStep::ShiftLeft32Constant { to, left, constant } =>
-            single!(context, r, next, memory, to => ShiftLeft, with_constant, left, constant),
-        FlatStep::ShiftRightUnsigned32 { to, left, right } =>
-            single!(context, r, next, memory, to => ShiftRightUnsigned, both, left, right),
-        FlatStep::ShiftRightUnsigned32Constant { to, left, constant } =>
-            single!(context, r, next, memory, to => ShiftRightUnsigned, with_constant, left, constant),
-        FlatStep::ShiftRightSigned32 { to, left, right } =>
-            single!(context, r, next, memory, to => ShiftRightSigned, both, left, right),
-        FlatStep::ShiftRightSigned32Constant { to, left, constant } =>
-            single!(context, r, next, memory, to => ShiftRightSigned, with_constant, left, constant),
-        FlatStep::MultiplyAdd32 {
+        FlatStep::Move32(p) => run32(
+            context,
+            r,
+            next,
+            memory,
+            p.to,
+            SingleOperation::Move(Source::Register(p.source)),
+        ),
+        FlatStep::Set32 { to, constant } => run32(
+            context,
+            r,
+            next,
+            memory,
+            *to,
+            SingleOperation::Move(Source::Constant(*constant)),
+        ),
+        FlatStep::Add32(p) => single!(context, r, next, memory, p => Add, both),
+        FlatStep::Add32Constant(p) =>
+            single_constant!(context, r, next, memory, p => Add, with_constant),
+        FlatStep::Subtract32(p) => single!(context, r, next, memory, p => Subtract, both),
+        FlatStep::Subtract32Constant(p) =>
+            single_constant!(context, r, next, memory, p => Subtract, with_constant),
+        FlatStep::Multiply32(p) => single!(context, r, next, memory, p => Multiply, both),
+        FlatStep::Multiply32Constant(p) =>
+            single_constant!(context, r, next, memory, p => Multiply, with_constant),
+        FlatStep::And32(p) => single!(context, r, next, memory, p => And, both),
+        FlatStep::And32Constant(p) =>
+            single_constant!(context, r, next, memory, p => And, with_constant),
+        FlatStep::Or32(p) => single!(context, r, next, memory, p => Or, both),
+        FlatStep::Or32Constant(p) =>
+            single_constant!(context, r, next, memory, p => Or, with_constant),
+        FlatStep::Xor32(p) => single!(context, r, next, memory, p => Xor, both),
+        FlatStep::Xor32Constant(p) =>
+            single_constant!(context, r, next, memory, p => Xor, with_constant),
+        FlatStep::ShiftLeft32(p) => single!(context, r, next, memory, p => ShiftLeft, both),
+        FlatStep::ShiftLeft32Constant(p) =>
+            single_constant!(context, r, next, memory, p => ShiftLeft, with_constant),
+        FlatStep::ShiftRightUnsigned32(p) =>
+            single!(context, r, next, memory, p => ShiftRightUnsigned, both),
+        FlatStep::ShiftRightUnsigned32Constant(p) =>
+            single_constant!(context, r, next, memory, p => ShiftRightUnsigned, with_constant),
+        FlatStep::ShiftRightSigned32(p) =>
+            single!(context, r, next, memory, p => ShiftRightSigned, both),
+        FlatStep::ShiftRightSigned32Constant(p) =>
+            single_constant!(context, r, next, memory, p => ShiftRightSigned, with_constant),
+        FlatStep::Calculate32(p) => calculate32(
+            context,
+            r,
+            next,
+            memory,
+            p.to,
+            p.operation,
+            both(p.left, p.right),
+        ),
+        FlatStep::Calculate32Constant {
+            operation,
             to,
-            first,
-            second,
-            third,
-        } => {
-            let sources = triple(
-                Source::Register(*first),
-                Source::Register(*second),
-                Source::Register(*third),
-            );
-            run32(
-                context,
-                r,
-                next,
-                memory,
-                *to,
-                SingleOperation::MultiplyAdd(sources),
-            )
-        }
+            left,
+            constant,
+        } => calculate32(
+            context,
+            r,
+            next,
+            memory,
+            *to,
+            *operation,
+            with_constant(*left, *constant),
+        ),
+        FlatStep::MultiplyAdd32(p) =>
+            single_mad!(context, r, next, memory, p.to => Source::Register(p.first), Source::Register(p.second), Source::Register(p.third)),
         FlatStep::MultiplyAdd32Constants {
             to,
             first,
             second,
             third,
-        } => {
-            let sources = triple(
-                Source::Register(*first),
-                Source::Constant(*second),
-                Source::Constant(*third),
-            );
-            run32(
-                context,
-                r,
-                next,
-                memory,
-                *to,
-                SingleOperation::MultiplyAdd(sources),
-            )
-        }
-        FlatStep::Move64 { to, source } => {
-            run64(
-                context,
-                r,
-                next,
-                memory,
-                *to,
-                DoubleOperation::Move(Source::Register(*source)),
-            )
-        }
-        FlatStep::Set64 { to, constant } => {
-            run64(
-                context,
-                r,
-                next,
-                memory,
-                *to,
-                DoubleOperation::Move(Source::Constant(*constant)),
-            )
-        }
-        FlatStep::Add64 { to, left, right } =>
-            double!(context, r, next, memory, to => Add, both, left, right),
-        FlatStep::Add64Constant { to, left, constant } =>
-            double!(context, r, next, memory, to => Add, with_constant, left, constant),
-        FlatStep::Subtract64 { to, left, right } =>
-            double!(context, r, next, memory, to => Subtract, both, left, right),
-        FlatStep::Subtract64Constant { to, left, constant } =>
-            double!(context, r, next, memory, to => Subtract, with_constant, left, constant),
-        FlatStep::Multiply64 { to, left, right } =>
-            double!(context, r, next, memory, to => Multiply, both, left, right),
-        FlatStep::Multiply64Constant { to, left, constant } =>
-            double!(context, r, next, memory, to => Multiply, with_constant, left, constant),
-        FlatStep::And64 { to, left, right } =>
-            double!(context, r, next, memory, to => And, both, left, right),
-        FlatStep::And64Constant { to, left, constant } =>
-            double!(context, r, next, memory, to => And, with_constant, left, constant),
-        FlatStep::Or64 { to, left, right } =>
-            double!(context, r, next, memory, to => Or, both, left, right),
-        FlatStep::Or64Constant { to, left, constant } =>
-            double!(context, r, next, memory, to => Or, with_constant, left, constant),
-        FlatStep::Xor64 { to, left, right } =>
-            double!(context, r, next, memory, to => Xor, both, left, right),
-        FlatStep::Xor64Constant { to, left, constant } =>
-            double!(context, r, next, memory, to => Xor, with_constant, left, constant),
-        FlatStep::ShiftLeft64 { to, left, right } =>
-            double!(context, r, next, memory, to => ShiftLeft, both_shift, left, right),
-        FlatStep::ShiftLeft64Constant { to, left, constant } =>
-            double!(context, r, next, memory, to => ShiftLeft, shift_with_constant, left, constant),
-        FlatStep::ShiftRightUnsigned64 { to, left, right } =>
-            double!(context, r, next, memory, to => ShiftRightUnsigned, both_shift, left, right),
-        FlatStep::ShiftRightUnsigned64Constant { to, left, constant } =>
-            double!(context, r, next, memory, to => ShiftRightUnsigned, shift_with_constant, left, constant),
-        FlatStep::ShiftRightSigned64 { to, left, right } =>
-            double!(context, r, next, memory, to => ShiftRightSigned, both_shift, left, right),
-        FlatStep::ShiftRightSigned64Constant { to, left, constant } =>
-            double!(context, r, next, memory, to => ShiftRightSigned, shift_with_constant, left, constant),
-        FlatStep::MultiplyAdd64 {
+        } =>
+            single_mad!(context, r, next, memory, *to => Source::Register(*first), Source::Constant(*second), Source::Constant(*third)),
+        FlatStep::MultiplyAdd32Of {
             to,
             first,
             second,
             third,
-        } => {
-            let sources = triple(
-                Source::Register(*first),
-                Source::Register(*second),
-                Source::Register(*third),
-            );
-            run64(
-                context,
-                r,
-                next,
-                memory,
-                *to,
-                DoubleOperation::MultiplyAdd(sources),
-            )
-        }
+            constant,
+        } => mad32_of(
+            context, r, next, memory, *to, *first, *second, *third, *constant,
+        ),
+        FlatStep::Choose32 {
+            to,
+            condition,
+            one,
+            zero,
+            constant,
+        } => choose32(
+            context, r, next, memory, *to, *condition, *one, *zero, *constant,
+        ),
+        FlatStep::Move64(p) => run64(
+            context,
+            r,
+            next,
+            memory,
+            p.to,
+            DoubleOperation::Move(Source::Register(p.source)),
+        ),
+        FlatStep::Set64 { to, constant } => run64(
+            context,
+            r,
+            next,
+            memory,
+            *to,
+            DoubleOperation::Move(Source::Constant(*constant)),
+        ),
+        FlatStep::Add64(p) => double!(context, r, next, memory, p => Add, both),
+        FlatStep::Add64Constant { to, left, constant } => run64(
+            context,
+            r,
+            next,
+            memory,
+            *to,
+            DoubleOperation::Add(with_constant(*left, *constant)),
+        ),
+        FlatStep::Subtract64(p) => double!(context, r, next, memory, p => Subtract, both),
+        FlatStep::Subtract64Constant { to, left, constant } => run64(
+            context,
+            r,
+            next,
+            memory,
+            *to,
+            DoubleOperation::Subtract(with_constant(*left, *constant)),
+        ),
+        FlatStep::Multiply64(p) => double!(context, r, next, memory, p => Multiply, both),
+        FlatStep::Multiply64Constant { to, left, constant } => run64(
+            context,
+            r,
+            next,
+            memory,
+            *to,
+            DoubleOperation::Multiply(with_constant(*left, *constant)),
+        ),
+        FlatStep::And64(p) => double!(context, r, next, memory, p => And, both),
+        FlatStep::And64Constant { to, left, constant } => run64(
+            context,
+            r,
+            next,
+            memory,
+            *to,
+            DoubleOperation::And(with_constant(*left, *constant)),
+        ),
+        FlatStep::Or64(p) => double!(context, r, next, memory, p => Or, both),
+        FlatStep::Or64Constant { to, left, constant } => run64(
+            context,
+            r,
+            next,
+            memory,
+            *to,
+            DoubleOperation::Or(with_constant(*left, *constant)),
+        ),
+        FlatStep::Xor64(p) => double!(context, r, next, memory, p => Xor, both),
+        FlatStep::Xor64Constant { to, left, constant } => run64(
+            context,
+            r,
+            next,
+            memory,
+            *to,
+            DoubleOperation::Xor(with_constant(*left, *constant)),
+        ),
+        FlatStep::ShiftLeft64(p) => double!(context, r, next, memory, p => ShiftLeft, both_shift),
+        FlatStep::ShiftLeft64Constant(p) =>
+            double_constant!(context, r, next, memory, p => ShiftLeft, shift_with_constant),
+        FlatStep::ShiftRightUnsigned64(p) =>
+            double!(context, r, next, memory, p => ShiftRightUnsigned, both_shift),
+        FlatStep::ShiftRightUnsigned64Constant(p) =>
+            double_constant!(context, r, next, memory, p => ShiftRightUnsigned, shift_with_constant),
+        FlatStep::ShiftRightSigned64(p) =>
+            double!(context, r, next, memory, p => ShiftRightSigned, both_shift),
+        FlatStep::ShiftRightSigned64Constant(p) =>
+            double_constant!(context, r, next, memory, p => ShiftRightSigned, shift_with_constant),
+        FlatStep::Calculate64(p) => calculate64(
+            context,
+            r,
+            next,
+            memory,
+            p.to,
+            p.operation,
+            both(p.left, p.right),
+        ),
+        FlatStep::Calculate64Constant {
+            operation,
+            to,
+            left,
+            constant,
+        } => calculate64(
+            context,
+            r,
+            next,
+            memory,
+            *to,
+            *operation,
+            with_constant(*left, *constant),
+        ),
+        FlatStep::MultiplyAdd64(p) =>
+            double_mad!(context, r, next, memory, p.to => Source::Register(p.first), Source::Register(p.second), Source::Register(p.third)),
         FlatStep::MultiplyAdd64Constant {
             to,
             first,
             third,
             second,
-        } => {
-            let sources = triple(
-                Source::Register(*first),
-                Source::Constant(*second),
-                Source::Register(*third),
-            );
-            run64(
-                context,
-                r,
-                next,
-                memory,
-                *to,
-                DoubleOperation::MultiplyAdd(sources),
-            )
-        }
-        FlatStep::CompareUnsigned32 {
-            comparison,
-            to,
-            left,
-            right,
         } =>
-            compare!(context, r, next, memory, to => CompareUnsigned32, both_compared, comparison, left, right),
-        FlatStep::CompareUnsigned32Constant {
-            comparison,
+            double_mad!(context, r, next, memory, *to => Source::Register(*first), Source::Constant(*second), Source::Register(*third)),
+        FlatStep::MultiplyAdd64Of {
             to,
-            left,
+            first,
+            second,
+            third,
             constant,
-        } =>
-            compare!(context, r, next, memory, to => CompareUnsigned32, compared_with_constant, comparison, left, constant),
-        FlatStep::CompareUnsigned64 {
-            comparison,
+        } => mad64_of(
+            context, r, next, memory, *to, *first, *second, *third, *constant,
+        ),
+        FlatStep::Choose64 {
             to,
-            left,
-            right,
-        } =>
-            compare!(context, r, next, memory, to => CompareUnsigned64, both_compared, comparison, left, right),
+            condition,
+            one,
+            zero,
+            constant,
+        } => choose64(
+            context, r, next, memory, *to, *condition, *one, *zero, *constant,
+        ),
+        FlatStep::CompareUnsigned32(p) => run1(
+            context,
+            r,
+            next,
+            memory,
+            p.to,
+            ControlOperation::CompareUnsigned32(both_compared(p.comparison, p.left, p.right)),
+        ),
+        FlatStep::CompareUnsigned32Constant(p) => run1(
+            context,
+            r,
+            next,
+            memory,
+            p.to,
+            ControlOperation::CompareUnsigned32(compared_with_constant(
+                p.comparison,
+                p.left,
+                p.constant,
+            )),
+        ),
+        FlatStep::CompareSigned32(p) => run1(
+            context,
+            r,
+            next,
+            memory,
+            p.to,
+            ControlOperation::CompareSigned32(both_compared(p.comparison, p.left, p.right)),
+        ),
+        FlatStep::CompareSigned32Constant(p) => run1(
+            context,
+            r,
+            next,
+            memory,
+            p.to,
+            ControlOperation::CompareSigned32(compared_with_constant(
+                p.comparison,
+                p.left,
+                p.constant,
+            )),
+        ),
+        FlatStep::CompareUnsigned64(p) => run1(
+            context,
+            r,
+            next,
+            memory,
+            p.to,
+            ControlOperation::CompareUnsigned64(both_compared(p.comparison, p.left, p.right)),
+        ),
         FlatStep::CompareUnsigned64Constant {
             comparison,
             to,
             left,
             constant,
-        } =>
-            compare!(context, r, next, memory, to => CompareUnsigned64, compared_with_constant, comparison, left, constant),
-        FlatStep::CompareSigned32 {
-            comparison,
-            to,
-            left,
-            right,
-        } =>
-            compare!(context, r, next, memory, to => CompareSigned32, both_compared, comparison, left, right),
-        FlatStep::CompareSigned32Constant {
-            comparison,
-            to,
-            left,
-            constant,
-        } =>
-            compare!(context, r, next, memory, to => CompareSigned32, compared_with_constant, comparison, left, constant),
-        FlatStep::CompareSigned64 {
-            comparison,
-            to,
-            left,
-            right,
-        } =>
-            compare!(context, r, next, memory, to => CompareSigned64, both_compared, comparison, left, right),
+        } => run1(
+            context,
+            r,
+            next,
+            memory,
+            *to,
+            ControlOperation::CompareUnsigned64(compared_with_constant(
+                *comparison,
+                *left,
+                *constant,
+            )),
+        ),
+        FlatStep::CompareSigned64(p) => run1(
+            context,
+            r,
+            next,
+            memory,
+            p.to,
+            ControlOperation::CompareSigned64(both_compared(p.comparison, p.left, p.right)),
+        ),
         FlatStep::CompareSigned64Constant {
             comparison,
             to,
             left,
             constant,
+        } => run1(
+            context,
+            r,
+            next,
+            memory,
+            *to,
+            ControlOperation::CompareSigned64(compared_with_constant(
+                *comparison,
+                *left,
+                *constant,
+            )),
+        ),
+        FlatStep::And1 { to, left, right } => and1(context, r, next, memory, *to, *left, *right),
+        FlatStep::Or1 { to, left, right } => or1(context, r, next, memory, *to, *left, *right),
+        FlatStep::Xor1 { to, left, right } => xor1(context, r, next, memory, *to, *left, *right),
+        FlatStep::Choose1 {
+            to,
+            condition,
+            one,
+            zero,
+        } => choose1(context, r, next, memory, *to, *condition, *one, *zero),
+        FlatStep::Compare1 {
+            to,
+            comparison,
+            left,
+            right,
+        } => compare1(context, r, next, memory, *to, *comparison, *left, *right),
+        FlatStep::Widen(p) => widen(context, r, next, memory, p),
+        FlatStep::ConvertSingleToControl(p) =>
+            conversion!(context, r, next, memory, p.to, p.source => p.from, p.kind, Single, Control),
+        FlatStep::ConvertSingleToSingle(p) =>
+            conversion!(context, r, next, memory, p.to, p.source => p.from, p.kind, Single, Single),
+        FlatStep::ConvertSingleToDouble(p) =>
+            conversion!(context, r, next, memory, p.to, p.source => p.from, p.kind, Single, Double),
+        FlatStep::ConvertDoubleToControl(p) =>
+            conversion!(context, r, next, memory, p.to, p.source => p.from, p.kind, Double, Control),
+        FlatStep::ConvertDoubleToSingle(p) =>
+            conversion!(context, r, next, memory, p.to, p.source => p.from, p.kind, Double, Single),
+        FlatStep::ConvertDoubleToDouble(p) =>
+            conversion!(context, r, next, memory, p.to, p.source => p.from, p.kind, Double, Double),
+        FlatStep::Answer32(p) => answer(
+            context,
+            r,
+            next,
+            memory,
+            p.query,
+            AnyRegister::Single(p.to),
+            p.dimension,
+        ),
+        FlatStep::Answer64(p) => answer(
+            context,
+            r,
+            next,
+            memory,
+            p.query,
+            AnyRegister::Double(p.to),
+            p.dimension,
+        ),
+        FlatStep::Load8 {
+            sign,
+            to,
+            base,
+            offset,
+        } => load_single(context, r, next, memory, kind8(*sign), *to, *base, *offset),
+        FlatStep::Load16 {
+            sign,
+            to,
+            base,
+            offset,
+        } => load_single(context, r, next, memory, kind16(*sign), *to, *base, *offset),
+        FlatStep::Load32 {
+            sign,
+            to,
+            base,
+            offset,
+        } => load_single(context, r, next, memory, kind32(*sign), *to, *base, *offset),
+        FlatStep::Load64 {
+            sign,
+            to,
+            base,
+            offset,
+        } => load_double(context, r, next, memory, kind64(*sign), *to, *base, *offset),
+        FlatStep::Store8 {
+            sign,
+            source,
+            base,
+            offset,
         } =>
-            compare!(context, r, next, memory, to => CompareSigned64, compared_with_constant, comparison, left, constant),
-        FlatStep::Widen { to, source } => widen(context, r, next, memory, *to, *source),
-        FlatStep::LoadUnsigned8 { to, base, offset } =>
-            load!(context, r, next, memory, to, base, offset => U8, Single),
-        FlatStep::LoadSigned8 { to, base, offset } =>
-            load!(context, r, next, memory, to, base, offset => S8, Single),
-        FlatStep::LoadUnsigned16 { to, base, offset } =>
-            load!(context, r, next, memory, to, base, offset => U16, Single),
-        FlatStep::LoadSigned16 { to, base, offset } =>
-            load!(context, r, next, memory, to, base, offset => S16, Single),
-        FlatStep::LoadUnsigned32 { to, base, offset } =>
-            load!(context, r, next, memory, to, base, offset => U32, Single),
-        FlatStep::LoadSigned32 { to, base, offset } =>
-            load!(context, r, next, memory, to, base, offset => S32, Single),
-        FlatStep::LoadUnsigned64 { to, base, offset } =>
-            load!(context, r, next, memory, to, base, offset => U64, Double),
-        FlatStep::LoadSigned64 { to, base, offset } =>
-            load!(context, r, next, memory, to, base, offset => S64, Double),
-        FlatStep::StoreUnsigned8 {
+            store!(alloc, context, r, next, memory => kind8(*sign), AnySource::Single(Source::Register(*source)), base, *offset),
+        FlatStep::Store16 {
+            sign,
             source,
             base,
             offset,
-        } => store!(alloc, context, r, next, memory, source, base, offset => U8, Single),
-        FlatStep::StoreSigned8 {
+        } =>
+            store!(alloc, context, r, next, memory => kind16(*sign), AnySource::Single(Source::Register(*source)), base, *offset),
+        FlatStep::Store32 {
+            sign,
             source,
             base,
             offset,
-        } => store!(alloc, context, r, next, memory, source, base, offset => S8, Single),
-        FlatStep::StoreUnsigned16 {
+        } =>
+            store!(alloc, context, r, next, memory => kind32(*sign), AnySource::Single(Source::Register(*source)), base, *offset),
+        FlatStep::Store64 {
+            sign,
             source,
             base,
             offset,
-        } => store!(alloc, context, r, next, memory, source, base, offset => U16, Single),
-        FlatStep::StoreSigned16 {
-            source,
+        } =>
+            store!(alloc, context, r, next, memory => kind64(*sign), AnySource::Double(Source::Register(*source)), base, *offset),
+        FlatStep::LoadGroup8 {
+            sign,
+            to,
             base,
             offset,
-        } => store!(alloc, context, r, next, memory, source, base, offset => S16, Single),
-        FlatStep::StoreUnsigned32 {
-            source,
+        } => group_load_single(context, r, next, memory, kind8(*sign), *to, *base, *offset),
+        FlatStep::LoadGroup16 {
+            sign,
+            to,
             base,
             offset,
-        } => store!(alloc, context, r, next, memory, source, base, offset => U32, Single),
-        FlatStep::StoreSigned32 {
-            source,
+        } => group_load_single(context, r, next, memory, kind16(*sign), *to, *base, *offset),
+        FlatStep::LoadGroup32 {
+            sign,
+            to,
             base,
             offset,
-        } => store!(alloc, context, r, next, memory, source, base, offset => S32, Single),
-        FlatStep::StoreUnsigned64 {
-            source,
+        } => group_load_single(context, r, next, memory, kind32(*sign), *to, *base, *offset),
+        FlatStep::LoadGroup64 {
+            sign,
+            to,
             base,
             offset,
-        } => store!(alloc, context, r, next, memory, source, base, offset => U64, Double),
-        FlatStep::StoreSigned64 {
-            source,
-            base,
-            offset,
-        } => store!(alloc, context, r, next, memory, source, base, offset => S64, Double),
+        } => group_load_double(context, r, next, memory, kind64(*sign), *to, *base, *offset),
         FlatStep::Branch { next } => Gone::Next(*next),
         FlatStep::ConditionalBranch {
             condition,
             next: other,
         } => Gone::Next(branch(r, next, *condition, *other)),
+        FlatStep::Barrier => Gone::Arrived,
+        FlatStep::Return => Gone::Ended,
+        _ => reach(alloc, context, r, next, memory, flat),
     }
 }

@@ -41,7 +41,7 @@ pub fn atomic_begin_of(group: &[u8], address: u32, size: usize) -> Result<usize,
 }
 
 /// A load: what the bytes have, the lowest first, or the rule that it breaks.
-#[inline]
+#[inline(always)]
 pub fn load(group: &[u8], address: u32, size: usize) -> Result<u64, Rule>
     requires some { 1 ≤ size }
     requires few { size ≤ 8 }
@@ -66,7 +66,7 @@ pub fn put(group: &mut [u8], begin: usize, bytes: &[u8])
 }
 
 /// A store of a value's low bytes, the lowest first.
-#[inline]
+#[inline(always)]
 pub fn store(group: &mut [u8], address: u32, size: usize, value: u64) -> Result<(), Rule>
     requires { size ≤ 8 }
     ensures ok { OnOk result (group_stored group.old address size value ≡ Ok group.new) }

@@ -109,13 +109,24 @@ pub fn run_item(
         };
         left -= 1;
         match go(alloc, &own, &mut stopped.item.registers, next, memory, flat) {
+            Gone::Onward => next += 1,
             Gone::Next(after) => next = after,
+            Gone::Arrived => {
+                stopped.item.next = next + 1;
+                stopped.executed = BUDGET - left;
+                stopped.stop = Stop::Barrier;
+                return Ok(());
+            }
+            Gone::Ended => {
+                stopped.stop = Stop::End;
+                return Ok(());
+            }
             Gone::Broke(rule, address) => return Err(fault(
                 program,
                 number,
                 next,
                 rule,
-                Some(SegmentAddress::Global(address)),
+                Some(address),
             )),
             Gone::OutOfMemory => return Err(RunFault::OutOfMemory),
             Gone::Other => {

@@ -12,6 +12,11 @@ mod conversion;
 mod dispatch;
 mod fault;
 mod flat;
+mod flat_accesses;
+mod flat_bits;
+mod flat_reach;
+mod flat_sources;
+mod flat_values;
 mod group;
 mod group_access;
 mod held;
@@ -40,7 +45,8 @@ pub use group::{groups_along, run_group};
 pub use held::HeldRegion;
 pub use laws::{
     law_checked_kernels_run_right, law_groups_come_to_an_end, law_groups_read_where_they_may,
-    law_numbers_are_those_of_the_rules, law_writes_lie_in_held_regions,
+    law_lock_step_is_right, law_numbers_are_those_of_the_rules,
+    law_turns_touch_what_their_steps_name, law_writes_lie_in_held_regions,
 };
 pub use limits::{BUDGET, MOST_GROUP_ITEMS, MOST_SEGMENT_BYTES};
 pub use location::Extent;

@@ -1,5 +1,5 @@
 //! Pages of 64 bytes.
-ghost use Rattle.std.specs.Prelude.{◌≡◌, ◌+◌, ◌-◌, ◌^◌, ◌<◌, ◌≤◌, ℕ, Option, None, OnOk, length, take};
+ghost use Rattle.std.specs.Prelude.{◌≡◌, ◌+◌, ◌-◌, ◌^◌, ◌<◌, ◌≤◌, ℕ, Option, None, OnOk, length, take, ◌==◌};
 ghost use Rattle.std.specs.Int.{w64, to_le_bytes};
 ghost use Rattle.executor.specs.inner.Pages.{page_byte};
 ghost use Rattle.executor.specs.Written.{laid, seen};
@@ -121,6 +121,14 @@ impl Page {
         word::write(&mut self.bytes[place..], size, value);
     }
 
+    /// Whether nothing is written in it.
+    #[inline(always)]
+    fn is_untouched(&self) -> bool
+        ensures { result ≡ (self.now.mask == 0) }
+    {
+        self.mask == 0
+    }
+
     /// Adds the written bytes to runs of addresses below `base`, the page's first.
     pub fn add_runs(
         &self,
@@ -131,6 +139,9 @@ impl Page {
         requires { base + 64 ≤ 2 ^ 64 }
         ensures { OnOk result (Gathers base 64 (page_byte self.now) 64 runs.old.items runs.new.items) }
     {
+        if self.is_untouched() {
+            return Ok(());
+        }
         for place in 0..PAGE {
             if let Some(byte) = self.get(place) {
                 note(alloc, runs, base + place as u64, byte)?;

@@ -8,7 +8,7 @@ use kernel_check::{ControlOperation, DoubleOperation, SingleOperation};
 
 /// A bit as a number.
 #[inline(always)]
-fn bit(value: bool) -> u32
+pub fn bit(value: bool) -> u32
     ensures { result ≡ bit value }
 {
     if value { 1 } else { 0 }

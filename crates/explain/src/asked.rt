@@ -83,6 +83,17 @@ pub enum Verb {
     Serve,
 }
 
+/// The queue that a line asks something of; 0 where it asks nothing of one.
+pub fn queue_of(asked: Asked) -> QueueId {
+    match asked {
+        Asked::Flying { queue, .. }
+        | Asked::Producing { queue, .. }
+        | Asked::Processing { queue, .. }
+        | Asked::Queue { queue } => queue,
+        _ => QueueId(0),
+    }
+}
+
 // What a call asks.
 fn of_call(call: &Call) -> Asked {
     match call {
@@ -100,7 +111,7 @@ fn of_call(call: &Call) -> Asked {
             object: *object,
             rights: *rights,
         },
-        Call::Stop { queue } => Asked::Queue { queue: *queue },
+        Call::Stop { queue } | Call::Close { queue } => Asked::Queue { queue: *queue },
         Call::RunNext { queue, packet } => flying(*queue, *packet, Verb::Run),
         Call::Poll { queue, packet } => flying(*queue, *packet, Verb::Poll),
         Call::Finish { queue, packet } => flying(*queue, *packet, Verb::Finish),

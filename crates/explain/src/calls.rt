@@ -1,6 +1,6 @@
 //! Why a call was refused.
 
-use crate::asked::{Asked, Verb};
+use crate::asked::{Asked, Verb, queue_of};
 use crate::keys::rights_of;
 use crate::lacks::lacked;
 use crate::rings::{tell_dependencies, tell_holder};
@@ -32,9 +32,28 @@ fn tell_object(out: &mut String, scene: &Scene<'_>, object: Object) -> Result<()
     out.push_str("\n")
 }
 
-// No queue has the number.
-fn tell_queue(out: &mut String, scene: &Scene<'_>) -> Result<(), AllocError> {
-    let count = scene.core.table_sizes().queues;
+// By which entry a queue was closed, or at the latest.
+fn tell_closed(out: &mut String, scene: &Scene<'_>, queue: QueueId) -> Result<(), AllocError> {
+    let number = queue.0;
+    begin(out, scene)?;
+    match scene.known.close_of(queue) {
+        Some(entry) => writeln!(out, "queue {number} was closed by entry {entry}"),
+        None => {
+            let last = scene.core.start().before;
+            writeln!(
+                out,
+                "queue {number} was closed at the latest by entry {last}"
+            )
+        }
+    }
+}
+
+// No open queue has the number.
+fn tell_queue(out: &mut String, scene: &Scene<'_>, queue: QueueId) -> Result<(), AllocError> {
+    let count = scene.known.opened();
+    if 0 < queue.0 && queue.0 <= count {
+        return tell_closed(out, scene, queue);
+    }
     begin(out, scene)?;
     if count == 0 {
         return out.push_str("no queue is open: `queue CLIENT AGENT SIZE PRODUCERS` opens one\n");
@@ -360,7 +379,7 @@ pub fn tell_refusal(
             "memory was wanted and not to be had; all is as before",
         ),
         Refusal::UnknownClient => tell_client(out, scene),
-        Refusal::UnknownQueue => tell_queue(out, scene),
+        Refusal::UnknownQueue => tell_queue(out, scene, queue_of(asked)),
         Refusal::Denied(right) => tell_denied_call(out, scene, asked, *right),
         Refusal::Busy { queue, packet } => tell_holder(out, scene, *queue, *packet),
         Refusal::NotAllowed => tell_grant(out, scene, asked),
@@ -373,7 +392,7 @@ pub fn tell_refusal(
         Refusal::TooMany => say(
             out,
             scene,
-            "64 queues were opened, the most: use one of those",
+            "64 queues were opened that aren't closed, the most: use one of those, or `close` one",
         ),
         Refusal::OtherObjects => say(
             out,

@@ -1,6 +1,6 @@
 //! A packet that broke a rule, as the audit has it: it has left flight, so the core keeps nothing of it beside its error.
-//! A queue has at most eight errors, and there are at most 64 queues, so that the audit is looked at for 512 packets at the
-//! most in the life of a core, whatever a script asks; it is looked at from its end, up to the packet's launch.
+//! The audit is looked at from its end, up to the packet's launch. At most 512 packets are in flight at once, so that each
+//! entry is looked at for 512 packets at the most, whatever a script asks.
 
 use crate::scene::Scene;
 use aql_packet::{Packet, PacketId, QueueId, decode};

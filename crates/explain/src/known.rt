@@ -4,7 +4,7 @@ use crate::lacks::{Lack, lack_of, lacked, was_in_force};
 use crate::owners::owner;
 use access_core::AccessCore;
 use aql_packet::{ClientId, QueueId, SignalHandle};
-use core_model::{Effect, Entry, Event, Opening, Origin};
+use core_model::{Call, Effect, Entry, Event, Opening, Origin, Outcome};
 use policy::{Object, PolicyRows, Right};
 
 /// What is explained: a core as it is, which is asked, or entries behind what a core began from, as a journal has them, which
@@ -28,25 +28,65 @@ fn rows_behind<'a>(start: &'a Origin, entries: &'a [Entry]) -> &'a PolicyRows {
     start.grants.rows()
 }
 
-// Who opened the queue of a number, from 1, by what a history begins from and its entries.
-fn opening_told(start: &Origin, entries: &[Entry], queue: QueueId) -> Option<Opening> {
-    let mut number = start.queues.len() as u64;
-    if queue.0 <= number {
-        let place = (queue.0 as usize).wrapping_sub(1);
-        return Some(start.queues.as_slice().get(place)?.opening);
+// Whether an entry closed a queue.
+fn closed(entry: &Entry, queue: QueueId) -> bool {
+    match &entry.event {
+        Event::Call(Call::Close { queue: closed }) => *closed == queue,
+        _ => false,
     }
-    for entry in entries {
-        if let Event::Open { client, agent, .. } = &entry.event {
-            number = number.saturating_add(1);
-            if number == queue.0 {
-                return Some(Opening {
-                    client: *client,
-                    agent: *agent,
-                });
-            }
+}
+
+// The opening of a queue, if it is the one that an entry opened.
+fn opened_by(entry: &Entry, queue: QueueId) -> Option<Opening> {
+    match (&entry.event, &entry.outcome) {
+        (Event::Open { client, agent, .. }, Outcome::Opened(opened)) if *opened == queue => {
+            Some(Opening {
+                client: *client,
+                agent: *agent,
+            })
+        }
+        _ => None,
+    }
+}
+
+// Who opened a queue, by what a history begins from and its entries; none where it isn't open behind them.
+fn opening_told(start: &Origin, entries: &[Entry], queue: QueueId) -> Option<Opening> {
+    for entry in entries.iter().rev() {
+        if closed(entry, queue) {
+            return None;
+        }
+        if let Some(opening) = opened_by(entry, queue) {
+            return Some(opening);
+        }
+    }
+    for origin in start.queues.as_slice() {
+        if origin.queue == queue {
+            return Some(origin.opening);
         }
     }
     None
+}
+
+// The number of the entry that closed a queue, if it is one of these behind so many.
+fn close_told(before: u64, entries: &[Entry], queue: QueueId) -> Option<u64> {
+    let mut number = before.saturating_add(entries.len() as u64);
+    for entry in entries.iter().rev() {
+        if closed(entry, queue) {
+            return Some(number);
+        }
+        number = number.saturating_sub(1);
+    }
+    None
+}
+
+// How many queues were ever opened, by what a history begins from and its entries: the last has this number.
+fn opened_told(start: &Origin, entries: &[Entry]) -> u64 {
+    for entry in entries.iter().rev() {
+        if let Outcome::Opened(queue) = &entry.outcome {
+            return queue.0;
+        }
+    }
+    start.opened
 }
 
 // The value that an entry gives a signal, if it does.
@@ -121,6 +161,16 @@ impl<'a> Known<'a> {
             Known::Now(core) => owner(core, queue),
             Known::Told { core, entries } => opening_told(core.start(), entries, queue),
         }
+    }
+
+    /// How many queues were ever opened, those that were closed too.
+    pub fn opened(&self) -> u64 {
+        opened_told(self.core().start(), self.entries())
+    }
+
+    /// The number of the entry that closed a queue, if it is one of the entries so far; it is looked for among them.
+    pub fn close_of(&self, queue: QueueId) -> Option<u64> {
+        close_told(self.core().start().before, self.entries(), queue)
     }
 
     /// The value of a signal, if the policy declares it.

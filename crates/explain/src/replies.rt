@@ -1,6 +1,6 @@
 //! What is told beside the reply to a line.
 
-use crate::asked::Asked;
+use crate::asked::{Asked, queue_of};
 use crate::calls::tell_refusal;
 use crate::denied::tell_denied;
 use crate::faults::{tell_failed, tell_fault};
@@ -13,17 +13,6 @@ use core_model::{Answer, Outcome, Polled, Taken, Worked};
 use script::{LineAnswer, LineReply};
 use std::alloc::{AllocError, Global};
 use world::{Refusal, Sent, World};
-
-// The queue that a line asks something of; 0 where it asks nothing of one.
-fn queue_of(asked: Asked) -> QueueId {
-    match asked {
-        Asked::Flying { queue, .. }
-        | Asked::Producing { queue, .. }
-        | Asked::Processing { queue, .. }
-        | Asked::Queue { queue } => queue,
-        _ => QueueId(0),
-    }
-}
 
 // Why no packet was seen.
 fn empty(

@@ -215,14 +215,18 @@ fn tell_held_by(
     place: &Place,
 ) -> Result<(), AllocError> {
     tell_flying(out, scene, queue, place)?;
-    if !is_barrier(&place.packet) {
-        return Ok(());
-    }
     let number = queue.0;
+    if is_barrier(&place.packet) {
+        begin(out, scene)?;
+        writeln!(
+            out,
+            "`stop {number}` releases the queue's barrier packets too"
+        )?;
+    }
     begin(out, scene)?;
     writeln!(
         out,
-        "`stop {number}` releases the queue's barrier packets too"
+        "`close {number}` ends the queue, and releases all of its packets"
     )
 }
 

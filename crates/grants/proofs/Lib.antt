@@ -7,4 +7,5 @@ pub mod ListingLemmas
 pub mod LedgerLemmas
 pub mod ReloadLemmas
 pub mod CompareLemmas
+pub mod WeighLemmas
 pub mod LawLemmas

@@ -7,14 +7,14 @@ use Rattle.std.proofs.Math.Nat.{mul-le-mul_right}
 use Rattle.std.proofs.lemmas.Nat.{div-mul-add}
 use Rattle.grants.specs.Cells.{place_of}
 
-from_one : (n m : ℕ) → (nat_lt 0 n && nat_le n m) ≡ true → (0 < n) × (n ≤ m)
+pub from_one : (n m : ℕ) → (nat_lt 0 n && nat_le n m) ≡ true → (0 < n) × (n ≤ m)
 from_one n m h = let parts = both (nat_lt 0 n) (nat_le n m) h in (ltb-true 0 n parts.0, leb-true n m parts.1)
 
 module _ (rules : Rules) where
   pub in_row : (o : Object) → knows_object rules o ≡ true → object_place rules o < object_count rules
   in_row o h2 = grind arith
 
-  same_in_row : (o p : Object) → knows_object rules o ≡ true → knows_object rules p ≡ true → object_place rules o ≡ object_place rules p → o ≡ p
+  pub same_in_row : (o p : Object) → knows_object rules o ≡ true → knows_object rules p ≡ true → object_place rules o ≡ object_place rules p → o ≡ p
   same_in_row o p h3 h4 h5 = grind arith
 
   -- a place is one only for a declared client and object
@@ -36,7 +36,7 @@ module _ (rules : Rules) where
       let is = p.is in
       omega arith
 
-  same_row : (a b i j : ℕ) → i < object_count rules → j < object_count rules → a * object_count rules + i ≡ b * object_count rules + j → a ≡ b
+  pub same_row : (a b i j : ℕ) → i < object_count rules → j < object_count rules → a * object_count rules + i ≡ b * object_count rules + j → a ≡ b
   same_row a b i j h k e = sym (div-mul-add a (object_count rules) i h) ∙ ap (λ n. n / object_count rules) e ∙ div-mul-add b (object_count rules) j k
 
   pub place-same : (c : ClientId) (o : Object) (c' : ClientId) (o' : Object) (place : ℕ) → place_of rules c o ≡ Some place → place_of rules c' o' ≡ Some place → (c ≡ c') × (o ≡ o')
@@ -49,12 +49,12 @@ module _ (rules : Rules) where
 
 -- ---- a list with one item changed
 
-get-set_here : (cells : List Cell) (i : ℕ) (cell : Cell) → i < length cells → slice_get (slice_set cells i cell) i ≡ Some cell
+pub get-set_here : {X : Type 0} (cells : List X) (i : ℕ) (cell : X) → i < length cells → slice_get (slice_set cells i cell) i ≡ Some cell
 get-set_here [] i cell h = absurd (omega arith)
 get-set_here (x ∷ xs) zero cell h = refl
 get-set_here (x ∷ xs) (suc i) cell h = get-set_here xs i cell (omega arith)
 
-get-set_other : (cells : List Cell) (i j : ℕ) (cell : Cell) → (i ≡ j → ⊥) → slice_get (slice_set cells i cell) j ≡ slice_get cells j
+pub get-set_other : {X : Type 0} (cells : List X) (i j : ℕ) (cell : X) → (i ≡ j → ⊥) → slice_get (slice_set cells i cell) j ≡ slice_get cells j
 get-set_other [] i j cell other = refl
 get-set_other (x ∷ xs) zero zero cell other = absurd (other refl)
 get-set_other (x ∷ xs) zero (suc j) cell other = refl

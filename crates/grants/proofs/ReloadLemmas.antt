@@ -1,5 +1,5 @@
--- Rights that rows don't allow, taken out of force client by client and object by object, and holds of such rights.
-use Rattle.std.proofs.Common.{[], ◌≡◌, ℕ, zero, suc, ◌+◌, ◌<◌, ◌≤◌, ◌==◌, Bool, true, false, not, ◌&&◌, ◌||◌, List, ◌∷◌, take, get_or, length, Option, Some, None, refl, sym, ap, subst, ◌∙◌, arith, true≢false}
+-- Clients and objects by their numbers, and holds of rights that rows don't allow.
+use Rattle.std.proofs.Common.{[], ◌≡◌, ℕ, ◌+◌, ◌<◌, ◌≤◌, ◌==◌, Bool, true, false, not, ◌&&◌, ◌||◌, List, ◌∷◌, take, get_or, length, Option, Some, None, refl, sym, ap, subst, ◌∙◌, arith, true≢false}
 use Rattle.std.proofs.lemmas.Bool.Decides.{nat_tests}
 use Rattle.policy.specs.declared.object.Kind.{Kind}
 use Rattle.policy.specs.declared.object.Kind.TheVariants as kind
@@ -9,28 +9,13 @@ use Rattle.policy.specs.declared.rows.PolicyRows.{PolicyRows}
 use Rattle.policy.specs.Object.{kind_of, number_of, same_kind, same_object}
 use Rattle.policy.specs.Rules.{rows_allow}
 use Rattle.grants.specs.Cells.{place_of}
-use Rattle.grants.specs.Ledger.{HoldsDenied, IsBlockedBy, Reloads}
+use Rattle.grants.specs.Ledger.{IsBlockedBy}
 use Rattle.grants.specs.declared.hold.Hold.{Hold}
-use Rattle.grants.specs.inner.Counts.{SameCounts}
-use Rattle.grants.specs.inner.Reloading.{TakesDenied, of_kind_up_to, of_kind, of_client, of_clients_up_to, of_all, is_denied, has_denied}
-use Rattle.grants.proofs.Terms.{Cell, ClientId, IsFirstTo, IsUpTo, Ledger, Object, PacketId, QueueId, Right, Rights, Rules, Table, both, cell_of, count, each_right, each_right-has, has, has_right, in_table, is_held, is_hold, is_on, is_one_of, item_at}
-use Rattle.grants.proofs.Terms.{knows_client, knows_object, leb-true, list_any, list_any_more, nat_le, nat_lt, object_of, same_packet, same_pair, same_pair_is, same_pair_itself}
+use Rattle.grants.specs.inner.Reloading.{of_kind_up_to, of_kind, of_client, of_clients_up_to, of_all, is_denied, has_denied}
+use Rattle.grants.proofs.Terms.{ClientId, IsFirstTo, Ledger, Object, PacketId, QueueId, Right, Rights, Rules, Table, both, count, each_right, each_right-has, has, has_right, in_table, is_held, is_hold, is_on, item_at}
+use Rattle.grants.proofs.Terms.{knows_client, knows_object, leb-true, list_any_more, nat_le, nat_lt, object_of, same_packet, same_pair, same_pair_is, same_pair_itself}
 use Rattle.grants.proofs.PlaceLemmas.{place-Some}
 use Rattle.grants.proofs.LedgerLemmas.{ledger}
-
--- ---- tests
-
-and-true : (a : Bool) → a ≡ (a && true)
-and-true true = refl
-and-true false = refl
-
-twice : (i s t p : Bool) → ((i && (not s || p)) && (not t || p)) ≡ (i && (not (s || t) || p))
-twice false s t p = refl
-twice true false t p = refl
-twice true true true true = refl
-twice true true true false = refl
-twice true true false true = refl
-twice true true false false = refl
 
 -- ---- what is in force is declared
 
@@ -40,67 +25,6 @@ known-at table c o right h = by_place (place_of table.rules c o) refl
     by_place : (at : Option ℕ) → place_of table.rules c o ≡ at → (knows_client table.rules c ≡ true) × (knows_object table.rules o ≡ true)
     by_place None is = absurd (true≢false (sym h ∙ ap (λ at. has_right right (item_at table.cells at)) is))
     by_place (Some place) is = let p = place-Some table.rules c o place is in (p.client, p.object)
-
--- ---- steps
-
-module _ (rows : PolicyRows) where
-  -- nothing is taken
-  pub takes-none : (table : Table) → TakesDenied rows (λ _ _. false) table table
-  takes-none table = record { kept = λ c o right. and-true (in_table table c o right); counts = record { same_rules = refl; same_counts = λ c o right. refl } }
-
-  -- a test that is the same for all that is declared
-  pub takes-as : (test test' : ClientId → Object → Bool) (old new : Table)
-      → ((c : ClientId) (o : Object) → knows_client old.rules c ≡ true → knows_object old.rules o ≡ true → test' c o ≡ test c o) → TakesDenied rows test old new → TakesDenied rows test' old new
-  takes-as test test' old new same t = record { kept = λ c o right. by_test c o right (in_table old c o right) refl; counts = t.counts }
-    where
-      by_test : (c : ClientId) (o : Object) (right : Right) (b : Bool) → in_table old c o right ≡ b → in_table new c o right ≡ (in_table old c o right && (not (test' c o) || rows_allow rows c o right))
-      by_test c o right true is =
-          let known = known-at old c o right is in
-          t.kept c o right ∙ ap (λ b. in_table old c o right && (not b || rows_allow rows c o right)) (sym (same c o known.0 known.1))
-      by_test c o right false is = t.kept c o right ∙ ap (λ b. b && (not (test c o) || rows_allow rows c o right)) is ∙ sym (ap (λ b. b && (not (test' c o) || rows_allow rows c o right)) is)
-
-  -- one step after another
-  pub takes-then : (s t : ClientId → Object → Bool) (old mid new : Table) → TakesDenied rows s old mid → TakesDenied rows t mid new → TakesDenied rows (λ c o. s c o || t c o) old new
-  takes-then s t old mid new first second = record {
-    kept = λ c o right. second.kept c o right ∙ ap (λ b. b && (not (t c o) || rows_allow rows c o right)) (first.kept c o right) ∙ twice (in_table old c o right) (s c o) (t c o) (rows_allow rows c o right);
-    counts = record {
-      same_rules = second.counts.same_rules ∙ first.counts.same_rules;
-      same_counts = λ c o right. second.counts.same_counts c o right ∙ first.counts.same_counts c o right;
-    };
-  }
-
-  -- ---- one cell
-
-  left-of : (h a : Bool) → (h && not (h && not a)) ≡ (h && a)
-  left-of true true = refl
-  left-of true false = refl
-  left-of false a = refl
-
-  pub takes-cell : (old new : Table) (c : ClientId) (o : Object) (cell : Cell) (allowed denied : Rights) → cell_of old c o ≡ Some cell
-      → ((right : Right) → has allowed right ≡ rows_allow rows c o right) → ((right : Right) → has denied right ≡ (has cell.rights right && not (has allowed right)))
-      → ((c' : ClientId) (o' : Object) (right : Right) → in_table new c' o' right ≡ (in_table old c' o' right && not (is_one_of c' o' right c o denied)))
-      → SameCounts old new → TakesDenied rows (λ c' o'. same_pair c' o' c o) old new
-  takes-cell old new c o cell allowed denied at may is taken counts = record { kept = λ c' o' right. by_test c' o' right (same_pair c' o' c o) refl; counts = counts }
-    where
-      here : (right : Right) → in_table new c o right ≡ (in_table old c o right && (not true || rows_allow rows c o right))
-      here right =
-          let was : in_table old c o right ≡ has cell.rights right = ap (has_right right) at in
-          taken c o right ∙ ap (λ b. in_table old c o right && not (b && has denied right)) (same_pair_itself c o)
-          ∙ ap (λ b. in_table old c o right && not b) (is right ∙ ap (λ b. has cell.rights right && not b) (may right))
-          ∙ ap (λ b. b && not (has cell.rights right && not (rows_allow rows c o right))) was
-          ∙ left-of (has cell.rights right) (rows_allow rows c o right) ∙ ap (λ b. b && rows_allow rows c o right) (sym was)
-
-      by_test : (c' : ClientId) (o' : Object) (right : Right) (same : Bool) → same_pair c' o' c o ≡ same
-          → in_table new c' o' right ≡ (in_table old c' o' right && (not (same_pair c' o' c o) || rows_allow rows c' o' right))
-      by_test c' o' right true same =
-          let these = same_pair_is c' o' c o same in
-          ap (λ b. in_table new c' o' right) same
-          ∙ (λ i. in_table new (these.0 i) (these.1 i) right) ∙ here right
-          ∙ (λ i. in_table old (sym these.0 i) (sym these.1 i) right && (not true || rows_allow rows (sym these.0 i) (sym these.1 i) right))
-          ∙ ap (λ b. in_table old c' o' right && (not b || rows_allow rows c' o' right)) (sym same)
-      by_test c' o' right false same =
-          taken c' o' right ∙ ap (λ b. in_table old c' o' right && not (b && has denied right)) same
-          ∙ ap (λ b. in_table old c' o' right && (not b || rows_allow rows c' o' right)) (sym same)
 
 -- ---- tests of keys
 
@@ -283,20 +207,6 @@ module _ (rows : PolicyRows) where
       at (Some x) some =
           let d = held-denied list x.0 x.1 some.0 in
           (record { client = d.client; object = d.object; right = d.right; held = d.held; denied = d.denied }, λ q p e. some.1 q p (denied-held list q p e.client e.object e.right e.held e.denied))
-
-  -- all that isn't allowed taken, and the rows put in the place of those before
-  pub reloads : (table after new : Table) (list : List Hold) (room : ℕ) (old : Ledger) → ledger table list room ≡ old → TakesDenied rows of_all table after
-      → new ≡ record after { rules = record after.rules { rows = rows } } → Reloads old (ledger new list room) rows
-  reloads table after new list room old view taken is = subst (λ g. Reloads g (ledger new list room) rows) view (subst (λ t. Reloads (ledger table list room) (ledger t list room) rows) (sym is) made)
-    where
-      made : Reloads (ledger table list room) (ledger (record after { rules = record after.rules { rows = rows } }) list room) rows
-      made = record {
-        kept = λ c o right. taken.kept c o right;
-        rules = ap (λ (r : Rules). record r { rows = rows }) taken.counts.same_rules;
-        same_holds = λ q p c o right. refl;
-        same_room = refl;
-        same_places = refl;
-      }
 
 -- one more hold, in a walk for the first denied
 module _ (rows : PolicyRows) (holds : List Hold) (i : ℕ) (d : Hold) (within : i < length holds) where

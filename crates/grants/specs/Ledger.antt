@@ -152,6 +152,10 @@ IsBlockedBy grants rows None = (queue : QueueId) (packet : PacketId) (client : C
 IsBlockedBy grants rows (Some first) =
     HoldsDenied grants rows first.0 first.1 × ((queue : QueueId) (packet : PacketId) → HoldsDenied grants rows queue packet → IsUpTo first.0 first.1 queue packet)
 
+-- these rows allow all that is in force
+abbrev pub AllowsInForce : Ledger → PolicyRows → Type 0
+AllowsInForce grants rows = (client : ClientId) (object : Object) (right : Right) → in_force grants client object right ≡ true → rows_allow rows client object right ≡ true
+
 -- ---- the same grants
 
 -- the copy has the same in force and held, and the same rules; only the room for further holds may be another

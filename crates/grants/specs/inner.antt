@@ -3,3 +3,4 @@ pub mod Counts
 pub mod PacketHolds
 pub mod Reloading
 pub mod Comparing
+pub mod Weighing

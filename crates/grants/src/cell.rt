@@ -1,6 +1,6 @@
 //! One cell of the table: a client's rights on an object, and how many holds there are of each.
 
-ghost use Rattle.std.specs.Prelude.{◌≡◌, ◌+◌, ◌-◌, ◌<◌, ◌≤◌, ◌^◌, ◌&&◌, ◌||◌, not, nat_lt};
+ghost use Rattle.std.specs.Prelude.{◌≡◌, ◌+◌, ◌-◌, ◌<◌, ◌≤◌, ◌^◌, ◌&&◌, ◌||◌, not, nat_lt, slice_get};
 ghost use Rattle.std.specs.List.{list_any};
 ghost use Rattle.policy.specs.declared.rights.Right.{Right};
 ghost use Rattle.policy.specs.Rights.{has, all_rights};
@@ -122,6 +122,15 @@ impl Cell {
         }
     }
 
+    /// The cell with just those of its rights that are allowed.
+    pub fn within(self, allowed: Rights) -> Cell
+        ensures rights { (right : Right) → has result.rights right ≡ (has self.rights right && has allowed right) }
+        ensures held { result.held ≡ self.held }
+    {
+        let denied = self.rights.without(allowed);
+        self.without(denied)
+    }
+
     /// The cell with one more hold of each of some rights.
     pub fn with_hold(self, rights: Rights) -> Cell
         requires { (right : Right) → count_of self.held right < 2 ^ 64 - 1 }
@@ -154,4 +163,11 @@ impl Cell {
             .iter()
             .any(|right| rights.has(*right) && 0 < self.held.of(*right))
     }
+}
+
+/// The cell in a place, if there is one.
+pub fn cell_at(cells: &[Cell], place: usize) -> Option<Cell>
+    ensures { result ≡ slice_get cells.now place }
+{
+    cells.get(place).copied()
 }

@@ -1,21 +1,24 @@
 //! The table: a cell for each client and object that a policy declares.
 
 ghost use Rattle.std.specs.Box.{boxed_slice_items};
-ghost use Rattle.std.specs.Prelude.{◌≡◌, ◌+◌, ◌-◌, ◌<◌, ◌≤◌, ◌^◌, IfOk, true, false, if◌then◌else◌, ◌&&◌, ◌||◌, not, length, replicate, slice_get, slice_set};
+ghost use Rattle.std.specs.Prelude.{ℕ, ◌≡◌, ◌+◌, ◌-◌, ◌<◌, ◌==◌, ◌≤◌, ◌^◌, ◌↔◌, IfOk, true, false, if◌then◌else◌, ◌&&◌, ◌||◌, not, length, replicate, slice_get, slice_set};
 ghost use Rattle.std.specs.Option.{is_some};
 ghost use Rattle.aql_packet.specs.declared.ids.ClientId.{ClientId};
 ghost use Rattle.policy.specs.declared.object.Object.{Object};
 ghost use Rattle.policy.specs.declared.rights.Right.{Right};
-ghost use Rattle.policy.specs.Rights.{each_right};
+ghost use Rattle.policy.specs.Rights.{each_right, has};
 ghost use Rattle.grants.specs.Pairs.{same_pair, is_one_of};
 ghost use Rattle.policy.specs.Policy.{rules_of};
-ghost use Rattle.policy.specs.Rules.{knows_client, knows_object};
-ghost use Rattle.grants.specs.inner.Counts.{is_hold_of, SameRights, SameCounts, hold_count, empty_cell, one_for_right, replacement};
-ghost use Rattle.grants.specs.Cells.{cell_of, in_table};
+ghost use Rattle.policy.specs.Rules.{are_allowed, knows_client, knows_object, rows_allow};
+ghost use Rattle.grants.specs.inner.Counts.{count_in, is_hold_of, SameRights, SameCounts, hold_count, empty_cell, one_for_right, replacement};
+ghost use Rattle.grants.specs.inner.Weighing.{has_at};
+ghost use Rattle.grants.specs.Cells.{cell_of, has_right, in_table};
 
-use crate::cell::Cell;
+use crate::cell::{Cell, cell_at};
 use crate::hold::Hold;
 use crate::policy_grid::PolicyGrid;
+use crate::sets::is_none;
+use crate::weighing::{Allowed, rights_at};
 use aql_packet::ClientId;
 use policy::{Object, Policy, PolicyRows, Rights};
 use std::alloc::{AllocError, Global};
@@ -23,12 +26,13 @@ use std::boxed::BoxedSlice;
 use std::marker::Model;
 
 /// The rules of a policy, and a cell for each client and object that it declares. A cell is found in
-/// one step, by the numbers of client and object. The cells lie in a slice of their own, which no call can make
-/// longer.
+/// one step, by the numbers of client and object; in the same place of a second table stands what the rows in force
+/// allow there. All lie in slices of their own, which no call can make longer.
 #[derive(Drop)]
 pub struct Cells {
     rules: PolicyGrid,
     cells: BoxedSlice<Cell>,
+    allowed: Allowed,
 }
 
 impl Model for Cells {
@@ -40,7 +44,12 @@ impl Model for Cells {
 
     ghost view = { λ table. record { rules = table.rules; cells = boxed_slice_items table.cells } };
 
-    ghost invariant = { λ table. length (boxed_slice_items table.cells) ≡ table.rules.clients * object_count table.rules };
+    ghost use Rattle.grants.specs.inner.Weighing.{HasRoom, IsAllowedBy};
+
+    // There is a cell in each place, and in each place of the other table stands what the rows allow.
+    ghost invariant = { λ table. (length (boxed_slice_items table.cells) ≡ table.rules.clients * object_count table.rules)
+        × HasRoom table.rules (boxed_slice_items table.allowed.table) (boxed_slice_items table.allowed.granted) (boxed_slice_items table.allowed.denied)
+        × IsAllowedBy table.rules table.rules.rows (boxed_slice_items table.allowed.table) };
 }
 
 // This many empty cells.
@@ -50,11 +59,30 @@ fn empty_cells(alloc: Global, count: usize) -> Result<BoxedSlice<Cell>, AllocErr
     Ok(vec![in alloc; Cell::EMPTY; count]?.into_boxed_slice())
 }
 
-// The cell in a place, if there is one.
-fn cell_at(cells: &[Cell], place: usize) -> Option<Cell>
-    ensures { result ≡ slice_get cells.now place }
+// Takes what isn't allowed in its place out of force in a cell.
+fn settle_cell(cells: &mut BoxedSlice<Cell>, allowed: Rights, place: usize)
+    ensures rights { (other : ℕ) (right : Right) → has_right right (slice_get (boxed_slice_items cells.new) other)
+        ≡ (has_right right (slice_get (boxed_slice_items cells.old) other) && (not (other == place) || has allowed right)) }
+    ensures held { (other : ℕ) (right : Right) → count_in right (slice_get (boxed_slice_items cells.new) other) ≡ count_in right (slice_get (boxed_slice_items cells.old) other) }
+    ensures len { length (boxed_slice_items cells.new) ≡ length (boxed_slice_items cells.old) }
 {
-    cells.get(place).copied()
+    if let Some(cell) = cell_at(cells.as_slice(), place) {
+        if !is_none(cell.rights.without(allowed)) {
+            put(cells, place, cell.within(allowed));
+        }
+    }
+}
+
+// Takes what isn't allowed in its place out of force in each cell.
+fn settle(cells: &mut BoxedSlice<Cell>, allowed: &[Rights])
+    ensures rights { (place : ℕ) (right : Right) → has_right right (slice_get (boxed_slice_items cells.new) place)
+        ≡ (has_right right (slice_get (boxed_slice_items cells.old) place) && has_at right (slice_get allowed.now place)) }
+    ensures held { (place : ℕ) (right : Right) → count_in right (slice_get (boxed_slice_items cells.new) place) ≡ count_in right (slice_get (boxed_slice_items cells.old) place) }
+    ensures len { length (boxed_slice_items cells.new) ≡ length (boxed_slice_items cells.old) }
+{
+    for place in 0..cells.len() {
+        settle_cell(cells, rights_at(allowed, place), place);
+    }
 }
 
 // Puts a cell in a place.
@@ -74,7 +102,13 @@ impl Cells {
     {
         let rules = PolicyGrid::of(alloc, policy)?;
         let cells = empty_cells(alloc, rules.cell_count())?;
-        Ok(Cells { rules, cells })
+        let mut allowed = Allowed::none(alloc, &rules)?;
+        allowed.weigh(&rules, policy.rows());
+        Ok(Cells {
+            rules,
+            cells,
+            allowed,
+        })
     }
 
     /// The same table in memory of its own.
@@ -83,14 +117,44 @@ impl Cells {
     {
         let rules = self.rules.copy(alloc)?;
         let cells = BoxedSlice::from_slice(alloc, self.cells.as_slice())?;
-        Ok(Cells { rules, cells })
+        let allowed = self.allowed.copy(alloc, &self.rules)?;
+        Ok(Cells {
+            rules,
+            cells,
+            allowed,
+        })
     }
 
-    /// Puts rows on rights in the place of those before. The cells stay.
-    pub fn set_rows(&mut self, rows: PolicyRows)
-        ensures { self.new ≡ record self.old { rules = record self.old.rules { rows = rows } } }
+    /// Puts rows on rights in the place of those before, and takes what they don't allow out of force. It takes no
+    /// memory.
+    pub fn put_rows(&mut self, rows: PolicyRows)
+        ensures kept { (client : ClientId) (object : Object) (right : Right) → in_table self.new client object right
+            ≡ (in_table self.old client object right && rows_allow rows client object right) }
+        ensures counts { (client : ClientId) (object : Object) (right : Right) → hold_count self.new client object right ≡ hold_count self.old client object right }
+        ensures rules { self.new.rules ≡ record self.old.rules { rows = rows } }
     {
+        self.allowed.weigh(&self.rules, &rows);
+        settle(&mut self.cells, self.allowed.table.as_slice());
         self.rules.set_rows(rows);
+    }
+
+    /// Whether other rows allow all that is in force. The table stays: what it changes is room to reckon in. It takes no
+    /// memory.
+    pub fn are_allowed_by(&mut self, rows: &PolicyRows) -> bool
+        ensures allowed { result ≡ true ↔ ((client : ClientId) (object : Object) (right : Right) → in_table self.old client object right ≡ true → rows_allow rows.now client object right ≡ true) }
+        ensures same { self.new ≡ self.old }
+    {
+        self.allowed.allow(&self.rules, rows, self.cells.as_slice())
+    }
+
+    /// Whether both client and object are declared, and the rows allow each of some rights. No row is looked at.
+    pub fn allows(&self, client: ClientId, object: Object, rights: Rights) -> bool
+        ensures { result ≡ ((knows_client self.now.rules client && knows_object self.now.rules object) && are_allowed self.now.rules client object rights) }
+    {
+        match self.rules.place_of(client, object) {
+            Some(place) => rights_at(self.allowed.table.as_slice(), place).includes(rights),
+            None => false,
+        }
     }
 
     /// What the policy declares and allows.

@@ -12,7 +12,6 @@ use crate::comparing::{are_held_too, includes_all};
 use crate::counting::{put_holds, uncount_packet};
 use crate::hold::{Hold, drop_holds, first_denied, first_holder, is_held};
 use crate::refusal::GrantRefusal;
-use crate::reloading::take_all_denied;
 use crate::sets::known;
 use aql_packet::{ClientId, PacketId, QueueId};
 use bitflags::Flags;
@@ -47,7 +46,7 @@ impl Model for Grants {
 }
 
 impl Grants {
-    ghost use Rattle.grants.specs.Ledger.{IsNew, PutsInForce, TakesOutOfForce, Holds, Releases, Reloads, RevokeAnswers, IsBlockedBy, IsCopy, SameGrants, rules_in, in_force, holds, grant_due, rights_on, are_in_force, listing, places};
+    ghost use Rattle.grants.specs.Ledger.{IsNew, PutsInForce, TakesOutOfForce, Holds, Releases, Reloads, RevokeAnswers, IsBlockedBy, IsCopy, SameGrants, AllowsInForce, rules_in, in_force, holds, grant_due, rights_on, are_in_force, listing, places};
 
     /// No right is in force yet, and no packet holds one.
     pub fn new(alloc: Global, policy: &Policy) -> Result<Grants, AllocError>
@@ -94,7 +93,7 @@ impl Grants {
         if !rules.knows(object) {
             return Err(GrantRefusal::UnknownObject);
         }
-        if !rules.allows(client, object, rights) {
+        if !self.table.allows(client, object, rights) {
             return Err(GrantRefusal::NotAllowed);
         }
         Ok(())
@@ -278,6 +277,15 @@ impl Grants {
         first_denied(self.holds.as_slice(), rows)
     }
 
+    /// Whether rows on rights allow all that is in force, over all clients and objects. What is in force and held stays: it
+    /// is asked of `&mut self` for room to reckon in. It takes no memory, and looks at no packet.
+    pub fn are_allowed_by(&mut self, rows: &PolicyRows) -> bool
+        ensures allowed { result ≡ true ↔ AllowsInForce self.old rows.now }
+        ensures same { self.new ≡ self.old }
+    {
+        self.table.are_allowed_by(rows)
+    }
+
     /// The rows on rights by which grants are allowed.
     pub fn rows(&self) -> &PolicyRows
         ensures { result.now ≡ (rules_in self.now).rows }
@@ -303,8 +311,7 @@ impl Grants {
         requires { IsBlockedBy self.old rows None }
         ensures { Reloads self.old self.new rows }
     {
-        take_all_denied(&mut self.table, &rows);
-        self.table.set_rows(rows);
+        self.table.put_rows(rows);
     }
 
     /// The same grants and holds in memory of their own, with no more room than they take.

@@ -12,8 +12,8 @@ mod hold;
 mod laws;
 mod policy_grid;
 mod refusal;
-mod reloading;
 mod sets;
+mod weighing;
 
 pub use grants::Grants;
 pub use laws::law_of_calls;

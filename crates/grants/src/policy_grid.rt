@@ -3,7 +3,7 @@
 ghost use Rattle.std.specs.Prelude.{◌≡◌, ◌≤◌, ◌*◌, IfOk};
 
 use aql_packet::ClientId;
-use policy::{Kind, Object, Policy, PolicyRows, Rights};
+use policy::{Kind, Object, Policy, PolicyRows, Target};
 use std::alloc::{AllocError, Global};
 use std::marker::Model;
 
@@ -39,8 +39,11 @@ impl Model for PolicyGrid {
 
 impl PolicyGrid {
     ghost use Rattle.policy.specs.Policy.{rules_of};
-    ghost use Rattle.policy.specs.Rules.{count, knows_client, knows_object, are_allowed};
-    ghost use Rattle.grants.specs.Cells.{object_count, objects_before, place_of};
+    ghost use Rattle.std.specs.Prelude.{◌+◌, Some, None, true, if◌then◌else◌};
+    ghost use Rattle.policy.specs.Object.{number_of};
+    ghost use Rattle.policy.specs.Rules.{count, knows_client, knows_object};
+    ghost use Rattle.grants.specs.Cells.{object_count, object_place, objects_before, place_of};
+    ghost use Rattle.grants.specs.inner.Weighing.{kind_place, kind_place_at, target_place};
 
     /// What grants keep of a policy.
     pub fn of(alloc: Global, policy: &Policy) -> Result<PolicyGrid, AllocError>
@@ -105,17 +108,18 @@ impl PolicyGrid {
         }
     }
 
-    // How many objects there are.
-    fn object_count(&self) -> usize
+    /// How many objects there are.
+    pub fn object_count(&self) -> usize
         ensures count { result ≡ object_count self.now }
         ensures bound { result ≤ 4096 }
     {
         self.agents + self.regions + self.signals + self.kernels
     }
 
-    // How many objects come before those of a kind.
-    fn objects_before(&self, kind: Kind) -> usize
-        ensures { result ≡ objects_before self.now kind }
+    /// How many objects come before those of a kind.
+    pub fn objects_before(&self, kind: Kind) -> usize
+        ensures count { result ≡ objects_before self.now kind }
+        ensures bound { result ≤ 3072 }
     {
         match kind {
             Kind::Agent => 0,
@@ -153,15 +157,65 @@ impl PolicyGrid {
 
     /// Whether the object is declared.
     pub fn knows(&self, object: Object) -> bool
-        ensures { result ≡ knows_object self.now object }
+        ensures known { result ≡ knows_object self.now object }
+        ensures bound { result ≡ true → number_of object ≤ 1024 }
     {
         1 <= object.number() && object.number() <= self.count(object.kind()) as u64
     }
 
-    /// Whether each of some rights is allowed to the client on the object.
-    pub fn allows(&self, client: ClientId, object: Object, rights: Rights) -> bool
-        ensures { result ≡ are_allowed self.now client object rights }
+    /// How many places there are in a line of one for each object and kind.
+    pub fn line_length(&self) -> usize
+        ensures { result ≡ object_count self.now + 4 }
     {
-        self.rows.allow(client, object, rights)
+        self.object_count() + 4
+    }
+
+    /// The place of what a row on rights is on, in a line of one for each object and, behind these, each kind.
+    pub fn target_place(&self, target: Target) -> Option<usize>
+        ensures { result ≡ target_place self.now target }
+    {
+        match target {
+            Target::Any(kind) => Some(self.kind_place(kind)),
+            Target::One(object) => self.object_place(object),
+        }
+    }
+
+    // The place of an object among all, if it is declared.
+    fn object_place(&self, object: Object) -> Option<usize>
+        ensures { result ≡ (if knows_object self.now object then Some (object_place self.now object) else None) }
+    {
+        if !self.knows(object) {
+            return None;
+        }
+        Some(self.objects_before(object.kind()) + (object.number() as usize - 1))
+    }
+
+    /// The place of all objects of a kind in such a line.
+    pub fn kind_place(&self, kind: Kind) -> usize
+        ensures { result ≡ kind_place self.now kind }
+    {
+        let objects = self.object_count();
+        match kind {
+            Kind::Agent => objects,
+            Kind::Region => objects + 1,
+            Kind::Signal => objects + 2,
+            Kind::Kernel => objects + 3,
+        }
+    }
+
+    /// In such a line the place of the kind of the object in a place.
+    pub fn kind_place_at(&self, place: usize) -> usize
+        ensures { result ≡ kind_place_at self.now place }
+    {
+        let objects = self.object_count();
+        if place < self.agents {
+            objects
+        } else if place < self.agents + self.regions {
+            objects + 1
+        } else if place < self.agents + self.regions + self.signals {
+            objects + 2
+        } else {
+            objects + 3
+        }
     }
 }

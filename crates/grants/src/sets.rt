@@ -1,6 +1,6 @@
 //! Sets of rights that two sets make.
 
-ghost use Rattle.std.specs.Prelude.{◌≡◌, ◌||◌};
+ghost use Rattle.std.specs.Prelude.{◌≡◌, ◌||◌, true, false};
 ghost use Rattle.policy.specs.declared.rights.Right.{Right};
 ghost use Rattle.policy.specs.Rights.{has, rights_that};
 
@@ -12,6 +12,13 @@ pub fn union(rights: Rights, more: Rights) -> Rights
     ensures { (right : Right) → has result right ≡ (has rights right || has more right) }
 {
     rights.union(more)
+}
+
+/// Whether a set is empty, so that it has no right.
+pub fn is_none(rights: Rights) -> bool
+    ensures { result ≡ true → (right : Right) → has rights right ≡ false }
+{
+    rights.is_empty()
 }
 
 /// The rights of a set, without bits that mean nothing.

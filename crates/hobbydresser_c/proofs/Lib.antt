@@ -1,4 +1,6 @@
 mod AsBox
+mod Laying
+mod Noting
 mod Numbers
 mod Reading
 mod Records

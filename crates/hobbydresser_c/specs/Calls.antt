@@ -33,8 +33,10 @@ use Rattle.signals.specs.declared.operation.SignalOp.{SignalOp}
 use Rattle.signals.specs.declared.operation.SignalOp.TheVariants as operation
 use Rattle.hobbydresser_c.specs.declared.broker.Broker.{Broker}
 use Rattle.hobbydresser_c.specs.declared.session.Session.{Session}
+use Rattle.hobbydresser_c.specs.declared.told.HeldRecord.{HeldRecord}
 use Rattle.hobbydresser_c.specs.declared.told.TakenRecord.{TakenRecord}
 use Rattle.hobbydresser_c.specs.Buffers.{FillsRecords}
+use Rattle.hobbydresser_c.specs.LastCalls.{call_of, no_right, session_after}
 use Rattle.hobbydresser_c.specs.Words.{stands_open}
 use Rattle.hobbydresser_c.specs.Statuses.{ok, no_such, status_of_refusal}
 use Rattle.hobbydresser_c.specs.Told.{taken_told}
@@ -50,15 +52,27 @@ session_of broker = broker.pointer.session
 abbrev pub history_of : Broker → History
 history_of broker = (session_of broker).core.history
 
--- the broker is as it was
+-- the broker is as it was, the last call too
 pub record IsSame (old new : Broker) : Type 0 where
   pub state_is : new.state ≡ old.state
   pub session_is : session_of new ≡ session_of old
 
--- a broker is open or not as before, and of the text that it was opened with the digest is kept
-pub record Keeps (old new : Broker) : Type 0 where
+-- a call was made that lacked this, and all else of the broker is as it was
+pub record IsNotedLacking (lacking : HeldRecord) (old new : Broker) : Type 0 where
+  pub state_is : new.state ≡ old.state
+  pub session_is : session_of new ≡ session_after (is_open old) lacking (session_of old)
+
+abbrev pub IsNoted : Broker → Broker → Type 0
+IsNoted old new = IsNotedLacking no_right old new
+
+-- a call was made that lacked this: a broker is open or not as before, and of the text that it was opened with the digest is kept
+pub record KeepsLacking (lacking : HeldRecord) (old new : Broker) : Type 0 where
   pub open_is : is_open new ≡ is_open old
   pub digest_is : (session_of new).digest ≡ (session_of old).digest
+  pub last_is : is_open old ≡ true → (session_of new).last ≡ call_of (history_of old) lacking
+
+abbrev pub Keeps : Broker → Broker → Type 0
+Keeps old new = KeepsLacking no_right old new
 
 -- an event was asked of an open broker, which stays open: it got what was due and left what was due, unless memory was wanted; and this
 -- was told of the answer
@@ -182,9 +196,9 @@ operations value expected =
 abbrev pub operation_of_number : ℕ → ℤ → ℤ → Option SignalOp
 operation_of_number number value expected = slice_get (operations value expected) number
 
--- nothing stands for a number that was given: the call says so, and all is as before
+-- nothing stands for a number that was given: the call says so, and all but the last call is as before
 abbrev pub IsUnknown : Broker → Broker → ℕ → Type 0
-IsUnknown old new status = (status ≡ no_such) × IsSame old new
+IsUnknown old new status = (status ≡ no_such) × IsNoted old new
 
 -- what holds where something stands for a number, else that nothing does
 abbrev pub WhereKnown : {A : Type 0} → Option A → Type 0 → (A → Type 0) → Type 0

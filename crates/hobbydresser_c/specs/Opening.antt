@@ -22,15 +22,16 @@ use Rattle.hobbydresser_c.specs.declared.session.Session.{Session}
 use Rattle.hobbydresser_c.specs.Kernels.{AreLaunchable, IsFirstRefused}
 use Rattle.hobbydresser_c.specs.Statuses.{ok, out_of_memory, no_entry, bad_places, other_kernels, status_of_cause, status_of_check, status_of_read}
 use Rattle.hobbydresser_c.specs.Calls.{IsSame, is_open, session_of}
+use Rattle.hobbydresser_c.specs.LastCalls.{no_call}
 
 -- the core that was opened, or why it was not
 abbrev pub core_in : Result Session OpenFault → Result Core OpenFault
 core_in (Ok session) = Ok session.core
 core_in (Err why) = Err why
 
--- what is kept beside the core that was opened: the digest of the policy's text
+-- what is kept beside the core that was opened: the digest of the policy's text, and that no call was made
 abbrev pub IsKept : List ℕ → Result Session OpenFault → Type 0
-IsKept text (Ok session) = session.digest ≡ sha256 text
+IsKept text (Ok session) = (session.digest ≡ sha256 text) × (session.last ≡ no_call)
 IsKept text (Err why) = ⊤
 
 -- a core's opening over a text: the text declares a policy, all of its kernels are let pass, and a core over both is opened, or refused

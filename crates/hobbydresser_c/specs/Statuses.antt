@@ -17,6 +17,10 @@ ok = 0
 abbrev pub out_of_memory : ℕ
 out_of_memory = 1
 
+-- a right was lacking
+abbrev pub denied : ℕ
+denied = 4
+
 -- the broker isn't open
 abbrev pub closed : ℕ
 closed = 401

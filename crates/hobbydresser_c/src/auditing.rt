@@ -6,7 +6,7 @@ ghost use Rattle.core_model.specs.History.{beginning};
 ghost use Rattle.script.specs.Entries.{text_of_entry};
 ghost use Rattle.hobbydresser_c.specs.Audits.{Rotated, entry_numbered};
 ghost use Rattle.hobbydresser_c.specs.Buffers.{FillsOrLacks};
-ghost use Rattle.hobbydresser_c.specs.Calls.{IsSame, Keeps, WhereKnown, history_of, is_open, status_of};
+ghost use Rattle.hobbydresser_c.specs.Calls.{IsNoted, IsSame, Keeps, WhereKnown, history_of, is_open, status_of};
 ghost use Rattle.hobbydresser_c.specs.Names.{policy_of};
 ghost use Rattle.hobbydresser_c.specs.Statuses.{closed, no_such, ok};
 
@@ -23,11 +23,11 @@ use std::alloc::{AllocError, Global};
 #[unsafe(no_mangle)]
 pub extern "C" fn hd_audit_count(broker: &mut Broker, before: &mut u64, count: &mut u64) -> u32
     ensures closed { is_open broker.old ≡ false → (result ≡ closed) × (before.new ≡ before.old) × (count.new ≡ count.old) }
-    ensures same { IsSame broker.old broker.new }
+    ensures same { IsNoted broker.old broker.new }
     ensures met { is_open broker.old ≡ true →
         (result ≡ ok) × (before.new ≡ (beginning (history_of broker.old)).before) × (count.new ≡ length (history_of broker.old).entries) }
 {
-    if !broker.is_open() {
+    if !broker.called() {
         return status::CLOSED;
     }
     let core = &mut broker.pointer.session_mut().core;
@@ -66,12 +66,12 @@ pub extern "C" fn hd_audit_line(
     needed: &mut u64,
 ) -> u32
     ensures closed { is_open broker.old ≡ false → (result ≡ closed) × (out.new ≡ out.old) × (needed.new ≡ needed.old) }
-    ensures same { IsSame broker.old broker.new }
+    ensures same { IsNoted broker.old broker.new }
     ensures met { is_open broker.old ≡ true → WhereKnown (entry_numbered (history_of broker.old) number)
         ((result ≡ no_such) × (out.new ≡ out.old) × (needed.new ≡ needed.old))
         (λ entry. FillsOrLacks (text_of_entry (policy_of broker.old) number entry) result out.old out.new needed.old needed.new) }
 {
-    if !broker.is_open() {
+    if !broker.called() {
         return status::CLOSED;
     }
     let core = &mut broker.pointer.session_mut().core;
@@ -101,7 +101,7 @@ pub extern "C" fn hd_rotate(alloc: Global, broker: &mut Broker) -> u32
     ensures open { Keeps broker.old broker.new }
     ensures met { is_open broker.old ≡ true → Rotated broker.old broker.new result }
 {
-    if !broker.is_open() {
+    if !broker.called() {
         return status::CLOSED;
     }
     let core = &mut broker.pointer.session_mut().core;

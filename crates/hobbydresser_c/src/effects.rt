@@ -16,7 +16,7 @@ use core_model::Effect;
 
 impl Session {
     // The changes that the last entry tells.
-    fn last_effects(&self) -> &[Effect]
+    pub(crate) fn last_effects(&self) -> &[Effect]
         ensures { result.now ≡ session_effects self.now }
     {
         match self.core.audit().last() {

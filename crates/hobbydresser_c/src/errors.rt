@@ -7,7 +7,7 @@ ghost use Rattle.core_model.specs.Queues.{errors, owner};
 ghost use Rattle.hobbydresser_c.specs.Statuses.{closed, status_of_refusal};
 ghost use Rattle.hobbydresser_c.specs.Buffers.{FillsRecords};
 ghost use Rattle.hobbydresser_c.specs.Told.{error_told};
-ghost use Rattle.hobbydresser_c.specs.Calls.{IsSame, WhereKnown, history_of, is_open};
+ghost use Rattle.hobbydresser_c.specs.Calls.{IsNoted, WhereKnown, history_of, is_open};
 
 use crate::broker::Broker;
 use crate::status;
@@ -47,12 +47,12 @@ pub extern "C" fn hd_errors(
     needed: &mut u64,
 ) -> u32
     ensures closed { is_open broker.old ≡ false → (result ≡ closed) × (out.new ≡ out.old) × (needed.new ≡ needed.old) }
-    ensures same { IsSame broker.old broker.new }
+    ensures same { IsNoted broker.old broker.new }
     ensures met { is_open broker.old ≡ true → WhereKnown (owner (beginning (history_of broker.old)) (history_of broker.old).entries (record { 0 = queue }))
         ((result ≡ status_of_refusal refusal.UnknownQueue) × (out.new ≡ out.old) × (needed.new ≡ needed.old))
         (λ opening. FillsRecords error_told (errors (beginning (history_of broker.old)) (history_of broker.old).entries (record { 0 = queue })) result out.old out.new needed.new) }
 {
-    if !broker.is_open() {
+    if !broker.called() {
         return status::CLOSED;
     }
     let core = &mut broker.pointer.session_mut().core;

@@ -4,7 +4,7 @@ ghost use Rattle.std.specs.Prelude.{◌≡◌, Err, true, false};
 ghost use Rattle.core_model.specs.declared.call.Call.TheVariants as call;
 ghost use Rattle.core_model.specs.declared.event.Event.TheVariants as event;
 ghost use Rattle.hobbydresser_c.specs.Statuses.{closed};
-ghost use Rattle.hobbydresser_c.specs.Calls.{IsMade, IsRevoked, IsSame, Keeps, IsUnknown, TellsHolder, WhereKnown, is_open, kind_of_number, rights_named, rights_of_bits, status_of};
+ghost use Rattle.hobbydresser_c.specs.Calls.{IsMade, IsRevoked, IsSame, IsUnknown, Keeps, TellsHolder, WhereKnown, is_open, kind_of_number, rights_named, rights_of_bits, status_of};
 
 use crate::broker::Broker;
 use crate::status;
@@ -63,7 +63,7 @@ pub extern "C" fn hd_grant(
     ensures met { is_open broker.old ≡ true → WhereKnown (rights_named kind number rights) (IsUnknown broker.old broker.new result)
         (λ named. IsMade (event.Call (call.Grant (record { 0 = client }) named.0 named.1)) broker.old broker.new result) }
 {
-    if !broker.is_open() {
+    if !broker.called() {
         return status::CLOSED;
     }
     let Some((object, rights)) = rights_named(kind, number, rights) else {
@@ -115,7 +115,7 @@ pub extern "C" fn hd_revoke(
         (IsUnknown broker.old broker.new result × (queue.new ≡ queue.old) × (packet.new ≡ packet.old))
         (λ named. IsRevoked (event.Call (call.Revoke (record { 0 = client }) named.0 named.1)) broker.old broker.new result queue.old queue.new packet.old packet.new) }
 {
-    if !broker.is_open() {
+    if !broker.called() {
         return status::CLOSED;
     }
     let Some((object, rights)) = rights_named(kind, number, rights) else {

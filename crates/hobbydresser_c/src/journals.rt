@@ -5,7 +5,7 @@ ghost use Rattle.std.specs.Option.{option_copied};
 ghost use Rattle.journal.specs.Lines.{after, behind_head, entry_line, line, text_of_end, text_of_head};
 ghost use Rattle.hobbydresser_c.specs.Audits.{entry_numbered};
 ghost use Rattle.hobbydresser_c.specs.Buffers.{FillsOrLacks};
-ghost use Rattle.hobbydresser_c.specs.Calls.{IsSame, WhereKnown, history_of, is_open, session_of};
+ghost use Rattle.hobbydresser_c.specs.Calls.{IsNoted, WhereKnown, history_of, is_open, session_of};
 ghost use Rattle.hobbydresser_c.specs.Journals.{TellsLine, TellsLineOrLacks, chain_of, chain_told, head_of};
 ghost use Rattle.hobbydresser_c.specs.Statuses.{closed, no_such};
 
@@ -153,11 +153,11 @@ pub extern "C" fn hd_journal_head(
     chain: &mut ChainRecord,
 ) -> u32
     ensures closed { is_open broker.old ≡ false → (result ≡ closed) × (out.new ≡ out.old) × (needed.new ≡ needed.old) × (chain.new ≡ chain.old) }
-    ensures same { IsSame broker.old broker.new }
+    ensures same { IsNoted broker.old broker.new }
     ensures met { is_open broker.old ≡ true → TellsLineOrLacks (line [] (text_of_head (head_of (session_of broker.old) further.now)) ++ 10 ∷ [])
         (behind_head (head_of (session_of broker.old) further.now)) result out.old out.new needed.old needed.new chain.old chain.new }
 {
-    if !broker.is_open() {
+    if !broker.called() {
         return status::CLOSED;
     }
     let session = broker.pointer.session_mut();
@@ -180,13 +180,13 @@ pub extern "C" fn hd_journal_line(
     chain: &mut ChainRecord,
 ) -> u32
     ensures closed { is_open broker.old ≡ false → (result ≡ closed) × (out.new ≡ out.old) × (needed.new ≡ needed.old) × (chain.new ≡ chain.old) }
-    ensures same { IsSame broker.old broker.new }
+    ensures same { IsNoted broker.old broker.new }
     ensures met { is_open broker.old ≡ true → WhereKnown (entry_numbered (history_of broker.old) (chain.old.number + 1))
         ((result ≡ no_such) × (out.new ≡ out.old) × (needed.new ≡ needed.old) × (chain.new ≡ chain.old))
         (λ entry. TellsLineOrLacks (entry_line (chain_of chain.old) entry ++ 10 ∷ []) (after (chain_of chain.old) entry)
         result out.old out.new needed.old needed.new chain.old chain.new) }
 {
-    if !broker.is_open() {
+    if !broker.called() {
         return status::CLOSED;
     }
     let core = &mut broker.pointer.session_mut().core;

@@ -5,7 +5,7 @@ ghost use Rattle.core_model.specs.History.{beginning};
 ghost use Rattle.core_model.specs.Kernels.{segments_of};
 ghost use Rattle.policy.specs.Policy.{numbered, row_of};
 ghost use Rattle.hobbydresser_c.specs.Buffers.{Fills};
-ghost use Rattle.hobbydresser_c.specs.Calls.{IsSame, WhereKnown, history_of, is_open};
+ghost use Rattle.hobbydresser_c.specs.Calls.{IsNoted, WhereKnown, history_of, is_open};
 ghost use Rattle.hobbydresser_c.specs.Layouts.{layout_told};
 ghost use Rattle.hobbydresser_c.specs.Names.{policy_of};
 ghost use Rattle.hobbydresser_c.specs.Statuses.{closed, no_such, ok};
@@ -33,11 +33,11 @@ pub extern "C" fn hd_kernel_layout(
     layout: &mut LayoutRecord,
 ) -> u32
     ensures closed { is_open broker.old ≡ false → (result ≡ closed) × (layout.new ≡ layout.old) }
-    ensures same { IsSame broker.old broker.new }
+    ensures same { IsNoted broker.old broker.new }
     ensures met { is_open broker.old ≡ true → WhereKnown (numbered (beginning (history_of broker.old)).kernels kernel) ((result ≡ no_such) × (layout.new ≡ layout.old))
         (λ program. (result ≡ ok) × (layout.new ≡ layout_told (segments_of program))) }
 {
-    if !broker.is_open() {
+    if !broker.called() {
         return status::CLOSED;
     }
     let core = &mut broker.pointer.session_mut().core;
@@ -62,12 +62,12 @@ pub extern "C" fn hd_kernel_text(
     needed: &mut u64,
 ) -> u32
     ensures closed { is_open broker.old ≡ false → (result ≡ closed) × (out.new ≡ out.old) × (needed.new ≡ needed.old) }
-    ensures same { IsSame broker.old broker.new }
+    ensures same { IsNoted broker.old broker.new }
     ensures met { is_open broker.old ≡ true → WhereKnown (row_of (policy_of broker.old).kernels kernel)
         ((result ≡ no_such) × (out.new ≡ out.old) × (needed.new ≡ needed.old))
         (λ source. Fills source.text result out.old out.new needed.new) }
 {
-    if !broker.is_open() {
+    if !broker.called() {
         return status::CLOSED;
     }
     let core = &mut broker.pointer.session_mut().core;
@@ -86,12 +86,12 @@ pub extern "C" fn hd_kernel_entry(
     needed: &mut u64,
 ) -> u32
     ensures closed { is_open broker.old ≡ false → (result ≡ closed) × (out.new ≡ out.old) × (needed.new ≡ needed.old) }
-    ensures same { IsSame broker.old broker.new }
+    ensures same { IsNoted broker.old broker.new }
     ensures met { is_open broker.old ≡ true → WhereKnown (row_of (policy_of broker.old).kernels kernel)
         ((result ≡ no_such) × (out.new ≡ out.old) × (needed.new ≡ needed.old))
         (λ source. Fills source.entry result out.old out.new needed.new) }
 {
-    if !broker.is_open() {
+    if !broker.called() {
         return status::CLOSED;
     }
     let core = &mut broker.pointer.session_mut().core;

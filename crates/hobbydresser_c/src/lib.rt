@@ -4,16 +4,20 @@
 // The check tries its tactics on what is left of each proof.
 #![tactic(auto)]
 
+mod agents;
 mod auditing;
 mod broker;
 mod buffers;
 mod digests;
 mod effects;
+mod effects_left;
 mod errors;
 mod granting;
 mod host;
 mod journals;
 mod kernels;
+mod lacking;
+mod last_call;
 mod layouts;
 mod listing;
 mod names;
@@ -25,4 +29,5 @@ mod reloading;
 mod session;
 mod session_pointer;
 mod status;
+mod status_texts;
 mod told;

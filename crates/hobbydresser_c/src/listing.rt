@@ -7,7 +7,7 @@ ghost use Rattle.policy.specs.declared.rights.Rights.{Rights};
 ghost use Rattle.hobbydresser_c.specs.Statuses.{closed, no_such};
 ghost use Rattle.hobbydresser_c.specs.Buffers.{FillsRecords};
 ghost use Rattle.hobbydresser_c.specs.Told.{held_told};
-ghost use Rattle.hobbydresser_c.specs.Calls.{IsSame, Replied, Tells, TellsRecords, WhereKnown, history_of, is_open, object_named, rights_in_force};
+ghost use Rattle.hobbydresser_c.specs.Calls.{IsNoted, Replied, Tells, TellsRecords, WhereKnown, history_of, is_open, object_named, rights_in_force};
 
 use crate::broker::Broker;
 use crate::granting::kind_of_number;
@@ -68,11 +68,11 @@ pub extern "C" fn hd_list(
     needed: &mut u64,
 ) -> u32
     ensures closed { is_open broker.old ≡ false → (result ≡ closed) × (out.new ≡ out.old) × (needed.new ≡ needed.old) }
-    ensures same { IsSame broker.old broker.new }
+    ensures same { IsNoted broker.old broker.new }
     ensures met { is_open broker.old ≡ true → Replied (query.List (record { 0 = client })) answers.Listing broker.old
         (TellsRecords held_told result out.old out.new needed.old needed.new) }
 {
-    if !broker.is_open() {
+    if !broker.called() {
         return status::CLOSED;
     }
     let core = &mut broker.pointer.session_mut().core;
@@ -128,11 +128,11 @@ pub extern "C" fn hd_rights(
     rights: &mut u32,
 ) -> u32
     ensures closed { is_open broker.old ≡ false → (result ≡ closed) × (rights.new ≡ rights.old) }
-    ensures same { IsSame broker.old broker.new }
+    ensures same { IsNoted broker.old broker.new }
     ensures met { is_open broker.old ≡ true → WhereKnown (object_named kind number) ((result ≡ no_such) × (rights.new ≡ rights.old))
         (λ object. Tells (λ (in_force : Rights). in_force.0) result rights.old rights.new (rights_in_force (history_of broker.old) (record { 0 = client }) object)) }
 {
-    if !broker.is_open() {
+    if !broker.called() {
         return status::CLOSED;
     }
     let Some(object) = object_named(kind, number) else {

@@ -5,7 +5,7 @@ ghost use Rattle.std.specs.Option.{option_copied};
 ghost use Rattle.policy.specs.Policy.{number_in, numbered, row_of};
 ghost use Rattle.hobbydresser_c.specs.Buffers.{Fills};
 ghost use Rattle.hobbydresser_c.specs.Statuses.{closed, no_such, ok};
-ghost use Rattle.hobbydresser_c.specs.Calls.{IsSame, WhereKnown, is_open};
+ghost use Rattle.hobbydresser_c.specs.Calls.{IsNoted, WhereKnown, is_open};
 ghost use Rattle.hobbydresser_c.specs.Names.{count_in, names_in, policy_of, subject_of_number};
 
 use crate::broker::Broker;
@@ -71,11 +71,11 @@ fn name_in(policy: &Policy, subject: Subject, number: u32) -> Option<&str>
 #[unsafe(no_mangle)]
 pub extern "C" fn hd_count(broker: &mut Broker, kind: u32, count: &mut u64) -> u32
     ensures closed { is_open broker.old ≡ false → (result ≡ closed) × (count.new ≡ count.old) }
-    ensures same { IsSame broker.old broker.new }
+    ensures same { IsNoted broker.old broker.new }
     ensures met { is_open broker.old ≡ true → WhereKnown (subject_of_number kind) ((result ≡ no_such) × (count.new ≡ count.old))
         (λ subject. (result ≡ ok) × (count.new ≡ count_in (policy_of broker.old) subject)) }
 {
-    if !broker.is_open() {
+    if !broker.called() {
         return status::CLOSED;
     }
     let Some(subject) = subject_of_number(kind) else {
@@ -90,11 +90,11 @@ pub extern "C" fn hd_count(broker: &mut Broker, kind: u32, count: &mut u64) -> u
 #[unsafe(no_mangle)]
 pub extern "C" fn hd_number(broker: &mut Broker, kind: u32, name: &[u8], number: &mut u64) -> u32
     ensures closed { is_open broker.old ≡ false → (result ≡ closed) × (number.new ≡ number.old) }
-    ensures same { IsSame broker.old broker.new }
+    ensures same { IsNoted broker.old broker.new }
     ensures met { is_open broker.old ≡ true → WhereKnown (subject_of_number kind) ((result ≡ no_such) × (number.new ≡ number.old))
         (λ subject. (result ≡ ok) × (number.new ≡ number_in (names_in (policy_of broker.old) subject) name.now)) }
 {
-    if !broker.is_open() {
+    if !broker.called() {
         return status::CLOSED;
     }
     let Some(subject) = subject_of_number(kind) else {
@@ -115,12 +115,12 @@ pub extern "C" fn hd_name(
     needed: &mut u64,
 ) -> u32
     ensures closed { is_open broker.old ≡ false → (result ≡ closed) × (out.new ≡ out.old) × (needed.new ≡ needed.old) }
-    ensures same { IsSame broker.old broker.new }
+    ensures same { IsNoted broker.old broker.new }
     ensures met { is_open broker.old ≡ true → WhereKnown (subject_of_number kind) ((result ≡ no_such) × (out.new ≡ out.old) × (needed.new ≡ needed.old))
         (λ subject. WhereKnown (numbered (names_in (policy_of broker.old) subject) number) ((result ≡ no_such) × (out.new ≡ out.old) × (needed.new ≡ needed.old))
         (λ name. Fills name result out.old out.new needed.new)) }
 {
-    if !broker.is_open() {
+    if !broker.called() {
         return status::CLOSED;
     }
     let Some(subject) = subject_of_number(kind) else {
@@ -137,11 +137,11 @@ pub extern "C" fn hd_name(
 #[unsafe(no_mangle)]
 pub extern "C" fn hd_region_length(broker: &mut Broker, region: u32, length: &mut u64) -> u32
     ensures closed { is_open broker.old ≡ false → (result ≡ closed) × (length.new ≡ length.old) }
-    ensures same { IsSame broker.old broker.new }
+    ensures same { IsNoted broker.old broker.new }
     ensures met { is_open broker.old ≡ true → WhereKnown (row_of (policy_of broker.old).regions region) ((result ≡ no_such) × (length.new ≡ length.old))
         (λ bytes. (result ≡ ok) × (length.new ≡ bytes)) }
 {
-    if !broker.is_open() {
+    if !broker.called() {
         return status::CLOSED;
     }
     let core = &mut broker.pointer.session_mut().core;

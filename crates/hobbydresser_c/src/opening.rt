@@ -8,6 +8,7 @@ ghost use Rattle.hobbydresser_c.specs.Statuses.{closed, ok, open_already, status
 use crate::broker::Broker;
 use crate::digests::digest_of;
 use crate::kernels::{KernelCause, KernelError, KernelFault, check_kernels};
+use crate::last_call::NO_CALL;
 use crate::session::Session;
 use crate::session_pointer::SessionPointer;
 use crate::status;
@@ -67,7 +68,11 @@ fn open_session(alloc: Global, text: &[u8], places: usize) -> Result<Session, Fa
     match AccessCore::open(alloc, policy, kernels, places) {
         Ok(core) => {
             let digest = digest_of(text);
-            Ok(Session { core, digest })
+            Ok(Session {
+                core,
+                digest,
+                last: NO_CALL,
+            })
         }
         Err(why) => Err(Failure::Opening(why)),
     }

@@ -50,7 +50,7 @@ pub extern "C" fn hd_take(
     ensures met { is_open broker.old ≡ true → Answered (event.Take (record { 0 = queue }) (record { 0 = packet }) bytes.now) outcome.Taken broker.old broker.new
         (TellsTaken result out.old out.new next.old next.new) }
 {
-    if !broker.is_open() {
+    if !broker.called() {
         return status::CLOSED;
     }
     let core = &mut broker.pointer.session_mut().core;
@@ -85,7 +85,7 @@ pub extern "C" fn hd_run(
     ensures met { is_open broker.old ≡ true → Answered (event.Call (call.RunNext (record { 0 = queue }) (record { 0 = packet }))) outcome.Worked broker.old broker.new
         (Tells worked_told result out.old out.new) }
 {
-    if !broker.is_open() {
+    if !broker.called() {
         return status::CLOSED;
     }
     let core = &mut broker.pointer.session_mut().core;
@@ -119,7 +119,7 @@ pub extern "C" fn hd_poll(
     ensures met { is_open broker.old ≡ true → Answered (event.Call (call.Poll (record { 0 = queue }) (record { 0 = packet }))) outcome.Polled broker.old broker.new
         (Tells polled_told result out.old out.new) }
 {
-    if !broker.is_open() {
+    if !broker.called() {
         return status::CLOSED;
     }
     let core = &mut broker.pointer.session_mut().core;
@@ -134,7 +134,7 @@ pub extern "C" fn hd_finish(broker: &mut Broker, queue: u64, packet: u64) -> u32
     ensures open { Keeps broker.old broker.new }
     ensures met { is_open broker.old ≡ true → IsMade (event.Call (call.Finish (record { 0 = queue }) (record { 0 = packet }))) broker.old broker.new result }
 {
-    if !broker.is_open() {
+    if !broker.called() {
         return status::CLOSED;
     }
     let core = &mut broker.pointer.session_mut().core;

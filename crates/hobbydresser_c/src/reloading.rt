@@ -71,7 +71,7 @@ pub extern "C" fn hd_reload(
     ensures open { Keeps broker.old broker.new }
     ensures met { is_open broker.old ≡ true → Reloaded text.now broker.old broker.new (TellsReload result fault.old fault.new queue.old queue.new packet.old packet.new) }
 {
-    if !broker.is_open() {
+    if !broker.called() {
         return status::CLOSED;
     }
     let core = &mut broker.pointer.session_mut().core;

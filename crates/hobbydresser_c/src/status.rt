@@ -12,6 +12,8 @@ use policy::PolicyCause;
 pub const OK: u32 = 0;
 /// Memory was wanted and not to be had.
 pub const OUT_OF_MEMORY: u32 = 1;
+/// A right was lacking.
+pub const DENIED: u32 = 4;
 /// The broker isn't open.
 pub const CLOSED: u32 = 401;
 /// The broker is open already.

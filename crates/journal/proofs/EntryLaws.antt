@@ -225,6 +225,10 @@ event_read (event.Call (call.Stop queue)) rest f =
     let back0 : fit (Number 64 (queue.0) ∷ ([])) ≡ true = behind (Name (codes "stop")) (Number 64 (queue.0) ∷ ([])) f in
     let fits1 : fits (Number 64 (queue.0)) ≡ true = first (Number 64 (queue.0)) ([]) back0 in
     rw (number_read 64 (queue.0) (fits1)) (refl)
+event_read (event.Call (call.Close queue)) rest f =
+    let back0 : fit (Number 64 (queue.0) ∷ ([])) ≡ true = behind (Name (codes "close")) (Number 64 (queue.0) ∷ ([])) f in
+    let fits1 : fits (Number 64 (queue.0)) ≡ true = first (Number 64 (queue.0)) ([]) back0 in
+    rw (number_read 64 (queue.0) (fits1)) (refl)
 event_read (event.Call (call.RunNext queue packet)) rest f =
     let back0 : fit (words_of_packet queue packet) ≡ true = behind (Name (codes "run")) (words_of_packet queue packet) f in
     rw (packet_named_read queue packet (rest) back0) (refl)

@@ -68,6 +68,7 @@ abbrev pub words_of_call : Call → List Word
 words_of_call (call.Grant client on rights) = Name (codes "grant") ∷ words_of_rights_on client on rights
 words_of_call (call.Revoke client on rights) = Name (codes "revoke") ∷ words_of_rights_on client on rights
 words_of_call (call.Stop queue) = Name (codes "stop") ∷ Number 64 queue.0 ∷ []
+words_of_call (call.Close queue) = Name (codes "close") ∷ Number 64 queue.0 ∷ []
 words_of_call (call.RunNext queue packet) = Name (codes "run") ∷ words_of_packet queue packet
 words_of_call (call.Poll queue packet) = Name (codes "poll") ∷ words_of_packet queue packet
 words_of_call (call.Finish queue packet) = Name (codes "finish") ∷ words_of_packet queue packet

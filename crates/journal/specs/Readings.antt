@@ -141,6 +141,9 @@ revoke_at words = and_then (rights_on_at words) (λ read rest. Some (call.Revoke
 abbrev pub stop_at : List Text → Reading Call
 stop_at words = and_then (number_at 64 words) (λ queue rest. Some (call.Stop (record { 0 = queue }), rest))
 
+abbrev pub close_at : List Text → Reading Call
+close_at words = and_then (number_at 64 words) (λ queue rest. Some (call.Close (record { 0 = queue }), rest))
+
 abbrev pub run_at : List Text → Reading Call
 run_at words = and_then (packet_named_at words) (λ read rest. Some (call.RunNext read.0 read.1, rest))
 
@@ -192,6 +195,7 @@ call_named word words =
     if bytes_eq word (codes "grant") then grant_at words
     else if bytes_eq word (codes "revoke") then revoke_at words
     else if bytes_eq word (codes "stop") then stop_at words
+    else if bytes_eq word (codes "close") then close_at words
     else if bytes_eq word (codes "signal") then change_at words
     else packet_call_named word words
 

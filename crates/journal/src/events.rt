@@ -2,7 +2,7 @@
 
 ghost use Rattle.std.specs.Prelude.{◌≡◌, IfOk};
 ghost use Rattle.journal.specs.Words.{seen, words_behind};
-ghost use Rattle.journal.specs.Readings.{grant_at, revoke_at, stop_at, run_at, poll_at, finish_at, operation_of, one_operand_at, cas_at, operation_named, operation_at, change_at, packet_call_named, call_named, open_at, take_at, write_at, reload_at, as_call, plain_event_named, event_named, event_at};
+ghost use Rattle.journal.specs.Readings.{grant_at, revoke_at, stop_at, close_at, run_at, poll_at, finish_at, operation_of, one_operand_at, cas_at, operation_named, operation_at, change_at, packet_call_named, call_named, open_at, take_at, write_at, reload_at, as_call, plain_event_named, event_named, event_at};
 
 use crate::digits::{bytes_at, number_at, packet_at, signed_at, small_at};
 use crate::reading::{client_at, packet_named_at, rights_on_at, rows_at};
@@ -49,6 +49,19 @@ fn stop_at(rest: Rest) -> Option<(Call, Rest)>
     let (queue, rest) = number_at(rest)?;
     Some((
         Call::Stop {
+            queue: QueueId(queue),
+        },
+        rest,
+    ))
+}
+
+// The end of a queue.
+fn close_at(rest: Rest) -> Option<(Call, Rest)>
+    ensures { seen result ≡ close_at (words_behind rest.entry) }
+{
+    let (queue, rest) = number_at(rest)?;
+    Some((
+        Call::Close {
             queue: QueueId(queue),
         },
         rest,
@@ -178,6 +191,8 @@ fn call_named<'a>(word: &[u8], rest: Rest<'a>) -> Option<(Call, Rest<'a>)>
         revoke_at(rest)
     } else if is_word(word, "stop") {
         stop_at(rest)
+    } else if is_word(word, "close") {
+        close_at(rest)
     } else if is_word(word, "signal") {
         change_at(rest)
     } else {

@@ -141,7 +141,7 @@ fn call_fits(call: &Call)
             object,
             rights,
         } => rights_on_fit(*client, *object, *rights),
-        Call::Stop { queue } => number_fits(queue.0),
+        Call::Stop { queue } | Call::Close { queue } => number_fits(queue.0),
         Call::RunNext { queue, packet }
         | Call::Poll { queue, packet }
         | Call::Finish { queue, packet } => packet_id_fits(*queue, *packet),

@@ -86,6 +86,7 @@ fn write_call(out: &mut String, call: &Call) -> Result<(), AllocError>
             rights,
         } => write_rights_on(out, " revoke", *client, *object, *rights),
         Call::Stop { queue } => write!(out, " stop {}", queue.0),
+        Call::Close { queue } => write!(out, " close {}", queue.0),
         Call::RunNext { queue, packet } => write_packet(out, " run", *queue, *packet),
         Call::Poll { queue, packet } => write_packet(out, " poll", *queue, *packet),
         Call::Finish { queue, packet } => write_packet(out, " finish", *queue, *packet),

@@ -124,8 +124,9 @@ fn write_error(out: &mut String, error: &QueueError) -> Result<(), AllocError> {
 }
 
 // Writes a queue with its errors.
-fn write_queue(out: &mut String, number: u64, queue: &QueueOrigin) -> Result<(), AllocError> {
-    let (client, agent, next) = (queue.opening.client.0, queue.opening.agent.0, queue.next);
+fn write_queue(out: &mut String, queue: &QueueOrigin) -> Result<(), AllocError> {
+    let (number, next) = (queue.queue.0, queue.next);
+    let (client, agent) = (queue.opening.client.0, queue.opening.agent.0);
     let stopped = if queue.stopped { "stopped" } else { "open" };
     writeln!(out, "queue {number} {client} {agent} {next} {stopped}")?;
     for error in queue.errors.as_slice() {
@@ -134,12 +135,10 @@ fn write_queue(out: &mut String, number: u64, queue: &QueueOrigin) -> Result<(),
     Ok(())
 }
 
-// Writes all queues.
+// Writes all open queues.
 fn write_queues(out: &mut String, queues: &[QueueOrigin]) -> Result<(), AllocError> {
-    let mut number = 0u64;
     for queue in queues {
-        number = number.saturating_add(1);
-        write_queue(out, number, queue)?;
+        write_queue(out, queue)?;
     }
     Ok(())
 }
@@ -164,7 +163,7 @@ fn write_packets(out: &mut String, packets: &[PacketOrigin]) -> Result<(), Alloc
 }
 
 /// Writes the state after all entries that a replay took, a line each: rights in force, rows of memory that aren't
-/// zero, signals, queues with their errors, and packets in flight.
+/// zero, signals, open queues with their errors, and packets in flight.
 pub fn state_text(alloc: Global, replay: &mut Replay, out: &mut String) -> Result<(), Fault> {
     if let Err(Stop::OutOfMemory | Stop::NoRoom) = replay.empty_audit(alloc) {
         return Err(Fault::Failure(Failure::OutOfMemory));

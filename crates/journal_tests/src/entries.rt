@@ -4,7 +4,7 @@ use journal::{read_entry, write_entry};
 use std::alloc::{AllocError, Global};
 use std::test::*;
 
-const ENTRIES: [&str; 34] = [
+const ENTRIES: [&str; 36] = [
     " open 1 1 64 opened 1 0",
     " open 4294967295 4294967295 18446744073709551615 opened 18446744073709551615 0",
     " grant 1 agent 1 1 accepted 0",
@@ -12,6 +12,8 @@ const ENTRIES: [&str; 34] = [
     " revoke 2 signal 18446744073709551615 24 accepted 0",
     " revoke 2 kernel 1 255 accepted 0",
     " stop 3 accepted 1 release 3 0",
+    " close 3 accepted 0",
+    " close 18446744073709551615 accepted 2 release 18446744073709551615 0 release 18446744073709551615 7",
     " run 1 0 ran 0 3 1 write 4294967296 5a5a5a5a",
     " run 1 0 faulted 1 0 A3 at 1 2 9 global 18446744073709551615 2 signal 1 1 0 release 1 0",
     " run 1 0 faulted 1 0 A7 at 0 0 12 group 4294967295 1 release 1 0",
@@ -41,7 +43,7 @@ const ENTRIES: [&str; 34] = [
     " reload 0 1 anyone each signal 8 accepted 0",
 ];
 
-const NO_ENTRIES: [&str; 23] = [
+const NO_ENTRIES: [&str; 25] = [
     "",
     " ",
     "open 1 1 64 opened 1 0",
@@ -54,6 +56,8 @@ const NO_ENTRIES: [&str; 23] = [
     " open 1 1 18446744073709551616 opened 1 0",
     " open -1 1 64 opened 1 0",
     " Open 1 1 64 opened 1 0",
+    " close accepted 0",
+    " close 3 0 accepted 0",
     " grant 1 agent 1 256 accepted 0",
     " grant 1 object 1 1 accepted 0",
     " run 1 0 ran 0 3 2 write 4294967296 5a5a5a5a",
@@ -101,7 +105,7 @@ fn read_of(alloc: Global, texts: &[&str]) -> Result<usize, AllocError> {
 
 #[test]
 fn each_text_of_an_entry_is_read_and_written_again(rt: HostRuntime) -> Result<(), Fail> {
-    assert_eq!(rt; coming_back(rt.alloc(), &ENTRIES)?, 34);
+    assert_eq!(rt; coming_back(rt.alloc(), &ENTRIES)?, 36);
     Ok(())
 }
 

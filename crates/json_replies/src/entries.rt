@@ -107,6 +107,10 @@ fn put_call(out: &mut String, policy: &Policy, call: &Call) -> Result<(), AllocE
             put_text(out, "event", "stop")?;
             put_number(out, "queue", queue.0)
         }
+        Call::Close { queue } => {
+            put_text(out, "event", "close")?;
+            put_number(out, "queue", queue.0)
+        }
         Call::RunNext { queue, packet } => put_packet(out, "run", *queue, *packet),
         Call::Poll { queue, packet } => put_packet(out, "poll", *queue, *packet),
         Call::Finish { queue, packet } => put_packet(out, "finish", *queue, *packet),

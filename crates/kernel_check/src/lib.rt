@@ -10,6 +10,14 @@ mod checking;
 mod constants;
 mod fault;
 mod flat;
+mod flat_atomics;
+mod flat_bits;
+mod flat_group;
+mod flat_memory;
+mod flat_operands;
+mod flat_parts;
+mod flat_registers;
+mod flattening;
 mod kernarg;
 mod labels;
 mod laws;
@@ -27,6 +35,11 @@ pub use checked::Checked;
 pub use checking::check;
 pub use fault::{CheckCause, CheckError, CheckFault};
 pub use flat::FlatStep;
+pub use flat_parts::{
+    ArgumentAt, Bit, Calculation, Change, ChosenConstants, Compared, ComparedBehind,
+    ConstantBehind, Conversion, FromOne, FromThree, FromTwo, MaybeRegister, Operand, Operation,
+    PlaceIn, Question, ShiftOperation, Signedness,
+};
 pub use laws::{
     law_faults_are_earliest, law_numbers_are_those_of_the_rules, law_steps_are_faithful,
     law_steps_do_what_words_say, law_steps_have_what_they_need, law_wide_arguments_ascend,

@@ -5,7 +5,8 @@ ghost use Rattle.std.specs.List.{All};
 ghost use Rattle.std.specs.Str.{bytes_eq};
 ghost use Rattle.kernel_check.specs.Limits.{most_argument_bytes, most_group_bytes, most_instructions};
 
-use crate::flat::{FlatStep, flat_steps};
+use crate::flat::FlatStep;
+use crate::flattening::flat_steps;
 use crate::step::{LinedStep, Step};
 use sequences::Sequence;
 use std::alloc::{AllocError, Global};

@@ -6,9 +6,11 @@
 mod faults;
 mod kernel_lines;
 mod lines;
+mod step_lines;
+mod steps;
 
 use hsail_reader::{Module, ReadError, ReadFault, read_module};
-use kernel_check::{CheckError, CheckFault, check};
+use kernel_check::{CheckError, CheckFault, Checked, check};
 use std::alloc::{AllocError, Global};
 
 /// What is wrong with a kernel's text: its first fault.
@@ -18,6 +20,15 @@ pub enum TextFault {
     Read(ReadFault),
     /// Its module is refused.
     Check(CheckFault),
+}
+
+/// How kernels are told.
+#[derive(Clone, Copy, Debug, PartialEq, Eq)]
+pub enum Form {
+    /// With their arguments and variables, and each instruction as it stands in the text.
+    Text,
+    /// With the steps that the instructions were turned into, as cases have them.
+    Steps,
 }
 
 /// What is told of a kernel's text (own).
@@ -37,19 +48,38 @@ pub fn told(alloc: Global, text: &[u8], fault: TextFault) -> Result<String, Allo
     }
 }
 
+// What is told of the kernels of a module: their text and types, or the steps that they were turned into.
+fn told_in(
+    alloc: Global,
+    text: &[u8],
+    module: &Module,
+    checked: &Checked,
+    form: Form,
+) -> Result<String, AllocError> {
+    match form {
+        Form::Text => kernel_lines::listed(alloc, text, module, checked),
+        Form::Steps => step_lines::stepped(alloc, checked),
+    }
+}
+
 // What is told of a module.
-fn list_module(alloc: Global, text: &[u8], module: &Module) -> Result<Listing, AllocError> {
+fn list_module(
+    alloc: Global,
+    text: &[u8],
+    module: &Module,
+    form: Form,
+) -> Result<Listing, AllocError> {
     match check(alloc, module) {
-        Ok(checked) => Ok(Listing::Kernels(kernel_lines::listed(alloc, text, module, &checked)?)),
+        Ok(checked) => Ok(Listing::Kernels(told_in(alloc, text, module, &checked, form)?)),
         Err(CheckError::OutOfMemory) => Err(AllocError),
         Err(CheckError::Fault(fault)) => Ok(Listing::Fault(TextFault::Check(fault))),
     }
 }
 
-/// Reads and checks the text of a module, and tells its kernels or its first fault.
-pub fn list(alloc: Global, text: &[u8]) -> Result<Listing, AllocError> {
+/// Reads and checks the text of a module, and tells its kernels in a form, or its first fault.
+pub fn list(alloc: Global, text: &[u8], form: Form) -> Result<Listing, AllocError> {
     match read_module(alloc, text) {
-        Ok(module) => list_module(alloc, text, &module),
+        Ok(module) => list_module(alloc, text, &module, form),
         Err(ReadError::OutOfMemory) => Err(AllocError),
         Err(ReadError::Fault(fault)) => Ok(Listing::Fault(TextFault::Read(fault))),
     }

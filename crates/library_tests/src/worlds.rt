@@ -3,7 +3,7 @@
 
 use crate::studio::POLICY;
 use aql_packet::{AgentHandle, ClientId, QueueId};
-use core_model::{Call, Query};
+use core_model::{Call, Outcome, Query};
 use policy::{Object, Rights};
 use ring_core::{Access, Seen, Step};
 use script::run_script;
@@ -160,5 +160,38 @@ fn tells_its_audit(alloc: Global, mut world: World, stages: &[(&str, usize)]) ->
 #[test]
 fn an_audit_is_told_whatever_it_has(rt: HostRuntime) -> Result<(), Fail> {
     assert!(rt; tells_its_audit(rt.alloc(), fresh(rt.alloc())?, &STAGES));
+    Ok(())
+}
+
+/// How many slots a queue's ring has, how many queues the core keeps something of, and of how many packets in flight.
+fn kept(world: &World) -> (u64, usize, usize) {
+    let sizes = world.core().table_sizes();
+    (world.slots(QUEUE), sizes.queues, sizes.argument_blocks)
+}
+
+fn close(alloc: Global, world: &mut World) -> Reply {
+    world.serve(alloc, Request::Call(Call::Close { queue: QUEUE }))
+}
+
+/// Whether a reply tells that what was asked is done.
+fn is_accepted(reply: Reply) -> bool {
+    matches!(
+        reply,
+        Ok(Answer::Core(core_model::Answer::Outcome(Outcome::Accepted)))
+    )
+}
+
+/// Whether a queue with a packet in flight is closed, and nothing is kept of it then.
+fn gives_all_back(alloc: Global, mut world: World) -> bool {
+    let is_launched = does(alloc, &mut world, LAUNCH) && kept(&world) == (2, 1, 1);
+    let is_open = world.queue_after(QueueId(0)) == Some(QUEUE);
+    let is_closed = is_accepted(close(alloc, &mut world)) && kept(&world) == (0, 0, 0);
+    let is_gone = world.ring(QUEUE).is_none() && world.queue_after(QueueId(0)).is_none();
+    is_launched && is_open && is_closed && is_gone
+}
+
+#[test]
+fn a_close_gives_back_what_was_kept(rt: HostRuntime) -> Result<(), Fail> {
+    assert!(rt; gives_all_back(rt.alloc(), fresh(rt.alloc())?));
     Ok(())
 }

@@ -19,7 +19,7 @@ This page is for authors of kernels. It goes from a kernel's text to its writes 
 `brokerd kernel FILE` reads and checks a kernel's text without a policy:
 
 ```console
-$ brokerd kernel crates/cases/data/inc.hsail
+$ brokerd kernel cases/inc.hsail
 kernel &inc arguments 8 group 0 steps 9
 argument 0 u64 %p
 step 0 line 4 ld_kernarg_u64 $d0, [%p];
@@ -39,7 +39,7 @@ Of each kernel come, in this order:
 - `argument OFFSET TYPE NAME` and `group OFFSET TYPE NAME` for its variables at their places;
 - its steps, counted from 0, each with its line and that line's text.
 
-The last line is `ok`. A fault goes to standard error, with the text of its line and a mark, and ends the command with status 1:
+The last line is `ok`. With `--steps` the steps come as the check made them, in the form of cases (`docs/cases.md`). A fault goes to standard error, with the text of its line and a mark, and ends the command with status 1:
 ```
 read 2 line 3 column 14: Syntax: no module goes on with this token
   \tmov_b32 $s0,;
@@ -52,7 +52,7 @@ The reader knows the token, and it is marked. The check knows the line of an ite
 `examples/increment.script`, over the sample policy, adds 1 to four numbers:
 
 ```console
-$ (cd crates/brokerd && rt try -- run data/sample.toml) < examples/increment.script
+$ brokerd run crates/brokerd/data/sample.toml < examples/increment.script
 ...
 9 take 1 0 launched
 10 run 1 0 group 0; write 0000000100000000 0200000003000000
@@ -243,5 +243,5 @@ Take the example with `3100000001000000` as the argument, which is byte 49 of `b
 
 ## Where this is tried
 
-`crates/cases/data` has each of these rules at both sides of its bounds: `kernel_launches.case`, `kernel_holds.case`, `access_rules.case`; barriers, group memory and atomic operations in `work_groups.case`, `work_group_faults.case`, `group_segments.case` and `atomics_32.case`; runs with their audits in `kernel_runs.case`; and what each instruction leaves, at each of its types, in `pairs_32.case` and the files after it.
+`cases` has each of these rules at both sides of its bounds: `kernel_launches.case`, `kernel_holds.case`, `access_rules.case`; barriers, group memory and atomic operations in `work_groups.case`, `work_group_faults.case`, `group_segments.case` and `atomics_32.case`; runs with their audits in `kernel_runs.case`; and what each instruction leaves, at each of its types, in `pairs_32.case` and the files after it.
 ";

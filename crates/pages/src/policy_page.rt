@@ -191,9 +191,9 @@ A refused call of the core changes nothing. The lines `publish`, `submit`, `peek
 |---|---|---|
 | 0 OutOfMemory | an opening, a reservation (`reserve`, `submit`), a launch, a group, a client's write, a reload, a rotation, and a query that is answered by a list. Where the call is refused otherwise it isn't told, but for a group for which the audit has no room, and for the line `reload`, since the policy is copied first | memory was wanted and not to be had; the same call later counts as the first |
 | 1 UnknownClient | all calls of a client or about one | the policy declares no client of this name or number |
-| 2 UnknownQueue | calls about a queue | no queue of this number was opened |
+| 2 UnknownQueue | calls about a queue | no open queue has this number: it was never opened, or it was closed |
 | 3 Denied RIGHT | `queue`, `write`, `read`, `signal`, `load`, `test` | the client lacks this right on the agent, region or signal, which may not exist, or the range leaves its region: a grant helps |
-| 4 Busy queue Q packet ID | `revoke`, `reload` | this packet in flight holds a right that is to be taken: finish it, then revoke or reload |
+| 4 Busy queue Q packet ID | `revoke`, `reload` | this packet in flight holds a right that is to be taken: finish it, or close its queue, then revoke or reload |
 | 5 NotAllowed | `grant` | no allow row of the policy covers one of the rights, or a deny row covers it: the policy has to be widened |
 | 6 OutOfStep N | the packet processor's hand-over | the queue's next packet is N |
 | 7 QueueDown | `serve`, `stop` | the queue has an error or was stopped and launches nothing more; open another. For `stop`: it was stopped before |
@@ -201,7 +201,7 @@ A refused call of the core changes nothing. The lines `publish`, `submit`, `peek
 | 9 NotFinished | `finish` | the packet has groups to run, or its barrier isn't ready |
 | 10 AuditFull | every call that would leave an entry, but those that take a packet out of flight | the audit has no room beside the places that are kept for packets in flight: hand it out (`rotate`), or open the broker with more. To finish packets makes no room, since each uses the place that was kept for it |
 | 11 BadSize | `queue`, `write`, `read` | a queue's size is a power of two from 2 to 4,096 with 1 to 16 producers; a client reads or writes 1 to 65,536 bytes in one call |
-| 12 TooMany | `queue` | 64 queues were opened |
+| 12 TooMany | `queue` | 64 queues are open: close one |
 | 13 UnknownObject | `grant`, `revoke` | the policy declares no object of this name or number |
 | 14 NotAStep | `submit`, and lines that make single steps | the ring has no producer of this number, or may not make this step now |
 | 15 Spent | `submit`, `reserve` | the producer has reserved 2^40 ids; the ring's others may go on |

@@ -34,7 +34,7 @@ The second line becomes two: Alice writes the argument block, and the packet is 
 write alice 0000000200000000 0000000001000000
 submit 1 1 02140100020001000100000004000000010000000100000000000000000000000100000000000000000000000200000000000000000000000100000000000000
 ```
-Both are cases in `crates/cases/data/readable.case`, with all their replies.
+Both are cases in `cases/readable.case`, with all their replies.
 
 ## The lines
 Q is a queue's number, P that of a producer; what stands in capitals is put in.
@@ -109,7 +109,7 @@ ok
 drained launched 1 denied 0 ran 1 faulted 0 ready 1 failed 0 finished 2 waiting 0
 bytes 5a5a5a5a
 ```
-A drain makes the requests that `serve`, `run`, `poll` and `finish` make, one after the other, and replies once. In each round every queue is served as far as it comes; then each packet in flight is run group by group, or polled, and finished once its work is done. After a round in which nothing moved it is over.
+A drain makes the requests that `serve`, `run`, `poll` and `finish` make, one after the other, and replies once. In each round every open queue is served as far as it comes; then each packet in flight is run group by group, or polled, and finished once its work is done. After a round in which nothing moved it is over.
 
 Its first line counts what its requests came to: packets `launched` and `denied`, groups that `ran` and `faulted`, barrier packets that were `ready` and `failed`, packets `finished`. `waiting N` counts the lines that follow, one for each request of the last round that moved nothing though something is there. Such a line has the queue, the packet where the request named one, and the reply to the request. After `pending on` stand the signals that a barrier packet depends on. What is refused, as `refused 7 QueueDown` of a stopped queue, waits too.
 
@@ -124,7 +124,7 @@ A line that `assemble` passes on begins with a word of a script's table, has non
 - Which packet each form is, field by field, from its operands and options (`dispatch_packet`, `fill_packet`, `copy_packet`, `add_packet`, `all_of_packet`, `any_of_packet`, with their definitions in `specs/Packets.antt`).
 - Which numbers words stand for, and where a line's words begin and end.
 
-Which of them a line uses, that operands are read in the order above, and the argument block is only tested, by `assembled.case`, `argument_blocks.case` and `readable.case` in `crates/cases/data`.
+Which of them a line uses, that operands are read in the order above, and the argument block is only tested, by `assembled.case`, `argument_blocks.case` and `readable.case` in `cases`.
 
 A drain is a list of requests in turn. Each is that of a line `serve Q`, `run Q ID`, `poll Q ID` or `finish Q ID`, and is replied to as that line is. Its counts are just those of these replies (`drain` in `crates/readable`, its clauses `Makes` and `Drains`). That it goes on while something moves, and what it tells of what waits, is tested: `tests/readable.py`.
 

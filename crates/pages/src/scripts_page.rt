@@ -55,6 +55,7 @@ Clients and objects go by their names in the policy; a name that isn't there sta
 | `revoke CLIENT KIND NAME RIGHT,RIGHT` | takes them back | `ok` |
 | `queue CLIENT AGENT SIZE PRODUCERS` | opens a queue with its ring: 2 to 4,096 slots, a power of two; 1 to 16 producers | `queue Q` |
 | `stop Q` | stops a queue | `ok` |
+| `close Q` | closes a queue: what it has in flight is released, uncompleted, and no line finds it from then on (`docs/barriers.md`) | `ok` |
 | `reserve Q PRODUCER` | a producer reserves an id (`Reserve`) | `ticket T` |
 | `room Q PRODUCER T` | it looks at the read index for a ticket (`LoadReadIndex`) | `read R` |
 | `word Q PRODUCER T K WORD` | it stores word K of the ticket's packet: of its body for 1 to 7 (`StoreBody`), its header for 0 (`StoreHeader`) | `ok` |
@@ -99,17 +100,17 @@ A line of one request that is refused changes nothing; of a line of several the 
 |---|---|---|
 | `refused 0 OutOfMemory` | what would take memory | try again; what was refused was not done |
 | `refused 1 UnknownClient` | lines that name a client | name a client of the policy, or give it a `[[client]]` row |
-| `refused 2 UnknownQueue` | lines that name a queue | open it, and use the number that `queue` was answered |
+| `refused 2 UnknownQueue` | lines that name a queue | open one, and use the number that `queue` was answered; one that was closed is gone, and its number is given to none again |
 | `refused 3 Denied RIGHT` | `queue`, `write`, `read`, `signal`, `load`, `test` | grant RIGHT on the agent, region or signal; for `write` and `read` see also that the range ends inside its region |
-| `refused 4 Busy queue Q packet ID` | `revoke`, `reload` | that packet holds a right that is to be taken: bring it to its end (`run` and `finish`, or `poll` and `finish`), then try again |
+| `refused 4 Busy queue Q packet ID` | `revoke`, `reload` | that packet holds a right that is to be taken: bring it to its end (`run` and `finish`, or `poll` and `finish`), or give it up (`close` its queue), then try again |
 | `refused 5 NotAllowed` | `grant` | no allow row covers one of the rights, a deny row covers it, or it is none of the object's kind: widen the policy, or ask for less |
 | `refused 6 OutOfStep N` | `take` of a packet that was launched or denied already | `retire` it; the next id is N |
-| `refused 7 QueueDown` | `take`, `serve`, `stop` | read `errors Q`, mend the cause, open another queue |
+| `refused 7 QueueDown` | `take`, `serve`, `stop` | read `errors Q`, mend the cause, open another queue; `close` gives back the place of the one that is down |
 | `refused 8 NotInFlight` | `run`, `poll`, `finish` | the packet was never launched, or has left; `run` is for dispatches, `poll` for barrier packets |
 | `refused 9 NotFinished` | `finish` | `run` until 0 are left, or `poll` until `ready` |
 | `refused 10 AuditFull` | what would leave an entry | hand the audit out (`rotate`), or begin anew with `--audit N`, up to 1,048,576; finishing packets makes no room |
 | `refused 11 BadSize` | `queue`, `write`, `read` | a queue has 2 to 4,096 slots, a power of two, and 1 to 16 producers; a client writes and reads 1 to 65,536 bytes a line |
-| `refused 12 TooMany` | `queue` | 64 queues were opened: use those |
+| `refused 12 TooMany` | `queue` | 64 queues are open: use those, or `close` one |
 | `refused 13 UnknownObject` | `grant`, `revoke` | name an object of the policy of that kind, or declare it |
 | `refused 14 NotAStep` | lines on a ring | the seat may not make this step now: `docs/rings.md` says when each is allowed; a producer's number is 1 to that of the queue's producers |
 | `refused 15 Spent` | `reserve`, `submit` | the producer has reserved 2^40 ids: use another |
@@ -207,8 +208,8 @@ The status is 0 where all lines were done or answered, and 2 where the command l
 $ brokerd picture crates/brokerd/data/sample.toml < examples/two_queues.script | cmp - docs/picture.svg
 ```
 - **Entries.** The colours are told on top. The numbers below them are those of the audit's entries, of the whole history. After a `rotate` they go on, and the queues and packets in flight with which the rest of the audit begins have their lanes and bars from the left edge on.
-- **Lanes.** The first is the administrator's and the clients'. Below it each queue has one, from its opening on, as high as its packets need. A line across all lanes is a reload.
-- **Packets.** A bar is a packet from its launch to its release, in the first row of its lane that is free. It has its id and its kernel or function where there is room: green where it completed, red where it faulted, grey where its queue was stopped, blue where it is still in flight. Ticks in its lower part are its groups, the dark end its completion. A red mark is a denial or a fault, with its rule after it.
+- **Lanes.** The first is the administrator's and the clients'. Below it each queue has one, from its opening to its close, as high as its packets need; a queue that was closed before the first entry that is drawn has none. A line across all lanes is a reload.
+- **Packets.** A bar is a packet from its launch to its release, in the first row of its lane that is free. It has its id and its kernel or function where there is room: green where it completed, red where it faulted, grey where its queue was stopped or closed, blue where it is still in flight. Ticks in its lower part are its groups, the dark end its completion. A red mark is a denial or a fault, with its rule after it.
 - **Signals.** A violet tick is a poll of a barrier packet that saw a signal at 0, and an arrow leads there from what set it to 0.
 - **In the first lane** green marks are grants, orange ones revocations, blue ones a client's writes and violet ones its changes of signals.
 - **Under the pointer** each mark tells its entry: queue and packet, rights, how many bytes of which region were written, and signals with the values before and after.
@@ -229,8 +230,8 @@ A page is that of a whole script or there is none. Where a line has no form, or 
 
 ## Every form once
 
-These lines stand after the first seven requests of `examples/fill.script`, which grant Alice what the sample policy allows and open queue 1 with two slots for two producers. Lines that begin with `>` are asked, the others are the replies. The whole is a case in `crates/cases/data/forms.case`, where `{FILL}` stands for the packet of that script.
-```script over=crates/brokerd/data/sample.toml behind=examples/fill.script:7 names=crates/cases/data/packets.names
+These lines stand after the first seven requests of `examples/fill.script`, which grant Alice what the sample policy allows and open queue 1 with two slots for two producers. Lines that begin with `>` are asked, the others are the replies. The whole is a case in `cases/forms.case`, where `{FILL}` stands for the packet of that script.
+```script over=crates/brokerd/data/sample.toml behind=examples/fill.script:7 names=cases/packets.names
 > reserve 1 1
 ticket 0
 > room 1 1 0
@@ -302,8 +303,10 @@ queue 2
 ok
 > errors 2
 errors 0
+> close 2
+ok
 > audit
-audit 21
+audit 22
 1 grant alice agent 1 USE
 2 grant alice region 1 READ,WRITE
 3 grant alice region 2 READ,WRITE
@@ -325,5 +328,6 @@ audit 21
 19 revoke bob region 1 READ
 20 queue 2 alice agent 1 size 4
 21 stop 2
+22 close 2
 ```
 ";

@@ -1,23 +1,23 @@
 -- Walks over lists by index: what is left at an index is the item there and what is left behind it.
-use Rattle.std.proofs.Common.{◌≡◌, ℕ, suc, ◌+◌, ◌-◌, ◌<◌, ◌≤◌, true, false, List, ◌∷◌, ◌++◌, length, get_or, take, drop, drop-cons, add-one, Option, Some, if◌then◌else◌, refl, sym, ap, ◌∙◌, append_assoc, append-nil, ◌==◌, arith}
+use Rattle.std.proofs.Common.{◌≡◌, ℕ, suc, ◌+◌, ◌-◌, ◌<◌, ◌≤◌, true, false, List, ◌∷◌, ◌++◌, length, get_or, take, drop, drop-cons, add-one, Option, Some, nat_le, if◌then◌else◌, refl, sym, ap, ◌∙◌, append_assoc, append-nil, ◌==◌, arith}
 use Rattle.std.proofs.lemmas.List.{drop_all, take_all, length-drop}
 use Rattle.aql_packet.specs.declared.ids.QueueId.{QueueId}
 use Rattle.aql_packet.specs.declared.ids.PacketId.{PacketId}
 use Rattle.core_model.specs.declared.entry.Entry.{Entry}
-use Rattle.core_model.specs.declared.origin.QueueOrigin.{QueueOrigin}
 use Rattle.core_model.specs.declared.origin.PacketOrigin.{PacketOrigin}
 use Rattle.policy.specs.Policy.{Declared}
 use Rattle.picture.specs.declared.arrows.Zero.{Zero}
 use Rattle.picture.specs.declared.element.Ending.TheVariants as ending
 use Rattle.picture.specs.declared.element.Frame.{Frame}
+use Rattle.picture.specs.declared.element.Lane.{Lane}
 use Rattle.picture.specs.declared.element.Spot.{Spot}
 use Rattle.picture.specs.declared.seats.Seat.{Seat}
 use Rattle.picture.specs.Arrows.{last_zero, zeros_after}
-use Rattle.picture.specs.Frames.{is_opening, lanes_in, one_lane_more}
-use Rattle.picture.specs.Reading.{deepened, deepened_to, depths_in, depths_of, ending_of, end_of, lane_of_queue, spot_of}
+use Rattle.picture.specs.Lanes.{deepened, lanes_after, lanes_in, lanes_of, place_of}
+use Rattle.picture.specs.Reading.{close_of, closes, ending_of, end_of, spot_of}
 use Rattle.picture.specs.Shapes.{height_at, height_of_lanes}
 use Rattle.picture.specs.Seats.{releases, seats_after, seats_of, with_seat}
-use Rattle.picture.specs.Pages.{text_of_entry, text_of_entries, text_of_queue, text_of_queues}
+use Rattle.picture.specs.Pages.{text_of_entry, text_of_entries}
 
 at_index : {X : Type 0} (xs : List X) (i : ℕ) (x : X) → i < length xs → x ≡ get_or xs i x → drop i xs ≡ x ∷ drop (i + 1) xs
 at_index xs i x lt is = rw (add-one, drop-cons xs i x) (ap (λ y. y ∷ drop (suc i) xs) (sym is))
@@ -45,6 +45,26 @@ unfolding end_of
 end_later queue id n i m entries entry lt is later e =
     rw (at_index entries i entry lt is, later) (ap (λ k. end_of queue id k (drop (i + 1) entries)) e)
 
+-- ---- the entry that closes a queue
+
+-- none of the entries that are left closes it, where none is left
+pub close_at_end : (queue : QueueId) (n i at : ℕ) (entries : List Entry) → length entries ≤ i → n ≡ at → close_of queue n (drop i entries) ≡ at
+unfolding close_of
+close_at_end queue n i at entries le e = rw (drop_all i entries le, e) refl
+
+-- the entry at an index closes it
+pub close_here : (queue : QueueId) (n i : ℕ) (entries : List Entry) (entry : Entry) → i < length entries → entry ≡ get_or entries i entry
+    → closes queue entry.event ≡ true → close_of queue n (drop i entries) ≡ n + 1
+unfolding close_of
+close_here queue n i entries entry lt is here = rw (at_index entries i entry lt is, here) refl
+
+-- it doesn't
+pub close_later : (queue : QueueId) (n i m : ℕ) (entries : List Entry) (entry : Entry) → i < length entries → entry ≡ get_or entries i entry
+    → closes queue entry.event ≡ false → n + 1 ≡ m → close_of queue n (drop i entries) ≡ close_of queue m (drop (i + 1) entries)
+unfolding close_of
+close_later queue n i m entries entry lt is later e =
+    rw (at_index entries i entry lt is, later) (ap (λ k. close_of queue k (drop (i + 1) entries)) e)
+
 -- ---- where a signal was made 0 last
 
 -- one zero more
@@ -59,51 +79,63 @@ pub zero_end : (signal i : ℕ) (found : Option Spot) (zeros : List Zero) → le
 unfolding last_zero
 zero_end signal i found zeros le = rw (drop_all i zeros le) refl
 
--- ---- how many lanes there are
+-- ---- the place of a queue's lane
 
--- one entry more
-pub lanes_step : (n i : ℕ) (entries : List Entry) (entry : Entry) → i < length entries → entry ≡ get_or entries i entry
-    → lanes_in n (drop i entries) ≡ lanes_in (if is_opening entry.event then one_lane_more n else n) (drop (i + 1) entries)
-unfolding lanes_in
-lanes_step n i entries entry lt is = rw (at_index entries i entry lt is) refl
+at_place : {X : Type 0} (xs : List X) (i : ℕ) (x : X) → i < length xs → drop i xs ≡ get_or xs i x ∷ drop (i + 1) xs
+at_place xs i x lt = rw (add-one, drop-cons xs i x) refl
+
+-- the lane at an index is the queue's
+pub place_here : (queue i : ℕ) (lanes : List Lane) (lane : Lane) → i < length lanes → ((get_or lanes i lane).queue == queue) ≡ true
+    → i + place_of (drop i lanes) queue ≡ i
+unfolding place_of
+place_here queue i lanes lane lt here = rw (at_place lanes i lane lt, here) (omega arith)
+
+-- it isn't
+pub place_later : (queue i : ℕ) (lanes : List Lane) (lane : Lane) → i < length lanes → ((get_or lanes i lane).queue == queue) ≡ false
+    → i + place_of (drop i lanes) queue ≡ (i + 1) + place_of (drop (i + 1) lanes) queue
+unfolding place_of
+place_later queue i lanes lane lt later = rw (at_place lanes i lane lt, later) (omega arith)
 
 -- none left
-pub lanes_end : (n i : ℕ) (entries : List Entry) → length entries ≤ i → lanes_in n (drop i entries) ≡ n
-unfolding lanes_in
-lanes_end n i entries le = rw (drop_all i entries le) refl
+pub place_end : (queue i : ℕ) (lanes : List Lane) → length lanes ≡ i → i + place_of (drop i lanes) queue ≡ length lanes
+unfolding place_of
+place_end queue i lanes e = rw (drop_all i lanes (omega (arith, e))) (omega (arith, e))
 
--- ---- the lowest rows
+-- ---- which lanes there are
 
 -- one seat more
-pub depths_step : (depths : List ℕ) (i : ℕ) (seats : List Seat) (seat : Seat) → i < length seats
-    → depths_of depths (drop i seats)
-    ≡ depths_of (deepened depths (lane_of_queue (get_or seats i seat).flying.queue) (get_or seats i seat).row) (drop (i + 1) seats)
-unfolding depths_of
-depths_step depths i seats seat lt = rw (add-one, drop-cons seats i seat) refl
+pub depths_step : (lanes : List Lane) (i : ℕ) (seats : List Seat) (seat : Seat) → i < length seats
+    → lanes_of lanes (drop i seats)
+    ≡ lanes_of (deepened lanes (get_or seats i seat).flying.queue.0 (get_or seats i seat).row) (drop (i + 1) seats)
+unfolding lanes_of
+depths_step lanes i seats seat lt = rw (add-one, drop-cons seats i seat) refl
 
 -- none left
-pub depths_end : (depths : List ℕ) (i : ℕ) (seats : List Seat) → length seats ≤ i → depths_of depths (drop i seats) ≡ depths
-unfolding depths_of
-depths_end depths i seats le = rw (drop_all i seats le) refl
+pub depths_end : (lanes : List Lane) (i : ℕ) (seats : List Seat) → length seats ≤ i → lanes_of lanes (drop i seats) ≡ lanes
+unfolding lanes_of
+depths_end lanes i seats le = rw (drop_all i seats le) refl
 
 -- one entry more
-pub lower_step : (depths : List ℕ) (i : ℕ) (seats : List Seat) (entries : List Entry) (entry : Entry) → i < length entries → entry ≡ get_or entries i entry
-    → depths_in depths seats (drop i entries) ≡ depths_in (deepened_to depths (spot_of seats 0 entry)) (seats_after seats entry) (drop (i + 1) entries)
-unfolding depths_in
-lower_step depths i seats entries entry lt is = rw (at_index entries i entry lt is) refl
+pub lanes_step : (skipped : ℕ) (lanes : List Lane) (i : ℕ) (seats : List Seat) (entries : List Entry) (entry : Entry) → i < length entries
+    → entry ≡ get_or entries i entry
+    → lanes_in skipped i lanes seats (drop i entries)
+    ≡ lanes_in skipped (i + 1) (lanes_after (nat_le skipped i) lanes seats entry) (seats_after seats entry) (drop (i + 1) entries)
+unfolding lanes_in
+lanes_step skipped lanes i seats entries entry lt is = rw (at_index entries i entry lt is) refl
 
 -- none left
-pub lower_end : (depths : List ℕ) (i : ℕ) (seats : List Seat) (entries : List Entry) → length entries ≤ i → depths_in depths seats (drop i entries) ≡ depths
-unfolding depths_in
-lower_end depths i seats entries le = rw (drop_all i entries le) refl
+pub lanes_end : (skipped : ℕ) (lanes : List Lane) (i : ℕ) (seats : List Seat) (entries : List Entry) → length entries ≤ i
+    → lanes_in skipped i lanes seats (drop i entries) ≡ lanes
+unfolding lanes_in
+lanes_end skipped lanes i seats entries le = rw (drop_all i entries le) refl
 
 -- ---- how high lanes are
 
 -- one lane more
-pub height_step : (depths : List ℕ) (n height one : ℕ) → height ≡ height_of_lanes depths n → one ≡ height_at depths n
-    → height + (one + 6) ≡ height_of_lanes depths (n + 1)
+pub height_step : (lanes : List Lane) (n height one : ℕ) → height ≡ height_of_lanes lanes n → one ≡ height_at lanes n
+    → height + (one + 6) ≡ height_of_lanes lanes (n + 1)
 unfolding height_of_lanes
-height_step depths n height one h k = rw (add-one, h, k) refl
+height_step lanes n height one h k = rw (add-one, h, k) refl
 
 -- ---- the seats of packets
 
@@ -117,24 +149,6 @@ seats_step i seats packets packet lt is = rw (at_index packets i packet lt is) r
 pub seats_end : (i : ℕ) (seats : List Seat) (packets : List PacketOrigin) → length packets ≤ i → seats_of seats (drop i packets) ≡ seats
 unfolding seats_of
 seats_end i seats packets le = rw (drop_all i packets le) refl
-
--- ---- the text of queues
-
--- a lane is written, and those that are left still make the whole
-pub queues_step : (frame : Frame) (policy : Declared) (count i : ℕ) (queues : List QueueOrigin) (queue : QueueOrigin) (old : List ℕ)
-    {new whole : List ℕ} → i < length queues → queue ≡ get_or queues i queue
-    → new ≡ old ++ text_of_queue frame policy count (record { 0 = i + 1 }) queue
-    → old ++ text_of_queues frame policy count i (drop i queues) ≡ whole
-    → new ++ text_of_queues frame policy count (i + 1) (drop (i + 1) queues) ≡ whole
-unfolding text_of_queues
-queues_step frame policy count i queues queue old lt is made before =
-    rw made (append_assoc old _ _ ∙ (rw (at_index queues i queue lt is) at before))
-
--- none left
-pub queues_all : (frame : Frame) (policy : Declared) (count i : ℕ) (queues : List QueueOrigin) {out whole : List ℕ} → length queues ≤ i
-    → out ++ text_of_queues frame policy count i (drop i queues) ≡ whole → out ≡ whole
-unfolding text_of_queues
-queues_all frame policy count i queues {out} le e = sym (append-nil out) ∙ (rw (drop_all i queues le) at e)
 
 -- ---- the text of entries
 

@@ -1,14 +1,12 @@
 -- What a page is drawn by (own): which entries, how far from each other, and how many lanes and rows they need.
-use Rattle.std.specs.Prelude.{ℕ, ◌+◌, ◌-◌, ◌*◌, ◌/◌, Bool, true, false, nat_lt, List, [], ◌∷◌, length, take, if◌then◌else◌}
-use Rattle.core_model.specs.Limits.{most_queues}
-use Rattle.core_model.specs.declared.event.Event.{Event}
-use Rattle.core_model.specs.declared.event.Event.TheVariants as event
+use Rattle.std.specs.Prelude.{ℕ, ◌+◌, ◌-◌, ◌*◌, ◌/◌, true, false, nat_lt, List, [], length, take, if◌then◌else◌}
 use Rattle.core_model.specs.declared.entry.Entry.{Entry}
 use Rattle.core_model.specs.declared.origin.Origin.{Origin}
 use Rattle.picture.specs.declared.element.Span.{Span}
 use Rattle.picture.specs.declared.element.Frame.{Frame}
 use Rattle.picture.specs.declared.frame.TheConstants.{MOST_DRAWN, ROOM, WIDEST, NARROWEST, THREE, SIX, ALL}
-use Rattle.picture.specs.Reading.{depths_in, depths_of, flat, greater}
+use Rattle.picture.specs.Lanes.{lanes_from, lanes_in, lanes_of}
+use Rattle.picture.specs.Reading.{greater}
 use Rattle.picture.specs.Seats.{seats_of}
 
 -- the lesser of two numbers
@@ -41,28 +39,14 @@ bare_for step room =
     else if nat_lt room (step * 50) then 49
     else 99
 
--- whether an entry opens a queue
-abbrev pub is_opening : Event → Bool
-is_opening (event.Open client agent size) = true
-is_opening _ = false
-
--- one lane more; there are no more than queues
-abbrev pub one_lane_more : ℕ → ℕ
-one_lane_more n = if nat_lt n most_queues then n + 1 else most_queues
-
--- how many lanes there are behind entries, of so many before
-unfoldable pub lanes_in : ℕ → List Entry → ℕ
-lanes_in n [] = n
-lanes_in n (entry ∷ entries) = lanes_in (if is_opening entry.event then one_lane_more n else n) entries
-
 -- what the layer behind is drawn by, of these entries
 abbrev pub frame_of : Origin → List Entry → Span → Frame
 frame_of origin entries span = record {
   is_behind = true;
   before = origin.before;
   skipped = skipped_of origin.before (length entries) span;
-  lanes = lanes_in (lesser most_queues (length origin.queues)) entries;
-  depths = depths_in (depths_of flat (seats_of [] origin.packets)) (seats_of [] origin.packets) entries;
+  lanes = lanes_in (skipped_of origin.before (length entries) span) 0
+      (lanes_of (lanes_from origin.queues) (seats_of [] origin.packets)) (seats_of [] origin.packets) entries;
   step = step_of (length entries - skipped_of origin.before (length entries) span);
   bare = bare_for
       (step_of (length entries - skipped_of origin.before (length entries) span)) (room_of_number (origin.before + length entries));

@@ -1,6 +1,7 @@
 pub mod Escaping
 pub mod Seats
 pub mod Reading
+pub mod Lanes
 pub mod Arrows
 pub mod Frames
 pub mod Words

@@ -64,16 +64,10 @@ text_of_entries frame policy seats zeros n (entry ∷ after) =
 abbrev pub text_of_stop : Frame → Declared → QueueId → Bool → List ℕ
 text_of_stop frame policy queue was_stopped = if was_stopped then text_of_element frame policy (stop_before queue) [] else []
 
--- the lane of a queue with which an audit of so many entries begins
-abbrev pub text_of_queue : Frame → Declared → ℕ → QueueId → QueueOrigin → List ℕ
-text_of_queue frame policy count queue origin =
-    text_of_element frame policy (lane_from_start count queue origin.opening) [] ++ text_of_stop frame policy queue origin.stopped
-
--- the lanes of queues behind so many, each in turn, once
-unfoldable pub text_of_queues : Frame → Declared → ℕ → ℕ → List QueueOrigin → List ℕ
-text_of_queues frame policy count n [] = []
-text_of_queues frame policy count n (origin ∷ queues) =
-    text_of_queue frame policy count (record { 0 = n + 1 }) origin ++ text_of_queues frame policy count (n + 1) queues
+-- the lane of a queue with which an audit of these entries begins
+abbrev pub text_of_queue : Frame → Declared → List Entry → QueueOrigin → List ℕ
+text_of_queue frame policy entries origin =
+    text_of_element frame policy (lane_from_start entries origin.queue origin.opening) [] ++ text_of_stop frame policy origin.queue origin.stopped
 
 -- the bar of a packet in flight with which an audit begins
 abbrev pub text_of_flight : Frame → Declared → List Entry → Seat → List ℕ
@@ -84,7 +78,7 @@ text_of_flight frame policy entries seat = text_of_element frame policy (bar_fro
 -- a layer: queues and packets in flight with which an audit begins, and its entries
 unfoldable pub text_of_layer : Frame → Origin → List Entry → List ℕ
 text_of_layer frame origin entries =
-    text_of_queues frame origin.policy (length entries) 0 origin.queues
+    flat_map (text_of_queue frame origin.policy entries) origin.queues
     ++ flat_map (text_of_flight frame origin.policy entries) (seats_of [] origin.packets)
     ++ text_of_entries frame origin.policy (seats_of [] origin.packets) [] 0 entries
 

@@ -1,11 +1,10 @@
 -- What is drawn of an audit, entry by entry (own). This file alone speaks of events.
-use Rattle.std.specs.Prelude.{ℕ, ◌+◌, ◌-◌, ◌&&◌, nat_lt, nat_le, List, [], ◌∷◌, length, replicate, slice_index, slice_set, Option, Some, None, if◌then◌else◌}
+use Rattle.std.specs.Prelude.{ℕ, ◌+◌, ◌==◌, Bool, false, nat_lt, List, [], ◌∷◌, length, Option, Some, None, if◌then◌else◌}
 use Rattle.aql_packet.specs.declared.ids.QueueId.{QueueId}
 use Rattle.aql_packet.specs.declared.ids.PacketId.{PacketId}
 use Rattle.aql_packet.specs.declared.packet.Packet.{Packet}
 use Rattle.aql_packet.specs.declared.packet.Packet.TheVariants as packet
 use Rattle.aql_packet.specs.Reading.{decoded}
-use Rattle.core_model.specs.Limits.{most_queues}
 use Rattle.core_model.specs.declared.event.Event.{Event}
 use Rattle.core_model.specs.declared.event.Event.TheVariants as event
 use Rattle.core_model.specs.declared.call.Call.{Call}
@@ -27,7 +26,7 @@ use Rattle.picture.specs.declared.element.Spot.{Spot}
 use Rattle.picture.specs.declared.element.Element.{Element}
 use Rattle.picture.specs.declared.reading.End.{End}
 use Rattle.picture.specs.declared.seats.Seat.{Seat}
-use Rattle.picture.specs.Seats.{free_row, releases, row_at, seats_after}
+use Rattle.picture.specs.Seats.{free_row, releases, row_at}
 
 -- the greater of two numbers
 abbrev pub greater : ℕ → ℕ → ℕ
@@ -35,17 +34,13 @@ greater a b = if nat_lt a b then b else a
 
 -- ---- where an entry stands
 
--- the lane of a queue: its number, of which there are no more than queues
-abbrev pub lane_of_queue : QueueId → ℕ
-lane_of_queue queue = if nat_lt most_queues queue.0 then most_queues else queue.0
-
 -- in the lane of a queue, in its first row
 abbrev pub in_lane : ℕ → QueueId → Spot
-in_lane at queue = record { at = at; lane = lane_of_queue queue; row = 0 }
+in_lane at queue = record { at = at; lane = queue.0; row = 0 }
 
 -- in a row of the lane of a queue
 abbrev pub in_row : ℕ → QueueId → ℕ → Spot
-in_row at queue row = record { at = at; lane = lane_of_queue queue; row = row }
+in_row at queue row = record { at = at; lane = queue.0; row = row }
 
 -- in the lane of the administrator and of clients
 abbrev pub at_hosts : ℕ → Spot
@@ -60,6 +55,7 @@ opened _ = record { 0 = 0 }
 abbrev pub spot_of_event : List Seat → ℕ → Event → Outcome → Spot
 spot_of_event seats at (event.Open client agent size) out = in_lane at (opened out)
 spot_of_event seats at (event.Call (call.Stop queue)) out = in_lane at queue
+spot_of_event seats at (event.Call (call.Close queue)) out = in_lane at queue
 spot_of_event seats at (event.Take queue id bytes) out = in_row at queue (free_row seats queue)
 spot_of_event seats at (event.Call (call.RunNext queue id)) out = in_row at queue (row_at seats queue id)
 spot_of_event seats at (event.Call (call.Poll queue id)) out = in_row at queue (row_at seats queue id)
@@ -73,28 +69,6 @@ spot_of_event seats at (event.Reload rows) out = at_hosts at
 -- where an entry stands
 abbrev pub spot_of : List Seat → ℕ → Entry → Spot
 spot_of seats at entry = spot_of_event seats at entry.event entry.outcome
-
--- the lowest row that each lane of a queue needs, where a lane needs one more; the others have one row
-abbrev pub deepened : List ℕ → ℕ → ℕ → List ℕ
-deepened depths lane row =
-    if nat_lt 0 lane && nat_le lane 64 then slice_set depths (lane - 1) (greater (slice_index depths (lane - 1)) row) else depths
-
-abbrev pub deepened_to : List ℕ → Spot → List ℕ
-deepened_to depths spot = deepened depths spot.lane spot.row
-
--- the lowest rows that entries stand in, where so low ones are needed anyway, by the seats before them
-unfoldable pub depths_in : List ℕ → List Seat → List Entry → List ℕ
-depths_in depths seats [] = depths
-depths_in depths seats (entry ∷ entries) = depths_in (deepened_to depths (spot_of seats 0 entry)) (seats_after seats entry) entries
-
--- the lowest rows that seats are in, where so low ones are needed anyway
-unfoldable pub depths_of : List ℕ → List Seat → List ℕ
-depths_of depths [] = depths
-depths_of depths (seat ∷ seats) = depths_of (deepened depths (lane_of_queue seat.flying.queue) seat.row) seats
-
--- each lane has one row
-abbrev pub flat : List ℕ
-flat = replicate 64 0
 
 -- ---- how far a packet's bar reaches
 
@@ -110,6 +84,16 @@ unfoldable pub end_of : QueueId → PacketId → ℕ → List Entry → End
 end_of queue id n [] = record { at = n; ending = ending.Open }
 end_of queue id n (entry ∷ after) =
     if releases queue id entry then record { at = n + 1; ending = ending_of entry.event } else end_of queue id (n + 1) after
+
+-- whether an event closes a queue
+abbrev pub closes : QueueId → Event → Bool
+closes queue (event.Call (call.Close closed)) = closed.0 == queue.0
+closes queue _ = false
+
+-- the entry that closes a queue: the first of those behind the n-th that does, else the last
+unfoldable pub close_of : QueueId → ℕ → List Entry → ℕ
+close_of queue n [] = n
+close_of queue n (entry ∷ after) = if closes queue entry.event then n + 1 else close_of queue (n + 1) after
 
 -- ---- what it is drawn as
 
@@ -145,6 +129,7 @@ abbrev pub sign_of_call : Call → Outcome → Sign
 sign_of_call (call.Grant client object rights) out = sign.Grant client object rights
 sign_of_call (call.Revoke client object rights) out = sign.Revocation client object rights
 sign_of_call (call.Stop queue) out = sign.Stop
+sign_of_call (call.Close queue) out = sign.Close
 sign_of_call (call.RunNext queue id) out = sign_of_work id out
 sign_of_call (call.Poll queue id) out = sign_of_poll id out
 sign_of_call (call.Finish queue id) out = sign.Completion id
@@ -158,27 +143,27 @@ sign_of end (event.Take queue id bytes) out = sign_of_take id bytes end out
 sign_of end (event.Call asked) out = sign_of_call asked out
 sign_of end (event.Reload rows) out = sign.Reload (length rows.allows) (length rows.denies)
 
--- how far an entry's sign reaches: a lane's to the end, a packet's to its release, any other's nowhere
-abbrev pub reach_of : ℕ → Event → List Entry → End
-reach_of at (event.Open client agent size) after = record { at = at + length after; ending = ending.Open }
-reach_of at (event.Take queue id bytes) after = end_of queue id at after
-reach_of at _ after = record { at = at; ending = ending.Open }
+-- how far an entry's sign reaches, by what the entry came to: a lane's to its queue's close, a packet's to its release, any other's nowhere
+abbrev pub reach_of : ℕ → Event → Outcome → List Entry → End
+reach_of at (event.Open client agent size) out after = record { at = close_of (opened out) at after; ending = ending.Open }
+reach_of at (event.Take queue id bytes) out after = end_of queue id at after
+reach_of at _ out after = record { at = at; ending = ending.Open }
 
 -- what is drawn of the entry at a place, from 1, behind these seats and before others
 abbrev pub element_of : List Seat → ℕ → Entry → List Entry → Element
 element_of seats at entry after = record {
   spot = spot_of seats at entry;
-  until = (reach_of at entry.event after).at;
-  sign = sign_of (reach_of at entry.event after).ending entry.event entry.outcome;
+  until = (reach_of at entry.event entry.outcome after).at;
+  sign = sign_of (reach_of at entry.event entry.outcome after).ending entry.event entry.outcome;
 }
 
 -- ---- what an audit begins from, at the place 0
 
--- the lane of a queue with which an audit of so many entries begins
-abbrev pub lane_from_start : ℕ → QueueId → Opening → Element
-lane_from_start count queue opening = record {
+-- the lane of a queue with which an audit of these entries begins
+abbrev pub lane_from_start : List Entry → QueueId → Opening → Element
+lane_from_start entries queue opening = record {
   spot = in_lane 0 queue;
-  until = count;
+  until = close_of queue 0 entries;
   sign = sign.Lane queue opening.client opening.agent;
 }
 

@@ -1,5 +1,6 @@
 -- What is drawn, as text of SVG (Scalable Vector Graphics 1.1; the measures are own).
-use Rattle.std.specs.Prelude.{ℕ, ◌+◌, ◌-◌, ◌*◌, ◌/◌, ◌%◌, ◌==◌, ◌&&◌, ◌||◌, not, Bool, true, false, nat_lt, List, [], ◌++◌, codes, decimal, length, Option, Some, None, slice_index, zero, suc, if◌then◌else◌}
+use Rattle.std.specs.Prelude.{ℕ, ◌+◌, ◌-◌, ◌*◌, ◌/◌, ◌%◌, ◌==◌, ◌&&◌, ◌||◌, not, Bool, true, false, nat_lt, List, [], ◌++◌, codes, decimal, length, Option, Some, None, slice_get, zero, suc, if◌then◌else◌}
+use Rattle.std.specs.Option.{option_map_or}
 use Rattle.policy.specs.Policy.{Declared}
 use Rattle.core_model.specs.declared.entry.Effect.{Effect}
 use Rattle.picture.specs.declared.element.Ending.{Ending}
@@ -9,8 +10,10 @@ use Rattle.picture.specs.declared.element.Sign.TheVariants as sign
 use Rattle.picture.specs.declared.element.Spot.{Spot}
 use Rattle.picture.specs.declared.element.Element.{Element}
 use Rattle.picture.specs.declared.element.Frame.{Frame}
+use Rattle.picture.specs.declared.element.Lane.{Lane}
 use Rattle.picture.specs.declared.shapes.TheConstants.{MARGIN, EDGE, AXIS, HOSTS, LANES, HEAD, ROW, GAP, BAR, DROP, TICK, MARK, THIN, LETTER}
 use Rattle.picture.specs.Escaping.{escaped}
+use Rattle.picture.specs.Lanes.{place_of}
 use Rattle.picture.specs.Words.{told_of, words_of}
 
 -- how far to the right an entry's place is, behind those that are skipped
@@ -18,29 +21,33 @@ abbrev pub left_of : Frame → ℕ → ℕ
 left_of frame at = MARGIN + frame.step * (at - frame.skipped)
 
 -- the lowest row of a queue's lane, by its place among these, from 0
-abbrev pub depth_at : List ℕ → ℕ → ℕ
-depth_at depths place = if nat_lt place 64 then slice_index depths place else 0
+abbrev pub depth_at : List Lane → ℕ → ℕ
+depth_at lanes place = option_map_or (λ lane. lane.depth) (slice_get lanes place) 0
 
 -- how high such a lane is: a head, and its rows
-abbrev pub height_at : List ℕ → ℕ → ℕ
-height_at depths place = HEAD + ROW * (depth_at depths place + 1)
+abbrev pub height_at : List Lane → ℕ → ℕ
+height_at lanes place = HEAD + ROW * (depth_at lanes place + 1)
 
 -- how high so many lanes are, each with the gap below it
-unfoldable pub height_of_lanes : List ℕ → ℕ → ℕ
-height_of_lanes depths zero = 0
-height_of_lanes depths (suc count) = height_of_lanes depths count + (height_at depths count + GAP)
+unfoldable pub height_of_lanes : List Lane → ℕ → ℕ
+height_of_lanes lanes zero = 0
+height_of_lanes lanes (suc count) = height_of_lanes lanes count + (height_at lanes count + GAP)
 
 -- how high the lane of a queue is
 abbrev pub height_of_lane : Frame → ℕ → ℕ
-height_of_lane frame lane = height_at frame.depths (lane - 1)
+height_of_lane frame lane = height_at frame.lanes (place_of frame.lanes lane)
 
 -- where a lane begins; below that of the administrator and of clients stand those of queues
 abbrev pub top_of_lane : Frame → ℕ → ℕ
-top_of_lane frame lane = if lane == 0 then HOSTS else LANES + height_of_lanes frame.depths (lane - 1)
+top_of_lane frame lane = if lane == 0 then HOSTS else LANES + height_of_lanes frame.lanes (place_of frame.lanes lane)
 
 -- where the lanes end
 abbrev pub foot_of : Frame → ℕ
-foot_of frame = LANES + height_of_lanes frame.depths frame.lanes
+foot_of frame = LANES + height_of_lanes frame.lanes (length frame.lanes)
+
+-- whether a lane is on the page
+abbrev pub has_lane : Frame → ℕ → Bool
+has_lane frame lane = lane == 0 || nat_lt (place_of frame.lanes lane) (length frame.lanes)
 
 -- where a row of a lane begins
 abbrev pub top_of_row : Frame → Spot → ℕ
@@ -65,6 +72,7 @@ width_of frame e (sign.Bar packet work ending) = frame.step * reach_of frame e +
 width_of frame e (sign.Group packet group) = width_of_tick frame
 width_of frame e (sign.Reload allows denies) = width_of_tick frame
 width_of frame e sign.Stop = width_of_tick frame
+width_of frame e sign.Close = width_of_tick frame
 width_of frame e _ = width_of_mark frame
 
 -- whether a sign goes over its lane, or over all lanes, behind the others
@@ -72,6 +80,7 @@ abbrev pub is_behind : Sign → Bool
 is_behind (sign.Lane queue client agent) = true
 is_behind (sign.Reload allows denies) = true
 is_behind sign.Stop = true
+is_behind sign.Close = true
 is_behind _ = false
 
 -- whether it is a tick, in the lower part of a bar
@@ -94,6 +103,7 @@ top_of frame e = if is_behind e.sign then top_of_lane frame e.spot.lane else top
 abbrev pub height_of : Frame → ℕ → Sign → ℕ
 height_of frame lane (sign.Lane queue client agent) = height_of_lane frame lane
 height_of frame lane sign.Stop = height_of_lane frame lane
+height_of frame lane sign.Close = height_of_lane frame lane
 height_of frame lane (sign.Reload allows denies) = foot_of frame - (HOSTS + GAP)
 height_of frame lane (sign.Bar packet work ending) = BAR
 height_of frame lane (sign.Group packet group) = TICK
@@ -115,6 +125,7 @@ class_of (sign.Grant client object rights) = codes "grant"
 class_of (sign.Revocation client object rights) = codes "revocation"
 class_of (sign.Lane queue client agent) = codes "lane"
 class_of sign.Stop = codes "stop"
+class_of sign.Close = codes "close"
 class_of (sign.Bar packet work end) = class_of_ending end
 class_of (sign.Denial error) = codes "denial"
 class_of (sign.Group packet group) = codes "group"
@@ -201,12 +212,16 @@ abbrev pub text_of_element : Frame → Declared → Element → List Effect → 
 text_of_element frame policy e effects =
     if is_shown frame e then text_with frame e (told_of policy e effects) (words_of policy e.sign) else []
 
--- an arrow from one place to another, if there is one
-abbrev pub text_of_arrow : Frame → Option Spot → Spot → List ℕ
-text_of_arrow frame None to = []
-text_of_arrow frame (Some from) to =
+-- an arrow from one place to another
+abbrev pub text_of_line : Frame → Spot → Spot → List ℕ
+text_of_line frame from to =
     codes "<line x1=\"" ++ decimal (left_of frame from.at + width_of_mark frame) ++ codes "\" y1=\"" ++ decimal (top_of_row frame from + DROP)
     ++ codes "\" x2=\"" ++ decimal (left_of frame to.at) ++ codes "\" y2=\"" ++ decimal (top_of_row frame to + DROP) ++ codes "\"/>\n"
+
+-- the same, if there is one and it begins in a lane of the page
+abbrev pub text_of_arrow : Frame → Option Spot → Spot → List ℕ
+text_of_arrow frame None to = []
+text_of_arrow frame (Some from) to = if has_lane frame from.lane then text_of_line frame from to else []
 
 -- whether an entry has its number on the axis
 abbrev pub is_numbered : Frame → ℕ → Bool

@@ -69,6 +69,7 @@ words_of policy (sign.Revocation client object rights) = codes "revoke " ++ word
 words_of policy (sign.Lane queue client agent) =
     codes "queue " ++ decimal queue.0 ++ codes " " ++ name_of_client policy client ++ codes " " ++ name_of_object policy (object.Agent agent)
 words_of policy sign.Stop = codes "stop"
+words_of policy sign.Close = codes "close"
 words_of policy (sign.Bar packet work ending) = decimal packet.0 ++ codes " " ++ words_of_work policy work
 words_of policy (sign.Denial error) = words_of_error error
 words_of policy (sign.Group packet group) = decimal packet.0 ++ codes " group " ++ decimal group

@@ -4,6 +4,7 @@ use aql_packet::{AgentHandle, ClientId, KernelObject, PacketId, QueueId};
 use core_model::Satisfied;
 use policy::{Object, Rights};
 use queue_error::QueueError;
+use sequences::Sequence;
 
 /// What a packet in flight is.
 #[derive(Clone, Copy)]
@@ -25,7 +26,7 @@ pub enum Ending {
     Finished,
     /// It broke a rule at its work.
     Faulted,
-    /// Its queue was stopped.
+    /// Its queue was stopped or closed.
     Stopped,
     /// It hadn't, at the audit's end.
     Open,
@@ -46,7 +47,7 @@ pub enum Sign {
         object: Object,
         rights: Rights,
     },
-    /// A queue's lane, from its opening on.
+    /// A queue's lane, from its opening to its close.
     Lane {
         queue: QueueId,
         client: ClientId,
@@ -54,6 +55,8 @@ pub enum Sign {
     },
     /// The stop of a queue.
     Stop,
+    /// The close of a queue.
+    Close,
     /// A packet, from its launch to its release.
     Bar {
         packet: PacketId,
@@ -90,12 +93,22 @@ pub enum Sign {
 }
 
 /// A place of the page: below the place of an entry among those of the audit, from 1, where 0 is what the audit begins
-/// from; in a lane (0 is that of the administrator and of clients, the others are those of queues), in a row of it.
+/// from; in a lane (0 is that of the administrator and of clients, any other that of the queue of this number), in a row of
+/// it.
 #[derive(Clone, Copy)]
 pub struct Spot {
     pub at: u32,
-    pub lane: u8,
+    pub lane: u64,
     pub row: u8,
+}
+
+/// A queue's lane.
+#[derive(Clone, Copy, Debug)]
+pub struct Lane {
+    /// The queue's number.
+    pub queue: u64,
+    /// The lowest row, from 0, that it needs.
+    pub depth: u8,
 }
 
 /// Which entries are asked for, by their numbers.
@@ -108,7 +121,7 @@ pub struct Span {
 }
 
 /// What the elements of a layer of the page are drawn by.
-#[derive(Clone, Copy)]
+#[derive(Drop)]
 pub struct Frame {
     /// Whether the layer is that of what goes over whole lanes, behind the other.
     pub is_behind: bool,
@@ -116,10 +129,8 @@ pub struct Frame {
     pub before: u64,
     /// How many entries of the audit aren't drawn, on the left.
     pub skipped: u32,
-    /// How many queues have a lane.
-    pub lanes: u8,
-    /// The lowest row, from 0, that the lane of each queue needs: the first is queue 1's.
-    pub depths: [u8; 64],
+    /// The lanes of queues, from the top.
+    pub lanes: Sequence<Lane>,
     /// How far entries are from each other.
     pub step: u8,
     /// Of how many entries between two numbers on the axis none has its own there.

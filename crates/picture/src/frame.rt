@@ -1,14 +1,13 @@
 //! What a page is drawn by.
 
-ghost use Rattle.std.specs.Prelude.{◌≡◌, ◌+◌, ◌<◌, ◌≤◌, ◌^◌, IfOk, length, take, if◌then◌else◌};
-ghost use Rattle.core_model.specs.Limits.{most_queues};
-ghost use Rattle.picture.specs.Frames.{lesser, asked_of, skipped_of, step_of, room_of_number, bare_for, is_opening, one_lane_more, lanes_in, front_of, frame_of};
+ghost use Rattle.std.specs.Prelude.{◌≡◌, ◌+◌, ◌<◌, ◌≤◌, ◌^◌, IfOk, length, take};
+ghost use Rattle.picture.specs.Frames.{lesser, asked_of, skipped_of, step_of, room_of_number, bare_for, front_of, frame_of};
 ghost use Rattle.picture.specs.Reading.{greater};
 
 use crate::element::{Frame, Span};
-use crate::reading::deepen_by_entries;
+use crate::lanes::{lanes_from, pass_entries};
 use crate::seats::seats_of;
-use core_model::{Entry, Event, Origin, QUEUES};
+use core_model::{Entry, Origin};
 use std::alloc::{AllocError, Global};
 
 /// How many entries are drawn at the most.
@@ -115,65 +114,13 @@ fn bare_for(step: u64, room: u64) -> u8
     }
 }
 
-// Whether an event opens a queue.
-fn is_opening(event: &Event) -> bool
-    ensures { result ≡ is_opening event.now }
-{
-    matches!(event, Event::Open { .. })
-}
-
-// One lane more.
-fn one_lane_more(count: u8) -> u8
-    ensures { result ≡ one_lane_more count }
-{
-    if (count as usize) < QUEUES {
-        count + 1
-    } else {
-        QUEUES as u8
-    }
-}
-
-// So many lanes, or one more if an event opens a queue.
-fn with_opening(count: u8, event: &Event) -> u8
-    ensures { result ≡ (if is_opening event.now then one_lane_more count else count) }
-{
-    if is_opening(event) {
-        one_lane_more(count)
-    } else {
-        count
-    }
-}
-
-// How many lanes there are behind entries.
-fn lanes_in(count: u8, entries: &[Entry]) -> u8
-    ensures { result ≡ lanes_in count entries.now }
-{
-    let mut lanes = count;
-    'entries: for index in 0..entries.len() {
-        let entry = &entries[index];
-        lanes = with_opening(lanes, &entry.event);
-    }
-    lanes
-}
-
-// How many lanes so many queues have.
-fn lanes_of(queues: usize) -> u8
-    ensures { result ≡ lesser most_queues queues }
-{
-    if QUEUES < queues {
-        QUEUES as u8
-    } else {
-        queues as u8
-    }
-}
-
 /// What the layer before that behind is drawn by.
-pub(crate) fn front_of(frame: &Frame) -> Frame
-    ensures { result ≡ front_of frame.now }
+pub(crate) fn front_of(frame: Frame) -> Frame
+    ensures { result ≡ front_of frame }
 {
     Frame {
         is_behind: false,
-        ..*frame
+        ..frame
     }
 }
 
@@ -192,14 +139,13 @@ pub(crate) fn frame_of(
     let skipped = skipped_of(before, count as u64, span) as u32;
     let step = step_of(count - skipped);
     let seats = seats_of(alloc, origin.packets.as_slice())?;
-    let mut depths = [0; 64];
-    deepen_by_entries(&mut depths, seats, entries)?;
+    let mut lanes = lanes_from(alloc, origin.queues.as_slice())?;
+    pass_entries(&mut lanes, seats, skipped, entries)?;
     Ok(Frame {
         is_behind: true,
         before,
         skipped,
-        lanes: lanes_in(lanes_of(origin.queues.len()), entries),
-        depths,
+        lanes,
         step: step as u8,
         bare: bare_for(step, room_of_number(before as u128 + count as u128)),
     })

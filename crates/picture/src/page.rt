@@ -2,7 +2,7 @@
 
 ghost use Rattle.std.specs.Prelude.{◌≡◌, ◌++◌, ◌+◌, ◌<◌, ◌^◌, OnOk, [], flat_map, string_bytes, length, if◌then◌else◌};
 ghost use Rattle.picture.specs.Arrows.{arrow_from, zeros_after};
-ghost use Rattle.picture.specs.Pages.{text_of_looks, text_of_arrows, text_of_shown_arrows, text_of_drawn, text_of_entry, text_of_entries, text_of_stop, text_of_queue, text_of_queues, text_of_flight, text_of_layer, text_of_box, text_of_size, text_of_shrinking, text_of_fit, text_of_measures, text_of_style, width_of_page, text_of_head, text_of_framed, text_of_page};
+ghost use Rattle.picture.specs.Pages.{text_of_looks, text_of_arrows, text_of_shown_arrows, text_of_drawn, text_of_entry, text_of_entries, text_of_stop, text_of_queue, text_of_flight, text_of_layer, text_of_box, text_of_size, text_of_shrinking, text_of_fit, text_of_measures, text_of_style, width_of_page, text_of_head, text_of_framed, text_of_page};
 ghost use Rattle.picture.specs.declared.page.TheConstants.{BEGIN};
 ghost use Rattle.picture.specs.Reading.{spot_of};
 ghost use Rattle.picture.specs.Seats.{seats_after};
@@ -28,7 +28,7 @@ pub const SHRINKING: &str = " style=\"max-width:100%;height:auto\">\n";
 /// What stands at the head of each page: the colours of the classes, an arrow's head, what the colours mean, and the
 /// words on the left.
 pub const STYLE: &str =
-    "<style>text{font:10px sans-serif;fill:#222}.number{fill:#777}.page{fill:#fff}.lane rect{fill:#f3f4f6}.stop rect{fill:#b91c1c}.reload rect{fill:#0e7490;fill-opacity:.5}.reload text{fill:#0e7490;font-size:8px}.bar rect{stroke:#555;stroke-width:.5}.finished rect{fill:#bbe5c4}.faulted rect{fill:#f9c0bb}.stopped rect{fill:#d5d5d5}.open rect{fill:#cfe3fb}.denial rect,.fault rect{fill:#dc2626}.denial text,.fault text{fill:#b91c1c}.group rect{fill:#15803d}.look rect{fill:#7c3aed}.completion rect{fill:#14532d}.grant rect{fill:#16a34a}.revocation rect{fill:#ea580c}.write rect{fill:#2563eb}.change rect{fill:#9333ea}line{stroke:#7c3aed;stroke-opacity:.7;marker-end:url(#head)}#legend text{fill:#555}</style>\n<defs><marker id=\"head\" markerWidth=\"7\" markerHeight=\"6\" refX=\"6\" refY=\"3\" orient=\"auto\"><path d=\"M0,0L7,3L0,6z\" fill=\"#7c3aed\"/></marker></defs>\n<rect class=\"page\" width=\"100%\" height=\"100%\"/>\n<g id=\"legend\"><rect x=\"6\" y=\"6\" width=\"10\" height=\"10\" fill=\"#bbe5c4\"/><text x=\"20\" y=\"15\">completed</text><rect x=\"98\" y=\"6\" width=\"10\" height=\"10\" fill=\"#f9c0bb\"/><text x=\"112\" y=\"15\">faulted</text><rect x=\"190\" y=\"6\" width=\"10\" height=\"10\" fill=\"#d5d5d5\"/><text x=\"204\" y=\"15\">stopped</text><rect x=\"282\" y=\"6\" width=\"10\" height=\"10\" fill=\"#cfe3fb\"/><text x=\"296\" y=\"15\">in flight</text><rect x=\"374\" y=\"6\" width=\"10\" height=\"10\" fill=\"#15803d\"/><text x=\"388\" y=\"15\">group run</text><rect x=\"466\" y=\"6\" width=\"10\" height=\"10\" fill=\"#14532d\"/><text x=\"480\" y=\"15\">completion</text><rect x=\"558\" y=\"6\" width=\"10\" height=\"10\" fill=\"#7c3aed\"/><text x=\"572\" y=\"15\">poll</text><rect x=\"650\" y=\"6\" width=\"10\" height=\"10\" fill=\"#dc2626\"/><text x=\"664\" y=\"15\">denial, fault</text><rect x=\"6\" y=\"22\" width=\"10\" height=\"10\" fill=\"#16a34a\"/><text x=\"20\" y=\"31\">grant</text><rect x=\"98\" y=\"22\" width=\"10\" height=\"10\" fill=\"#ea580c\"/><text x=\"112\" y=\"31\">revocation</text><rect x=\"190\" y=\"22\" width=\"10\" height=\"10\" fill=\"#2563eb\"/><text x=\"204\" y=\"31\">write</text><rect x=\"282\" y=\"22\" width=\"10\" height=\"10\" fill=\"#9333ea\"/><text x=\"296\" y=\"31\">signal</text><rect x=\"374\" y=\"22\" width=\"10\" height=\"10\" fill=\"#0e7490\"/><text x=\"388\" y=\"31\">reload</text><rect x=\"466\" y=\"22\" width=\"10\" height=\"10\" fill=\"#b91c1c\"/><text x=\"480\" y=\"31\">stop of a queue</text><line class=\"key\" x1=\"566\" y1=\"27\" x2=\"590\" y2=\"27\"/><text x=\"596\" y=\"31\">0 seen by a poll</text></g>\n<text x=\"6\" y=\"52\">entry</text><text x=\"6\" y=\"82\">administrator, clients</text>\n";
+    "<style>text{font:10px sans-serif;fill:#222}.number{fill:#777}.page{fill:#fff}.lane rect{fill:#f3f4f6}.stop rect{fill:#b91c1c}.close rect{fill:#171717}.reload rect{fill:#0e7490;fill-opacity:.5}.reload text{fill:#0e7490;font-size:8px}.bar rect{stroke:#555;stroke-width:.5}.finished rect{fill:#bbe5c4}.faulted rect{fill:#f9c0bb}.stopped rect{fill:#d5d5d5}.open rect{fill:#cfe3fb}.denial rect,.fault rect{fill:#dc2626}.denial text,.fault text{fill:#b91c1c}.group rect{fill:#15803d}.look rect{fill:#7c3aed}.completion rect{fill:#14532d}.grant rect{fill:#16a34a}.revocation rect{fill:#ea580c}.write rect{fill:#2563eb}.change rect{fill:#9333ea}line{stroke:#7c3aed;stroke-opacity:.7;marker-end:url(#head)}#legend text{fill:#555}</style>\n<defs><marker id=\"head\" markerWidth=\"7\" markerHeight=\"6\" refX=\"6\" refY=\"3\" orient=\"auto\"><path d=\"M0,0L7,3L0,6z\" fill=\"#7c3aed\"/></marker></defs>\n<rect class=\"page\" width=\"100%\" height=\"100%\"/>\n<g id=\"legend\"><rect x=\"6\" y=\"6\" width=\"10\" height=\"10\" fill=\"#bbe5c4\"/><text x=\"20\" y=\"15\">completed</text><rect x=\"98\" y=\"6\" width=\"10\" height=\"10\" fill=\"#f9c0bb\"/><text x=\"112\" y=\"15\">faulted</text><rect x=\"190\" y=\"6\" width=\"10\" height=\"10\" fill=\"#d5d5d5\"/><text x=\"204\" y=\"15\">stopped</text><rect x=\"282\" y=\"6\" width=\"10\" height=\"10\" fill=\"#cfe3fb\"/><text x=\"296\" y=\"15\">in flight</text><rect x=\"374\" y=\"6\" width=\"10\" height=\"10\" fill=\"#15803d\"/><text x=\"388\" y=\"15\">group run</text><rect x=\"466\" y=\"6\" width=\"10\" height=\"10\" fill=\"#14532d\"/><text x=\"480\" y=\"15\">completion</text><rect x=\"558\" y=\"6\" width=\"10\" height=\"10\" fill=\"#7c3aed\"/><text x=\"572\" y=\"15\">poll</text><rect x=\"650\" y=\"6\" width=\"10\" height=\"10\" fill=\"#dc2626\"/><text x=\"664\" y=\"15\">denial, fault</text><rect x=\"6\" y=\"22\" width=\"10\" height=\"10\" fill=\"#16a34a\"/><text x=\"20\" y=\"31\">grant</text><rect x=\"98\" y=\"22\" width=\"10\" height=\"10\" fill=\"#ea580c\"/><text x=\"112\" y=\"31\">revocation</text><rect x=\"190\" y=\"22\" width=\"10\" height=\"10\" fill=\"#2563eb\"/><text x=\"204\" y=\"31\">write</text><rect x=\"282\" y=\"22\" width=\"10\" height=\"10\" fill=\"#9333ea\"/><text x=\"296\" y=\"31\">signal</text><rect x=\"374\" y=\"22\" width=\"10\" height=\"10\" fill=\"#0e7490\"/><text x=\"388\" y=\"31\">reload</text><rect x=\"466\" y=\"22\" width=\"10\" height=\"10\" fill=\"#b91c1c\"/><text x=\"480\" y=\"31\">stop of a queue</text><line class=\"key\" x1=\"566\" y1=\"27\" x2=\"590\" y2=\"27\"/><text x=\"596\" y=\"31\">0 seen by a poll</text><rect x=\"690\" y=\"22\" width=\"10\" height=\"10\" fill=\"#171717\"/><text x=\"704\" y=\"31\">close</text></g>\n<text x=\"6\" y=\"52\">entry</text><text x=\"6\" y=\"82\">administrator, clients</text>\n";
 
 /// How wide a page is at the least, which what the colours mean wants.
 pub const WIDTH: u64 = 760;
@@ -225,21 +225,21 @@ fn write_stop(
     }
 }
 
-// Writes the lane of a queue with which an audit of so many entries begins.
+// Writes the lane of a queue with which an audit of these entries begins.
 fn write_queue(
     alloc: Global,
     out: &mut String,
     frame: &Frame,
     policy: &Policy,
-    count: u32,
-    queue: QueueId,
+    entries: &[Entry],
     origin: &QueueOrigin,
 ) -> Result<(), AllocError>
-    ensures { OnOk result (string_bytes out.new ≡ string_bytes out.old ++ text_of_queue frame.now policy.now count queue origin.now) }
+    requires { length entries.now < 2 ^ 32 }
+    ensures { OnOk result (string_bytes out.new ≡ string_bytes out.old ++ text_of_queue frame.now policy.now entries.now origin.now) }
 {
-    let lane = lane_from_start(count, queue, origin.opening);
+    let lane = lane_from_start(entries, origin.queue, origin.opening);
     write_element(alloc, out, frame, policy, &lane, &[])?;
-    write_stop(alloc, out, frame, policy, queue, origin.stopped)
+    write_stop(alloc, out, frame, policy, origin.queue, origin.stopped)
 }
 
 // Writes the lanes of queues, each in turn.
@@ -248,14 +248,14 @@ fn write_queues(
     out: &mut String,
     frame: &Frame,
     policy: &Policy,
-    count: u32,
+    entries: &[Entry],
     queues: &[QueueOrigin],
 ) -> Result<(), AllocError>
-    ensures { OnOk result (string_bytes out.new ≡ string_bytes out.old ++ text_of_queues frame.now policy.now count 0 queues.now) }
+    requires { length entries.now < 2 ^ 32 }
+    ensures { OnOk result (string_bytes out.new ≡ string_bytes out.old ++ flat_map (text_of_queue frame.now policy.now entries.now) queues.now) }
 {
-    'queues: for index in 0..queues.len() {
-        let queue = QueueId(index as u64 + 1);
-        write_queue(alloc, out, frame, policy, count, queue, &queues[index])?;
+    for queue in queues {
+        write_queue(alloc, out, frame, policy, entries, queue)?;
     }
     Ok(())
 }
@@ -308,8 +308,7 @@ fn write_layer(
 {
     let policy = &origin.policy;
     let seats = seats_of(alloc, origin.packets.as_slice())?;
-    let count = entries.len() as u32;
-    write_queues(alloc, out, frame, policy, count, origin.queues.as_slice())?;
+    write_queues(alloc, out, frame, policy, entries, origin.queues.as_slice())?;
     write_flights(alloc, out, frame, policy, entries, seats.as_slice())?;
     write_entries(alloc, out, frame, policy, seats, entries)
 }
@@ -322,14 +321,14 @@ fn write_begin(out: &mut String) -> Result<(), AllocError>
 }
 
 // Writes the part of the plane that the page shows.
-fn write_box(out: &mut String, width: u64, height: u64) -> Result<(), AllocError>
+fn write_box(out: &mut String, width: u64, height: u128) -> Result<(), AllocError>
     ensures { OnOk result (string_bytes out.new ≡ string_bytes out.old ++ text_of_box width height) }
 {
     write!(out, "{width} {height}\"")
 }
 
 // Writes how large the page is shown.
-fn write_size(out: &mut String, width: u64, height: u64) -> Result<(), AllocError>
+fn write_size(out: &mut String, width: u64, height: u128) -> Result<(), AllocError>
     ensures { OnOk result (string_bytes out.new ≡ string_bytes out.old ++ text_of_size width height) }
 {
     write!(out, " width=\"{width}\" height=\"{height}\"")
@@ -356,7 +355,7 @@ fn write_fit(out: &mut String, width: u64) -> Result<(), AllocError>
 
 // Writes how wide and how high the page is.
 #[tactic(auto, unfolding(crate::specs::Pages::text_of_measures))]
-fn write_measures(out: &mut String, width: u64, height: u64) -> Result<(), AllocError>
+fn write_measures(out: &mut String, width: u64, height: u128) -> Result<(), AllocError>
     ensures { OnOk result (string_bytes out.new ≡ string_bytes out.old ++ text_of_measures width height) }
 {
     write_box(out, width, height)?;
@@ -395,15 +394,15 @@ fn write_head(out: &mut String, frame: &Frame, count: u32) -> Result<(), AllocEr
 fn write_framed(
     alloc: Global,
     out: &mut String,
-    frame: &Frame,
+    frame: Frame,
     origin: &Origin,
     entries: &[Entry],
 ) -> Result<(), AllocError>
     requires { length entries.now < 2 ^ 32 }
-    ensures { OnOk result (string_bytes out.new ≡ string_bytes out.old ++ text_of_framed frame.now origin.now entries.now) }
+    ensures { OnOk result (string_bytes out.new ≡ string_bytes out.old ++ text_of_framed frame origin.now entries.now) }
 {
-    write_head(out, frame, entries.len() as u32)?;
-    write_layer(alloc, out, frame, origin, entries)?;
+    write_head(out, &frame, entries.len() as u32)?;
+    write_layer(alloc, out, &frame, origin, entries)?;
     write_layer(alloc, out, &front_of(frame), origin, entries)?;
     out.push_str("</svg>\n")
 }
@@ -423,5 +422,5 @@ pub fn write_page(
 {
     let asked = asked_of(origin.before, span, entries);
     let frame = frame_of(alloc, origin, asked, span)?;
-    write_framed(alloc, out, &frame, origin, asked)
+    write_framed(alloc, out, frame, origin, asked)
 }

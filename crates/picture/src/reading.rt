@@ -1,14 +1,13 @@
 //! What an entry is drawn as. This file alone speaks of events.
 
-ghost use Rattle.std.specs.Prelude.{◌≡◌, ◌+◌, ◌<◌, ◌^◌, length, Some, OnOk};
-ghost use Rattle.picture.specs.Reading.{greater, lane_of_queue, in_lane, in_row, at_hosts, opened, spot_of, deepened, depths_in, depths_of, ending_of, end_of, work_of, sign_of_take, sign_of_work, sign_of_call, sign_of_poll, sign_of, reach_of, element_of, lane_from_start, stop_before, bar_from_start};
+ghost use Rattle.std.specs.Prelude.{◌≡◌, ◌+◌, ◌<◌, ◌^◌, length, Some};
+ghost use Rattle.picture.specs.Reading.{in_lane, in_row, at_hosts, opened, spot_of, ending_of, end_of, closes, close_of, work_of, sign_of_take, sign_of_work, sign_of_call, sign_of_poll, sign_of, reach_of, element_of, lane_from_start, stop_before, bar_from_start};
 ghost use Rattle.aql_packet.specs.Reading.{decoded};
 
 use crate::element::{Element, Ending, Sign, Spot, Work};
-use crate::seats::{Seat, free_row, pass_seats, releases, row_at};
+use crate::seats::{Seat, free_row, releases, row_at};
 use aql_packet::{Packet, PacketId, QueueId, decode};
-use core_model::{Call, Entry, Event, Opening, Outcome, Polled, QUEUES, Taken, Worked};
-use std::alloc::AllocError;
+use core_model::{Call, Entry, Event, Opening, Outcome, Polled, Taken, Worked};
 
 /// Where a sign ends, and how its packet ended.
 #[derive(Clone, Copy)]
@@ -17,31 +16,13 @@ pub(crate) struct End {
     pub ending: Ending,
 }
 
-// The greater of two numbers.
-fn greater(a: u8, b: u8) -> u8
-    ensures { result ≡ greater a b }
-{
-    if a < b { b } else { a }
-}
-
-// The lane of a queue.
-fn lane_of_queue(queue: QueueId) -> u8
-    ensures { result ≡ lane_of_queue queue }
-{
-    if queue.0 > QUEUES as u64 {
-        QUEUES as u8
-    } else {
-        queue.0 as u8
-    }
-}
-
 // In the lane of a queue.
 fn in_lane(at: u32, queue: QueueId) -> Spot
     ensures { result ≡ in_lane at queue }
 {
     Spot {
         at,
-        lane: lane_of_queue(queue),
+        lane: queue.0,
         row: 0,
     }
 }
@@ -52,7 +33,7 @@ fn in_row(at: u32, queue: QueueId, row: u8) -> Spot
 {
     Spot {
         at,
-        lane: lane_of_queue(queue),
+        lane: queue.0,
         row,
     }
 }
@@ -68,8 +49,8 @@ fn at_hosts(at: u32) -> Spot
     }
 }
 
-// The queue that an opening opened.
-fn opened(outcome: &Outcome) -> QueueId
+/// The queue that an opening opened.
+pub(crate) fn opened(outcome: &Outcome) -> QueueId
     ensures { result ≡ opened outcome.now }
 {
     match outcome {
@@ -84,7 +65,9 @@ pub(crate) fn spot_of(seats: &[Seat], at: u32, entry: &Entry) -> Spot
 {
     match &entry.event {
         Event::Open { .. } => in_lane(at, opened(&entry.outcome)),
-        Event::Call(Call::Stop { queue }) => in_lane(at, *queue),
+        Event::Call(Call::Stop { queue }) | Event::Call(Call::Close { queue }) => {
+            in_lane(at, *queue)
+        }
         Event::Take { queue, .. } => in_row(at, *queue, free_row(seats, *queue)),
         Event::Call(Call::RunNext { queue, packet })
         | Event::Call(Call::Poll { queue, packet })
@@ -97,45 +80,6 @@ pub(crate) fn spot_of(seats: &[Seat], at: u32, entry: &Entry) -> Spot
         | Event::Call(Call::HostWrite { .. })
         | Event::Call(Call::ChangeSignal { .. }) => at_hosts(at),
     }
-}
-
-// Deepens a lane, where it has a queue, to a row, where it isn't as deep.
-fn deepen(depths: &mut [u8; 64], lane: u8, row: u8)
-    ensures { depths.new ≡ deepened depths.old lane row }
-{
-    if 0 < lane && lane <= 64 {
-        let place = lane as usize - 1;
-        depths[place] = greater(depths[place], row);
-    }
-}
-
-// Deepens lanes to the rows that seats are in.
-fn deepen_by_seats(depths: &mut [u8; 64], seats: &[Seat])
-    ensures { depths.new ≡ depths_of depths.old seats.now }
-{
-    'seats: for index in 0..seats.len() {
-        let seat = &seats[index];
-        deepen(depths, lane_of_queue(seat.flying.queue), seat.row);
-    }
-}
-
-/// Deepens lanes to the rows that entries and the seats before them stand in.
-pub(crate) fn deepen_by_entries(
-    depths: &mut [u8; 64],
-    seats: Vec<Seat>,
-    entries: &[Entry],
-) -> Result<(), AllocError>
-    ensures { OnOk result (depths.new ≡ depths_in (depths_of depths.old seats.items) seats.items entries.now) }
-{
-    let mut seats = seats;
-    deepen_by_seats(depths, seats.as_slice());
-    'entries: for index in 0..entries.len() {
-        let entry = &entries[index];
-        let spot = spot_of(seats.as_slice(), 0, entry);
-        deepen(depths, spot.lane, spot.row);
-        pass_seats(&mut seats, entry)?;
-    }
-    Ok(())
 }
 
 // How a packet ended that an entry releases.
@@ -167,6 +111,30 @@ fn end_of(queue: QueueId, packet: PacketId, at: u32, after: &[Entry]) -> End
         at: at + after.len() as u32,
         ending: Ending::Open,
     }
+}
+
+/// Whether an event closes a queue.
+pub(crate) fn closes(event: &Event, queue: QueueId) -> bool
+    ensures { result ≡ closes queue event.now }
+{
+    match event {
+        Event::Call(Call::Close { queue: closed }) => closed.0 == queue.0,
+        _ => false,
+    }
+}
+
+// The entry that closes a queue.
+fn close_of(queue: QueueId, at: u32, after: &[Entry]) -> u32
+    requires { at + length after.now < 2 ^ 32 }
+    ensures { result ≡ close_of queue at after.now }
+{
+    'entries: for index in 0..after.len() {
+        let entry = &after[index];
+        if closes(&entry.event, queue) {
+            return at + index as u32 + 1;
+        }
+    }
+    at + after.len() as u32
 }
 
 // What a packet is, by its bytes.
@@ -251,6 +219,7 @@ fn sign_of_call(call: &Call, outcome: &Outcome) -> Sign
             rights: *rights,
         },
         Call::Stop { .. } => Sign::Stop,
+        Call::Close { .. } => Sign::Close,
         Call::RunNext { packet, .. } => sign_of_work(*packet, outcome),
         Call::Poll { packet, .. } => sign_of_poll(*packet, outcome),
         Call::Finish { packet, .. } => Sign::Completion(*packet),
@@ -279,13 +248,13 @@ fn sign_of(ending: Ending, event: &Event, outcome: &Outcome) -> Sign
 }
 
 // How far an entry's sign reaches.
-fn reach_of(at: u32, event: &Event, after: &[Entry]) -> End
+fn reach_of(at: u32, event: &Event, outcome: &Outcome, after: &[Entry]) -> End
     requires { at + length after.now < 2 ^ 32 }
-    ensures { result ≡ reach_of at event.now after.now }
+    ensures { result ≡ reach_of at event.now outcome.now after.now }
 {
     match event {
         Event::Open { .. } => End {
-            at: at + after.len() as u32,
+            at: close_of(opened(outcome), at, after),
             ending: Ending::Open,
         },
         Event::Take { queue, packet, .. } => end_of(*queue, *packet, at, after),
@@ -301,7 +270,7 @@ pub(crate) fn element_of(seats: &[Seat], at: u32, entry: &Entry, after: &[Entry]
     requires { at + length after.now < 2 ^ 32 }
     ensures { result ≡ element_of seats.now at entry.now after.now }
 {
-    let reach = reach_of(at, &entry.event, after);
+    let reach = reach_of(at, &entry.event, &entry.outcome, after);
     Element {
         spot: spot_of(seats, at, entry),
         until: reach.at,
@@ -309,13 +278,14 @@ pub(crate) fn element_of(seats: &[Seat], at: u32, entry: &Entry, after: &[Entry]
     }
 }
 
-/// The lane of a queue with which an audit of so many entries begins.
-pub(crate) fn lane_from_start(count: u32, queue: QueueId, opening: Opening) -> Element
-    ensures { result ≡ lane_from_start count queue opening }
+/// The lane of a queue with which an audit of these entries begins.
+pub(crate) fn lane_from_start(entries: &[Entry], queue: QueueId, opening: Opening) -> Element
+    requires { length entries.now < 2 ^ 32 }
+    ensures { result ≡ lane_from_start entries.now queue opening }
 {
     Element {
         spot: in_lane(0, queue),
-        until: count,
+        until: close_of(queue, 0, entries),
         sign: Sign::Lane {
             queue,
             client: opening.client,

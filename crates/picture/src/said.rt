@@ -164,6 +164,7 @@ pub(crate) fn write_words(out: &mut String, policy: &Policy, sign: &Sign) -> Res
             agent,
         } => write_lane(out, policy, *queue, *client, *agent),
         Sign::Stop => out.push_str("stop"),
+        Sign::Close => out.push_str("close"),
         Sign::Bar { packet, work, .. } => {
             write!(out, "{} ", packet.0)?;
             write_work(out, policy, *work)

@@ -1,12 +1,13 @@
 //! What is drawn, as text of SVG.
 
 ghost use Rattle.std.specs.Prelude.{◌≡◌, ◌++◌, ◌<◌, ◌^◌, ◌+◌, ◌*◌, OnOk, IfOk, not, nat_lt, string_bytes};
-ghost use Rattle.picture.specs.Shapes.{left_of, depth_at, height_at, height_of_lane, height_of_lanes, top_of_lane, foot_of, top_of_row, width_of_mark, width_of_tick, reach_of, width_of, is_behind, is_tick, drop_of, top_of, height_of, class_of_ending, class_of, is_labelled, left_of_words, line_of_words, label_of, text_of_rectangle, text_of_words, text_of_label, number_of, text_of_place, text_of_opening, text_of_outline, text_with, is_in_layer, is_shown, text_of_element, text_of_arrow, is_numbered, text_of_number};
+ghost use Rattle.picture.specs.Shapes.{left_of, depth_at, height_at, height_of_lane, height_of_lanes, top_of_lane, foot_of, has_lane, top_of_row, width_of_mark, width_of_tick, reach_of, width_of, is_behind, is_tick, drop_of, top_of, height_of, class_of_ending, class_of, is_labelled, left_of_words, line_of_words, label_of, text_of_rectangle, text_of_words, text_of_label, number_of, text_of_place, text_of_opening, text_of_outline, text_with, is_in_layer, is_shown, text_of_element, text_of_line, text_of_arrow, is_numbered, text_of_number};
 ghost use Rattle.picture.specs.Words.{words_of, told_of};
 ghost use Rattle.picture.specs.declared.shapes.TheConstants.{LETTER, THIN};
 
-use crate::element::{Element, Ending, Frame, Sign, Spot};
+use crate::element::{Element, Ending, Frame, Lane, Sign, Spot};
 use crate::escape::write_escaped;
+use crate::lanes::place_of;
 use crate::said::{write_told, write_words};
 use core_model::Effect;
 use policy::Policy;
@@ -63,70 +64,78 @@ pub(crate) fn left_of(frame: &Frame, at: u32) -> u64
 }
 
 // The lowest row of a queue's lane, by its place, from 0.
-fn depth_at(depths: &[u8; 64], place: u8) -> u8
-    ensures { result ≡ depth_at depths.now place }
+fn depth_at(lanes: &[Lane], place: usize) -> u8
+    ensures { result ≡ depth_at lanes.now place }
 {
-    if place < 64 {
-        depths[place as usize]
-    } else {
-        0
+    match lanes.get(place) {
+        Some(lane) => lane.depth,
+        None => 0,
     }
 }
 
 // How high such a lane is.
-fn height_at(depths: &[u8; 64], place: u8) -> u64
-    ensures exact { result ≡ height_at depths.now place }
+fn height_at(lanes: &[Lane], place: usize) -> u128
+    ensures exact { result ≡ height_at lanes.now place }
     ensures bound { result < 2 ^ 13 }
 {
-    HEAD + ROW * (depth_at(depths, place) as u64 + 1)
+    HEAD as u128 + ROW as u128 * (depth_at(lanes, place) as u128 + 1)
 }
 
 // How high so many lanes are, each with the gap below it.
-fn height_of_lanes(depths: &[u8; 64], count: u8) -> u64
-    ensures exact { result ≡ height_of_lanes depths.now count }
-    ensures bound { result < 2 ^ 22 }
+fn height_of_lanes(lanes: &[Lane], count: usize) -> u128
+    ensures exact { result ≡ height_of_lanes lanes.now count }
+    ensures bound { result < 2 ^ 78 }
 {
     let mut height = 0;
     'lanes: for place in 0..count {
-        height += height_at(depths, place) + GAP;
+        height += height_at(lanes, place) + GAP as u128;
     }
     height
 }
 
 // How high the lane of a queue is.
-fn height_of_lane(frame: &Frame, lane: u8) -> u64
+fn height_of_lane(frame: &Frame, lane: u64) -> u128
     ensures exact { result ≡ height_of_lane frame.now lane }
     ensures bound { result < 2 ^ 13 }
 {
-    height_at(&frame.depths, lane.saturating_sub(1))
+    let lanes = frame.lanes.as_slice();
+    height_at(lanes, place_of(lanes, lane))
 }
 
 // Where a lane begins.
-fn top_of_lane(frame: &Frame, lane: u8) -> u64
+fn top_of_lane(frame: &Frame, lane: u64) -> u128
     ensures exact { result ≡ top_of_lane frame.now lane }
-    ensures bound { result < 2 ^ 23 }
+    ensures bound { result < 2 ^ 79 }
 {
     if lane == 0 {
-        HOSTS
+        HOSTS as u128
     } else {
-        LANES + height_of_lanes(&frame.depths, lane - 1)
+        let lanes = frame.lanes.as_slice();
+        LANES as u128 + height_of_lanes(lanes, place_of(lanes, lane))
     }
 }
 
 /// Where the lanes end.
-pub(crate) fn foot_of(frame: &Frame) -> u64
+pub(crate) fn foot_of(frame: &Frame) -> u128
     ensures exact { result ≡ foot_of frame.now }
-    ensures bound { result < 2 ^ 23 }
+    ensures bound { result < 2 ^ 79 }
 {
-    LANES + height_of_lanes(&frame.depths, frame.lanes)
+    LANES as u128 + height_of_lanes(frame.lanes.as_slice(), frame.lanes.len())
+}
+
+// Whether a lane is on the page.
+fn has_lane(frame: &Frame, lane: u64) -> bool
+    ensures { result ≡ has_lane frame.now lane }
+{
+    lane == 0 || place_of(frame.lanes.as_slice(), lane) < frame.lanes.len()
 }
 
 // Where a row of a lane begins.
-fn top_of_row(frame: &Frame, spot: Spot) -> u64
+fn top_of_row(frame: &Frame, spot: Spot) -> u128
     ensures exact { result ≡ top_of_row frame.now spot }
-    ensures bound { result < 2 ^ 24 }
+    ensures bound { result < 2 ^ 80 }
 {
-    top_of_lane(frame, spot.lane) + HEAD + ROW * spot.row as u64
+    top_of_lane(frame, spot.lane) + HEAD as u128 + ROW as u128 * spot.row as u128
 }
 
 // How wide a mark is.
@@ -166,7 +175,7 @@ fn width_of(frame: &Frame, element: &Element) -> u64
     match &element.sign {
         Sign::Lane { .. } => step * reach + step,
         Sign::Bar { .. } => step * reach + width_of_mark(frame),
-        Sign::Group { .. } | Sign::Reload { .. } | Sign::Stop => width_of_tick(frame),
+        Sign::Group { .. } | Sign::Reload { .. } | Sign::Stop | Sign::Close => width_of_tick(frame),
         _ => width_of_mark(frame),
     }
 }
@@ -175,7 +184,10 @@ fn width_of(frame: &Frame, element: &Element) -> u64
 fn is_behind(sign: &Sign) -> bool
     ensures { result ≡ is_behind sign.now }
 {
-    matches!(sign, Sign::Lane { .. } | Sign::Reload { .. } | Sign::Stop)
+    matches!(
+        sign,
+        Sign::Lane { .. } | Sign::Reload { .. } | Sign::Stop | Sign::Close
+    )
 }
 
 // Whether a sign is a tick, in the lower part of a bar.
@@ -197,26 +209,28 @@ fn drop_of(sign: &Sign) -> u64
 }
 
 // Where an element begins.
-fn top_of(frame: &Frame, element: &Element) -> u64
+fn top_of(frame: &Frame, element: &Element) -> u128
     ensures { result ≡ top_of frame.now element.now }
 {
     if is_behind(&element.sign) {
         top_of_lane(frame, element.spot.lane)
     } else {
-        top_of_row(frame, element.spot) + drop_of(&element.sign)
+        top_of_row(frame, element.spot) + drop_of(&element.sign) as u128
     }
 }
 
 // How high a sign in a lane is.
-fn height_of(frame: &Frame, lane: u8, sign: &Sign) -> u64
+fn height_of(frame: &Frame, lane: u64, sign: &Sign) -> u128
     ensures { result ≡ height_of frame.now lane sign.now }
 {
     match sign {
-        Sign::Lane { .. } | Sign::Stop => height_of_lane(frame, lane),
-        Sign::Reload { .. } => foot_of(frame).saturating_sub(HOSTS + GAP),
-        Sign::Bar { .. } => BAR,
-        Sign::Group { .. } | Sign::Look { .. } | Sign::Completion(_) | Sign::Fault(_) => TICK,
-        _ => MARK,
+        Sign::Lane { .. } | Sign::Stop | Sign::Close => height_of_lane(frame, lane),
+        Sign::Reload { .. } => foot_of(frame).saturating_sub((HOSTS + GAP) as u128),
+        Sign::Bar { .. } => BAR as u128,
+        Sign::Group { .. } | Sign::Look { .. } | Sign::Completion(_) | Sign::Fault(_) => {
+            TICK as u128
+        }
+        _ => MARK as u128,
     }
 }
 
@@ -241,6 +255,7 @@ fn class_of(sign: &Sign) -> &'static str
         Sign::Revocation { .. } => "revocation",
         Sign::Lane { .. } => "lane",
         Sign::Stop => "stop",
+        Sign::Close => "close",
         Sign::Bar { ending, .. } => class_of_ending(*ending),
         Sign::Denial(_) => "denial",
         Sign::Group { .. } => "group",
@@ -287,13 +302,13 @@ fn left_of_words(frame: &Frame, element: &Element) -> u64
 }
 
 // On which line they stand.
-fn line_of_words(frame: &Frame, element: &Element) -> u64
+fn line_of_words(frame: &Frame, element: &Element) -> u128
     ensures { result ≡ line_of_words frame.now element.now }
 {
     if is_behind(&element.sign) {
-        top_of_lane(frame, element.spot.lane) + MARK
+        top_of_lane(frame, element.spot.lane) + MARK as u128
     } else {
-        top_of_row(frame, element.spot) + DROP - THIN
+        top_of_row(frame, element.spot) + DROP as u128 - THIN as u128
     }
 }
 
@@ -311,9 +326,9 @@ fn label_of<'w>(sign: &Sign, words: &'w str) -> &'w str
 fn write_rectangle(
     out: &mut String,
     x: u64,
-    y: u64,
+    y: u128,
     width: u64,
-    height: u64,
+    height: u128,
 ) -> Result<(), AllocError>
     ensures { OnOk result (string_bytes out.new ≡ string_bytes out.old ++ text_of_rectangle x y width height) }
 {
@@ -324,7 +339,7 @@ fn write_rectangle(
 }
 
 // Writes words at a place.
-fn write_text(out: &mut String, x: u64, y: u64, words: &str) -> Result<(), AllocError>
+fn write_text(out: &mut String, x: u64, y: u128, words: &str) -> Result<(), AllocError>
     ensures { OnOk result (string_bytes out.new ≡ string_bytes out.old ++ text_of_words x y words.now) }
 {
     write!(out, "<text x=\"{x}\" y=\"{y}\">")?;
@@ -477,7 +492,21 @@ pub(crate) fn write_element(
     }
 }
 
-/// Writes an arrow from one place to another, if there is one.
+// Writes an arrow from one place to another.
+fn write_line(out: &mut String, frame: &Frame, from: Spot, to: Spot) -> Result<(), AllocError>
+    ensures { OnOk result (string_bytes out.new ≡ string_bytes out.old ++ text_of_line frame.now from to) }
+{
+    let x1 = left_of(frame, from.at) + width_of_mark(frame);
+    let y1 = top_of_row(frame, from) + DROP as u128;
+    let x2 = left_of(frame, to.at);
+    let y2 = top_of_row(frame, to) + DROP as u128;
+    writeln!(
+        out,
+        "<line x1=\"{x1}\" y1=\"{y1}\" x2=\"{x2}\" y2=\"{y2}\"/>"
+    )
+}
+
+/// Writes an arrow from one place to another, if there is one and it begins in a lane of the page.
 pub(crate) fn write_arrow(
     out: &mut String,
     frame: &Frame,
@@ -487,17 +516,8 @@ pub(crate) fn write_arrow(
     ensures { OnOk result (string_bytes out.new ≡ string_bytes out.old ++ text_of_arrow frame.now from to) }
 {
     match from {
-        None => Ok(()),
-        Some(from) => {
-            let x1 = left_of(frame, from.at) + width_of_mark(frame);
-            let y1 = top_of_row(frame, from) + DROP;
-            let x2 = left_of(frame, to.at);
-            let y2 = top_of_row(frame, to) + DROP;
-            writeln!(
-                out,
-                "<line x1=\"{x1}\" y1=\"{y1}\" x2=\"{x2}\" y2=\"{y2}\"/>"
-            )
-        }
+        Some(from) if has_lane(frame, from.lane) => write_line(out, frame, from, to),
+        _ => Ok(()),
     }
 }
 

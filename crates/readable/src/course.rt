@@ -14,8 +14,8 @@ use world::World;
 // Where a drain stands.
 #[derive(Clone, Copy, PartialEq, Eq)]
 enum Stage {
-    /// The queue of this number is served.
-    Serve(u64),
+    /// This queue is served.
+    Serve(QueueId),
     /// All queues are served as far as they come.
     Served,
     /// The packet at this place of those in flight is worked on.
@@ -87,12 +87,19 @@ fn is_fault(came: Came) -> bool {
     }
 }
 
-// Where a drain of queues stands behind a step.
-fn behind(queues: Queues, stage: Stage, step: Step) -> Stage {
+// That a queue is served, or another stage, where there is none.
+fn serving(queue: Option<QueueId>, other: Stage) -> Stage {
+    match queue {
+        Some(queue) => Stage::Serve(queue),
+        None => other,
+    }
+}
+
+// Where a drain of queues stands behind a step; `next` is the queue behind the one that is served, if there is one.
+fn behind(stage: Stage, step: Step, next: Option<QueueId>) -> Stage {
     match (stage, step) {
         (Stage::Serve(_), Step::Again) | (Stage::Work(_), Step::Again) => stage,
-        (Stage::Serve(queue), _) if queue < queues.last => Stage::Serve(queue.saturating_add(1)),
-        (Stage::Serve(_), _) | (Stage::Served, _) => Stage::Served,
+        (Stage::Serve(_), _) | (Stage::Served, _) => serving(next, Stage::Served),
         (Stage::Work(place), Step::Done) => Stage::Finish(place),
         (Stage::Work(place), _) | (Stage::Finish(place), _) => {
             Stage::Work(place.saturating_add(1))
@@ -122,15 +129,11 @@ pub struct Course {
 
 impl Course {
     /// That of a drain of some queues.
-    pub fn new(alloc: Global, queues: Queues) -> Course {
+    pub fn new(alloc: Global, world: &World, queues: Queues) -> Course {
         Course {
             alloc,
             queues,
-            stage: if queues.first <= queues.last {
-                Stage::Serve(queues.first)
-            } else {
-                Stage::Over
-            },
+            stage: serving(queues.first(world), Stage::Over),
             flight: Vec::new(alloc),
             has_moved: false,
             waits: Vec::new(alloc),
@@ -166,9 +169,7 @@ impl Course {
             return None;
         }
         match self.stage {
-            Stage::Serve(queue) => Some(Move::Serve {
-                queue: QueueId(queue),
-            }),
+            Stage::Serve(queue) => Some(Move::Serve { queue }),
             Stage::Work(place) => self.work_at(place),
             Stage::Finish(place) => self.finish_at(place),
             Stage::Served | Stage::Over => None,
@@ -220,8 +221,16 @@ impl Course {
         self.stage = Stage::Work(0);
     }
 
+    // The queue behind the one that is served, if there is one.
+    fn next_queue(&self, world: &World) -> Option<QueueId> {
+        match self.stage {
+            Stage::Serve(queue) => self.queues.behind(world, queue),
+            _ => None,
+        }
+    }
+
     // Ends a round: another begins, if something moved.
-    fn end_round(&mut self) {
+    fn end_round(&mut self, world: &World) {
         if !self.has_moved {
             self.stage = Stage::Over;
             return;
@@ -229,7 +238,7 @@ impl Course {
         self.has_moved = false;
         self.waits.clear();
         self.wait = None;
-        self.stage = Stage::Serve(self.queues.first);
+        self.stage = serving(self.queues.first(world), Stage::Over);
     }
 
     // Goes on where the queues are all served, or the packets all worked on.
@@ -239,7 +248,7 @@ impl Course {
         }
         if let Stage::Work(place) = self.stage {
             if place >= self.flight.len() {
-                self.end_round();
+                self.end_round(world);
             }
         }
     }
@@ -248,7 +257,7 @@ impl Course {
     pub fn note(&mut self, world: &World, asked: Move, came: Came) {
         let step = step_of(came);
         self.keep(asked, came, step);
-        self.stage = behind(self.queues, self.stage, step);
+        self.stage = behind(self.stage, step, self.next_queue(world));
         self.settle(world);
     }
 

@@ -13,7 +13,6 @@ use crate::flight::Queues;
 use crate::moves::{Came, Move, came_of, command_of};
 use crate::tally::{Tally, with_came};
 use aql_packet::QueueId;
-use core_model::QUEUES;
 use script::perform;
 use std::alloc::{AllocError, Global};
 use world::World;
@@ -48,30 +47,11 @@ fn drive(alloc: Global, world: &mut World, course: &mut Course) -> Tally
 }
 
 // Which queues are to be drained: the one that is named, or all that are open.
-fn queues_of(world: &World, queue: Option<QueueId>) -> Queues {
+fn queues_of(queue: Option<QueueId>) -> Queues {
     match queue {
-        Some(queue) => Queues {
-            first: queue.0,
-            last: queue.0,
-        },
-        None => Queues {
-            first: 1,
-            last: open_queues(world),
-        },
+        Some(queue) => Queues::One(queue),
+        None => Queues::All,
     }
-}
-
-// How many queues are open: their numbers are those from 1 on.
-fn open_queues(world: &World) -> u64 {
-    let mut count = 0u64;
-    for _ in 0..QUEUES {
-        let next = count.saturating_add(1);
-        if world.slots(QueueId(next)) == 0 {
-            return count;
-        }
-        count = next;
-    }
-    count
 }
 
 /// Drains a queue, or all that are open: in rounds each queue's packets are served as far as they come, and each packet in
@@ -88,7 +68,7 @@ pub fn drain(
     ensures made { Makes world.old world.new }
     ensures counted { IfOk result (λ drained. Drains world.old none_yet world.new drained.tally) }
 {
-    let mut course = Course::new(alloc, queues_of(world, queue));
+    let mut course = Course::new(alloc, world, queues_of(queue));
     let tally = drive(alloc, world, &mut course);
     course.ended(tally)
 }

@@ -5,17 +5,38 @@ use core_model::{Effect, Entry, Event, InFlight, Outcome, Taken};
 use std::alloc::{AllocError, Global};
 use world::World;
 
-/// Queues by their numbers, from the first to the last.
+/// Queues that are drained.
 #[derive(Clone, Copy)]
-pub struct Queues {
-    pub first: u64,
-    pub last: u64,
+pub enum Queues {
+    /// One, whether it is open or not.
+    One(QueueId),
+    /// All that are open.
+    All,
 }
 
 impl Queues {
-    /// Whether a queue is one of them.
+    /// Whether an open queue is one of them.
     pub fn has(self, queue: QueueId) -> bool {
-        self.first <= queue.0 && queue.0 <= self.last
+        match self {
+            Queues::One(one) => one == queue,
+            Queues::All => true,
+        }
+    }
+
+    /// The first of them, if there is one.
+    pub fn first(self, world: &World) -> Option<QueueId> {
+        match self {
+            Queues::One(one) => Some(one),
+            Queues::All => world.queue_after(QueueId(0)),
+        }
+    }
+
+    /// The next of them behind one, if there is one.
+    pub fn behind(self, world: &World, queue: QueueId) -> Option<QueueId> {
+        match self {
+            Queues::One(_) => None,
+            Queues::All => world.queue_after(queue),
+        }
     }
 }
 

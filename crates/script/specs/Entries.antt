@@ -71,6 +71,7 @@ abbrev pub text_of_call : Declared → Call → List ℕ
 text_of_call policy (call.Grant client object rights) = codes "grant " ++ text_of_rights_on policy client object rights
 text_of_call policy (call.Revoke client object rights) = codes "revoke " ++ text_of_rights_on policy client object rights
 text_of_call policy (call.Stop queue) = codes "stop " ++ decimal queue.0
+text_of_call policy (call.Close queue) = codes "close " ++ decimal queue.0
 text_of_call policy (call.RunNext queue packet) = codes "run " ++ text_of_packet queue packet
 text_of_call policy (call.Poll queue packet) = codes "poll " ++ text_of_packet queue packet
 text_of_call policy (call.Finish queue packet) = codes "finish " ++ text_of_packet queue packet

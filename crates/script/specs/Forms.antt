@@ -40,6 +40,7 @@ form_rows =
     ∷ form verb.Revoke (codes "revoke") (class.Name ∷ class.Kind ∷ class.Name ∷ class.Rights ∷ [])
     ∷ form verb.Queue (codes "queue") (class.Name ∷ class.Name ∷ class.Number ∷ class.Number ∷ [])
     ∷ form verb.Stop (codes "stop") (class.Number ∷ [])
+    ∷ form verb.Close (codes "close") (class.Number ∷ [])
     ∷ form verb.Reserve (codes "reserve") (class.Number ∷ class.Number ∷ [])
     ∷ form verb.Room (codes "room") (class.Number ∷ class.Number ∷ class.Number ∷ [])
     ∷ form verb.Word (codes "word") (class.Number ∷ class.Number ∷ class.Number ∷ class.Number ∷ class.Word ∷ [])

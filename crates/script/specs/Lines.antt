@@ -187,6 +187,7 @@ command_of policy later verb.Grant words = grant_row policy words
 command_of policy later verb.Revoke words = revoke_row policy words
 command_of policy later verb.Queue words = queue_row policy words
 command_of policy later verb.Stop words = option_map (λ queue. calls (call.Stop queue)) (queue_of words)
+command_of policy later verb.Close words = option_map (λ queue. calls (call.Close queue)) (queue_of words)
 command_of policy later verb.Reserve words = reserve_row words
 command_of policy later verb.Room words = room_row words
 command_of policy later verb.Word words = word_row words

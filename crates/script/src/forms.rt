@@ -15,6 +15,7 @@ pub enum Verb {
     Revoke,
     Queue,
     Stop,
+    Close,
     Reserve,
     Room,
     Word,
@@ -94,7 +95,7 @@ macro_rules! forms {
 }
 
 // The forms: first those that most lines have, as a line's word is looked for from the first on.
-const FORMS: [LineForm; 31] = forms! {
+const FORMS: [LineForm; 32] = forms! {
     Submit "submit" "Q" Number, "PRODUCER" Number, "PACKET" Packet;
     Serve "serve" "Q" Number;
     Run "run" "Q" Number, "ID" Number;
@@ -105,6 +106,7 @@ const FORMS: [LineForm; 31] = forms! {
     Revoke "revoke" "CLIENT" Name, "KIND" Kind, "NAME" Name, "RIGHT,RIGHT" Rights;
     Queue "queue" "CLIENT" Name, "AGENT" Name, "SIZE" Number, "PRODUCERS" Number;
     Stop "stop" "Q" Number;
+    Close "close" "Q" Number;
     Reserve "reserve" "Q" Number, "PRODUCER" Number;
     Room "room" "Q" Number, "PRODUCER" Number, "T" Number;
     Word "word" "Q" Number, "PRODUCER" Number, "T" Number, "K" Number, "WORD" Word;

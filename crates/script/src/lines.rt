@@ -176,6 +176,15 @@ fn stop(line: &[u8]) -> Option<Command>
     }))
 }
 
+// `close Q`
+fn close(line: &[u8]) -> Option<Command>
+    ensures { result ≡ option_map (λ queue. calls (Call.Close queue)) (queue_of (words line.now)) }
+{
+    Some(calls(Call::Close {
+        queue: queue_id(line)?,
+    }))
+}
+
 // `run Q ID`
 fn run(line: &[u8]) -> Option<Command>
     ensures { result ≡ option_map (λ row. calls (Call.RunNext row.0 row.1)) (packet_of_queue (words line.now)) }
@@ -479,6 +488,7 @@ fn plain_command(policy: &Policy, later: usize, verb: Verb, line: &[u8]) -> Opti
         Verb::Revoke => revoke(policy, line),
         Verb::Queue => queue(policy, line),
         Verb::Stop => stop(line),
+        Verb::Close => close(line),
         Verb::Reserve => reserve(line),
         Verb::Room => room(line),
         Verb::Publish => publish(line),

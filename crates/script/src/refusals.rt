@@ -23,9 +23,9 @@ macro_rules! refusals {
 const REFUSALS: [RefusalRow; 17] = refusals! {
     0 "OutOfMemory" "memory was wanted and not to be had; all is as before";
     1 "UnknownClient" "the policy declares no client of that name";
-    2 "UnknownQueue" "no queue of that number was opened";
+    2 "UnknownQueue" "no open queue has that number";
     3 "Denied" "the right that is named isn't in force for the client on that object, or on the whole range";
-    4 "Busy" "a packet in flight holds a right that is to be revoked, or that a reload is to take: it is the one that is named; finish it, or stop its queue if it is a barrier packet";
+    4 "Busy" "a packet in flight holds a right that is to be revoked, or that a reload is to take: it is the one that is named; finish it, stop its queue if it is a barrier packet, or close its queue";
     5 "NotAllowed" "no allow row of the policy covers each of these rights for the client on that object";
     6 "OutOfStep" "packets of a queue are taken in the order of their ids: the next one is named";
     7 "QueueDown" "the queue had an error or was stopped, and launches nothing more";
@@ -33,7 +33,7 @@ const REFUSALS: [RefusalRow; 17] = refusals! {
     9 "NotFinished" "work-groups are left to run, or the barrier packet isn't ready";
     10 "AuditFull" "the audit has no place for the entry, counting one that is kept for each packet in flight";
     11 "BadSize" "a queue has 2 to 4096 slots, a power of two, and 1 to 16 producers; a client reads and writes 1 to 65536 bytes";
-    12 "TooMany" "64 queues were opened";
+    12 "TooMany" "64 queues are open";
     13 "UnknownObject" "the policy declares no object of that kind and name";
     14 "NotAStep" "the seat may not make this step of its ring now: a foreign or published ticket, no room seen, no packet read whole, or a packet not taken yet";
     15 "Spent" "the ring's producers have reserved 1099511627776 ids";

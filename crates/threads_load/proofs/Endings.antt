@@ -27,7 +27,6 @@ use Rattle.threads_load.specs.Loads.{EndsAs, EndsBy, EndsLoad, EndsWith, TellsLo
 use Rattle.threads_load.specs.Plans.{planned}
 use Rattle.threads_load.specs.Reports.{text_of_report}
 use Rattle.threads_load.specs.Stages.{AreOf, HasQueues, WasLeft}
-use Rattle.threads_load.proofs.Planned.{there_at_end}
 
 agreed_ends : (entries : List Entry) (lanes : List LaneSeen) (all : Bool) → AllAgree entries lanes → EndsAs entries lanes all (ending_if all)
 agreed_ends entries lanes true h = (h, refl)
@@ -47,7 +46,7 @@ ends_as plan wanted parts rings ends lanes (settlement.Mismatch core queue id) e
 
 pub ends_load : (opened : Core) (plan : List PlannedQueue) (wanted : ℕ) (seen : List Core) (parts : List Part) (rings : List QueueRing) (ends : List ClientEnd) (lanes : List LaneSeen) (came : Settlement) (ended : Ended)
     → All (IsLegalPart opened.history.kernels) parts
-    → WasLeft seen (λ left. HasAllAllowed left.history) → WasLeft seen (λ left. HasQueues left plan) → AreOf (length plan) lanes
+    → WasLeft seen (λ left. HasAllAllowed left.history) → HasQueues (core_of came) plan → AreOf (length plan) lanes
     → IsSettlement rings parts ends lanes came → IsEnd opened seen lanes (core_of came)
     → ended.core ≡ core_of came → parts_in ended ≡ parts → AreCounts (entries_in (parts_in ended) ++ ended.core.history.entries) (length plan) ended.counts.items
     → EndsBy plan wanted parts came ended.ending → EndsLoad opened plan wanted ended
@@ -60,7 +59,7 @@ ends_load opened plan wanted seen parts rings ends lanes came ended legal grante
       seen = seen;
       lanes = lanes;
       granted = granted;
-      queues = there_at_end opened seen lanes (core_of came) plan queues end;
+      queues = queues;
       lanes_are = are;
       end = end;
       ends = both.1;
@@ -88,7 +87,7 @@ tells_load policy kernels packets producers plan opened (Err why) opens is told 
 
 pub finishes : {F : Type 0} (opened : Core) (plan : List PlannedQueue) (wanted : ℕ) (seen : List Core) (parts : List Part) (rings : List QueueRing) (ends : List ClientEnd) (lanes : List LaneSeen) (came : Settlement) (made : Result Ended F)
     → All (IsLegalPart opened.history.kernels) parts
-    → WasLeft seen (λ left. HasAllAllowed left.history) → WasLeft seen (λ left. HasQueues left plan) → AreOf (length plan) lanes
+    → WasLeft seen (λ left. HasAllAllowed left.history) → HasQueues (core_of came) plan → AreOf (length plan) lanes
     → IsSettlement rings parts ends lanes came → IsEnd opened seen lanes (core_of came)
     → IfOk made (λ ended. ended.core ≡ core_of came) → IfOk made (λ ended. parts_in ended ≡ parts)
     → IfOk made (λ ended. AreCounts (entries_in (parts_in ended) ++ ended.core.history.entries) (length plan) ended.counts.items) → IfOk made (λ ended. EndsBy plan wanted parts came ended.ending)

@@ -18,7 +18,7 @@ use Rattle.policy.specs.Policy.{Declared, rules_of}
 use Rattle.policy.specs.Rights.{has}
 use Rattle.policy.proofs.PairLemmas.{same_object_itself}
 use Rattle.policy.specs.Rules.{are_allowed, count, knows_client, knows_object, rows_allow}
-use Rattle.core_model.specs.declared.call.Call.TheVariants.{Grant, Revoke, Stop, RunNext, Poll, Finish, HostWrite, ChangeSignal}
+use Rattle.core_model.specs.declared.call.Call.TheVariants.{Grant, Revoke, Stop, Close, RunNext, Poll, Finish, HostWrite, ChangeSignal}
 use Rattle.core_model.specs.declared.entry.Entry.{Entry}
 use Rattle.core_model.specs.declared.event.Event.{Event}
 use Rattle.core_model.specs.declared.event.Event.TheVariants.{Open, Take, Reload, Call}
@@ -75,6 +75,7 @@ kept_by : (client : ClientId) (on : Object) (one : Right) (before : Bool) (event
 kept_by client on one before (Call (Grant c o rights)) is so = ap (λ (b : Bool). b || is_one_of client on one c o rights) so
 kept_by client on one before (Call (Revoke c o rights)) is so = absurd is
 kept_by client on one before (Call (Stop q)) is so = absurd is
+kept_by client on one before (Call (Close q)) is so = absurd is
 kept_by client on one before (Call (RunNext q id)) is so = absurd is
 kept_by client on one before (Call (Poll q id)) is so = absurd is
 kept_by client on one before (Call (Finish q id)) is so = absurd is

@@ -1,32 +1,21 @@
 -- Which queues were opened, and whose lanes there are.
 use Rattle.std.proofs.Common.{◌≡◌, ℕ, zero, suc, ◌+◌, ◌<◌, List, [], ◌∷◌, ◌++◌, length, take, get_or, length-append, refl, sym, ap, ◌∙◌, subst, arith}
-use Rattle.std.specs.Prelude.{Bool, true, false, Ok, Some, nat_lt, slice_index_or}
+use Rattle.std.specs.Prelude.{Bool, true, false, nat_lt, slice_index_or}
 use Rattle.std.proofs.lemmas.Bool.Decides.{nat_tests}
 use Rattle.std.proofs.lemmas.List.{take_more}
 use mathlib.Core.List.{IsPrefix}
 use Rattle.atomic_table.specs.Seated.{TableId}
 use Rattle.aql_packet.specs.declared.ids.QueueId.{QueueId}
-use Rattle.core_model.specs.History.{beginning}
-use Rattle.core_model.specs.Legal.{MeetsOrLacks}
-use Rattle.core_model.specs.Queues.{owner}
-use Rattle.core_model.specs.declared.origin.Opening.{Opening}
-use Rattle.core_model.specs.declared.outcome.Outcome.TheVariants as outcome
 use Rattle.access_core.specs.Cores.{Core}
 use Rattle.client_threads.specs.Lanes.{LaneSeen}
-use Rattle.client_threads.specs.Opening.{opening_event}
-use Rattle.ring_core.specs.Machine.{judged_size}
 use Rattle.client_threads.specs.Rings.{QueueRing}
 use Rattle.client_threads.specs.Running.{EachGoesOn}
-use Rattle.client_threads.specs.Sections.{AllFollow, IsSection, last_of}
-use Rattle.client_threads.specs.Settling.{IsEnd}
+use Rattle.client_threads.specs.Sections.{IsSection}
 use Rattle.client_threads.proofs.Fronts.{prefix_self, prefix_trans}
-use Rattle.client_threads.proofs.Opened.{opened_owner}
-use Rattle.client_threads.proofs.Runs.{owners_grow}
-use Rattle.client_threads.proofs.Sections.{all_snoc, last_snoc}
 use Rattle.threads_load.specs.declared.opening.Stage.{Stage}
 use Rattle.threads_load.specs.declared.plan.PlannedQueue.{PlannedQueue}
 use Rattle.threads_load.specs.Grantings.{HasAllAllowed}
-use Rattle.threads_load.specs.Stages.{AreOf, HasQueues, IsReady, WasLeft, opening_for}
+use Rattle.threads_load.specs.Stages.{AreOf, HasQueues, IsReady, WasLeft}
 
 -- ---- items of a list
 
@@ -62,34 +51,6 @@ section_left {Did} {Is} opened seen new s is =
 
 -- ---- queues
 
-grown : (opened : Core) (known left : List Core) (plan : List PlannedQueue) → IsPrefix known left → AllFollow opened left → HasQueues (last_of opened known) plan → HasQueues (last_of opened left) plan
-grown opened known left plan p all has place d lt = owners_grow opened known left (record { 0 = place + 1 }) (opening_for (slice_index_or plan place d)) p all (has place d lt)
-
--- the queues that were opened in a state that was left are there in a later one
-pub still_there : (opened : Core) (seen left : List Core) (plan : List PlannedQueue) → WasLeft seen (λ core. HasQueues core plan) → IsPrefix seen left → AllFollow opened left → HasQueues (last_of opened left) plan
-still_there opened seen left plan w p all =
-    grown opened (w.before ++ w.core ∷ []) left plan (prefix_trans (w.before ++ w.core ∷ []) seen left w.begins p) all
-    (subst (λ (c : Core). HasQueues c plan) (sym (last_snoc opened w.before w.core)) w.is)
-
--- in the end too
-pub there_at_end : (opened : Core) (seen : List Core) (lanes : List LaneSeen) (core : Core) (plan : List PlannedQueue) → WasLeft seen (λ left. HasQueues left plan) → IsEnd opened seen lanes core → HasQueues core plan
-there_at_end opened seen lanes core plan w e = subst (λ (c : Core). HasQueues c plan) e.last (still_there opened seen e.left plan w e.begins e.all)
-
--- one queue more
-one_queue_more : (core : Core) (before : List PlannedQueue) (planned : PlannedQueue) → HasQueues core before
-    → owner (beginning core.history) core.history.entries (record { 0 = length before + 1 }) ≡ Some (opening_for planned) → HasQueues core (before ++ planned ∷ [])
-one_queue_more core before planned has is place d lt = by_order (nat_lt place (length before)) refl
-  where
-    by_order : (t : Bool) → nat_lt place (length before) ≡ t → owner (beginning core.history) core.history.entries (record { 0 = place + 1 }) ≡ Some (opening_for (slice_index_or (before ++ planned ∷ []) place d))
-    by_order true below =
-        let low : place < length before = grind (arith, nat_tests) in
-        has place d low ∙ ap (λ (p : PlannedQueue). Some (opening_for p)) (sym (at_first before planned place d low))
-    by_order false not_below =
-        let longer = one_longer before planned in
-        let at : length before ≡ place = grind (arith, nat_tests) in
-        subst (λ n. owner (beginning core.history) core.history.entries (record { 0 = n + 1 }) ≡ Some (opening_for (slice_index_or (before ++ planned ∷ []) n d))) at
-        (is ∙ ap (λ (p : PlannedQueue). Some (opening_for p)) (sym (at_last before planned d)))
-
 -- one lane more
 one_lane_of : (queues : ℕ) (lanes : List LaneSeen) (lane : LaneSeen) → AreOf queues lanes → lane.queue.0 ≡ length lanes + 1 → AreOf (queues + 1) (lanes ++ lane ∷ [])
 one_lane_of queues lanes lane are number = record {
@@ -106,27 +67,13 @@ one_lane_of queues lanes lane are number = record {
         let at : length lanes ≡ place = grind (arith, nat_tests) in
         subst (λ n. (slice_index_or (lanes ++ lane ∷ []) n d).queue.0 ≡ n + 1) at (ap (λ (l : LaneSeen). l.queue.0) (at_last lanes lane d) ∙ number)
 
--- a planned queue was opened under the number of its place
-pub opened_next : (opened : Core) (seen new : List Core) (planned : PlannedQueue) (size producers : ℕ) (queue : QueueId) (before : List PlannedQueue) (lanes more : List LaneSeen) (lane : LaneSeen)
-    → IsSection opened seen new (λ old core. MeetsOrLacks (opening_event planned.client planned.agent size producers) old.history core.history (Ok (outcome.Opened queue)))
-    → queue.0 ≡ length lanes + 1 → lane.queue ≡ queue → more ≡ lanes ++ lane ∷ []
-    → WasLeft seen (λ left. HasQueues left before) → AreOf (length before) lanes
-    → WasLeft new (λ left. HasQueues left (before ++ planned ∷ [])) × AreOf (length (before ++ planned ∷ [])) more
-opened_next opened seen new planned size producers queue before lanes more lane s number own is w are =
-    let old_has : HasQueues (last_of opened s.before) before = still_there opened seen s.before before w s.begins s.all in
-    let all : AllFollow opened (s.before ++ s.core ∷ []) = all_snoc opened s.before s.core s.all s.next in
-    let has : HasQueues s.core before =
-    subst (λ (c : Core). HasQueues c before) (last_snoc opened s.before s.core)
-    (grown opened s.before (s.before ++ s.core ∷ []) before (s.core ∷ [], refl) all old_has) in
-    let owner_is = opened_owner (last_of opened s.before).history planned.client planned.agent (judged_size size producers) s.core.history queue s.did in
-    let place : queue.0 ≡ length before + 1 = number ∙ ap (λ n. n + 1) are.count in
-    let at : owner (beginning s.core.history) s.core.history.entries (record { 0 = length before + 1 }) ≡ Some (opening_for planned) =
-    subst (λ n. owner (beginning s.core.history) s.core.history.entries (record { 0 = n }) ≡ Some (opening_for planned)) place owner_is in (
-      section_left opened seen new s (one_queue_more s.core before planned has at),
-      subst (λ (ls : List LaneSeen). AreOf (length (before ++ planned ∷ [])) ls) (sym is)
-          (subst (λ n. AreOf n (lanes ++ lane ∷ [])) (sym (one_longer before planned))
-          (one_lane_of (length before) lanes lane are (ap (λ (q : QueueId). q.0) own ∙ number))),
-    )
+-- a planned queue was opened under the number of its place: the lanes are those of one queue more
+pub opened_next : (planned : PlannedQueue) (queue : QueueId) (before : List PlannedQueue) (lanes more : List LaneSeen) (lane : LaneSeen)
+    → queue.0 ≡ length lanes + 1 → lane.queue ≡ queue → more ≡ lanes ++ lane ∷ [] → AreOf (length before) lanes → AreOf (length (before ++ planned ∷ [])) more
+opened_next planned queue before lanes more lane number own is are =
+    subst (λ (ls : List LaneSeen). AreOf (length (before ++ planned ∷ [])) ls) (sym is)
+    (subst (λ n. AreOf n (lanes ++ lane ∷ [])) (sym (one_longer before planned))
+    (one_lane_of (length before) lanes lane are (ap (λ (q : QueueId). q.0) own ∙ number)))
 
 -- lanes that ran are those of their queues still
 pub lanes_stay : (board : TableId) (rings : List QueueRing) (old new : List LaneSeen) (queues : ℕ) → length new ≡ length old → EachGoesOn board rings old new → AreOf queues old → AreOf queues new
@@ -138,10 +85,6 @@ lanes_stay board rings old new queues count each are = record {
 }
 
 -- ---- stages
-
--- where nothing is planned all queues are there
-pub none_planned : (seen : List Core) {Is : Core → Type 0} → WasLeft seen Is → WasLeft seen (λ left. HasQueues left [])
-none_planned seen w = record { before = w.before; core = w.core; begins = w.begins; is = λ place d lt. absurd (omega (arith, lt)) }
 
 pub no_lanes : AreOf 0 []
 no_lanes = record { count = refl; numbers = λ place d lt. absurd (omega (arith, lt)) }
@@ -158,10 +101,15 @@ ready_still plan old new r p lanes = record {
   lanes = lanes r.lanes;
 }
 
--- a stage is ready once the queues of its plan were opened behind the grants
-pub is_ready : {B : Type 0} (plan : List PlannedQueue) (seen : List Core) (stage : Stage B) → WasLeft seen (λ left. HasAllAllowed left.history) → IsPrefix seen stage.front.left
-    → (none : List LaneSeen) → none ≡ []
-    → (WasLeft seen (λ left. HasQueues left []) → AreOf 0 none → WasLeft stage.front.left (λ left. HasQueues left plan) × AreOf (length plan) stage.lanes.items) → IsReady plan stage
-is_ready plan seen stage granted p none is opened =
-    let both = opened (none_planned seen granted) (subst (λ (ls : List LaneSeen). AreOf 0 ls) (sym is) no_lanes) in
-    record { granted = left_still seen stage.front.left p granted; queues = both.0; lanes = both.1 }
+-- in the section in which the queues of a plan were found it was left so
+found_left : (opened : Core) (plan : List PlannedQueue) (seen new : List Core) → IsSection opened seen new (λ old core. HasQueues core plan) → WasLeft new (λ left. HasQueues left plan)
+found_left opened plan seen new s = section_left opened seen new s s.did
+
+-- a stage is ready once the queues of its plan were opened behind the grants, and were found
+pub is_ready : {B : Type 0} (opened : Core) (plan : List PlannedQueue) (seen mid : List Core) (stage : Stage B) → WasLeft seen (λ left. HasAllAllowed left.history) → IsPrefix seen mid
+    → IsSection opened mid stage.front.left (λ old core. HasQueues core plan) → (none : List LaneSeen) → none ≡ [] → (AreOf 0 none → AreOf (length plan) stage.lanes.items) → IsReady plan stage
+is_ready opened plan seen mid stage granted p found none is are = record {
+  granted = left_still seen stage.front.left (prefix_trans seen mid stage.front.left p (section_begins opened mid stage.front.left found)) granted;
+  queues = found_left opened plan mid stage.front.left found;
+  lanes = are (subst (λ (ls : List LaneSeen). AreOf 0 ls) (sym is) no_lanes);
+}

@@ -38,6 +38,11 @@ EachStaysOf rings old new = (place : ℕ) (d : ClientEnd) → place < length old
 abbrev pub opening_for : PlannedQueue → Opening
 opening_for planned = record { client = planned.client; agent = planned.agent }
 
+-- a core has the queue at a place of a plan, under the number of the place: it was opened by the planned client on the planned agent (own)
+abbrev pub HasQueueAt : Core → List PlannedQueue → ℕ → Type 0
+HasQueueAt core plan place = (d : PlannedQueue) →
+    owner (beginning core.history) core.history.entries (record { 0 = place + 1 }) ≡ Some (opening_for (slice_index_or plan place d))
+
 -- a core has the queues of a plan, in order, numbered from 1 on: each was opened by the planned client on the planned agent (own)
 abbrev pub HasQueues : Core → List PlannedQueue → Type 0
 HasQueues core plan = (place : ℕ) (d : PlannedQueue) → place < length plan →

@@ -16,7 +16,7 @@ pub enum LoadFault {
     /// The core refused a call: a grant, an opening, or the read of a region.
     #[error("{0}")]
     Refused(Refusal),
-    /// A queue that was opened doesn't have the number of its place in the plan.
+    /// A planned queue isn't open under the number of its place in the plan: it has another, or was closed.
     #[error("a queue has another number than its place in the plan")]
     OtherQueue,
     /// What is shown of the load couldn't be written.

@@ -11,6 +11,7 @@ mod gate;
 mod granting;
 mod limits;
 mod load;
+mod looking;
 mod opening;
 mod plan;
 mod producing;

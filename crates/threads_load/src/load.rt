@@ -22,6 +22,7 @@ use crate::fault::LoadFault;
 use crate::gate::LoadGate;
 use crate::granting::grant_all;
 use crate::limits::{LoadLimits, LoadTerms, PACKETS};
+use crate::looking::find_queues;
 use crate::opening::{Stage, open_stage};
 use crate::plan::{PlannedQueue, plan_load};
 use crate::producing::Share;
@@ -93,6 +94,16 @@ fn ending_of(settlement: &Settlement, counts: &[PacketCounts], wanted: u64) -> E
             queue: *queue,
             packet: *id,
         },
+    }
+}
+
+// The core that a broker came to, to be looked at.
+fn core_in(settlement: &Settlement) -> &AccessCore
+    ensures { result.now ≡ core_of settlement.now }
+{
+    match settlement {
+        Settlement::Settled { core, .. } => core,
+        Settlement::Mismatch { core, .. } => core,
     }
 }
 
@@ -173,7 +184,7 @@ fn settle<B: Room>(
     )
 }
 
-// Settles it, and tells how the load ended.
+// Settles it, looks whether the queues of the plan are open still, and tells how the load ended.
 fn finish<B: Room>(
     alloc: Global,
     stage: Stage<B>,
@@ -188,7 +199,10 @@ fn finish<B: Room>(
     ensures { IfOk result (EndsLoad B.opened plan.now wanted) }
 {
     match settle(alloc, stage, &out) {
-        Ok(settlement) => ended_by(settlement, out, wanted),
+        Ok(settlement) => {
+            find_queues(core_in(&settlement), plan)?;
+            ended_by(settlement, out, wanted)
+        }
         Err(back) => Err(fault_of(back)),
     }
 }

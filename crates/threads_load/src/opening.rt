@@ -3,17 +3,17 @@
 ghost use Rattle.std.specs.Prelude.{◌≡◌, ◌∷◌, ◌++◌, [], All, IfErr, IfOk, List, OnOk, length};
 ghost use mathlib.Core.List.{IsPrefix};
 ghost use Rattle.client_threads.specs.HandedOver.{KeepsAll};
-ghost use Rattle.client_threads.specs.Opening.{IsOpened, opening_event};
+ghost use Rattle.client_threads.specs.Opening.{IsOpened, OpensQueue, opening_event};
 ghost use Rattle.client_threads.specs.Running.{IsEndOf, IsLaneOf};
 ghost use Rattle.client_threads.specs.Sections.{IsSection};
 ghost use Rattle.core_model.specs.declared.outcome.Outcome.{Outcome};
-ghost use Rattle.core_model.specs.Legal.{MeetsOrLacks};
 ghost use Rattle.policy.specs.Results.{map_ok};
 ghost use Rattle.threads_load.specs.Grantings.{HasAllAllowed};
 ghost use Rattle.threads_load.specs.Stages.{AreOf, HasQueues, IsReady, IsStage, WasLeft};
 ghost use Rattle.threads_load.specs.declared.plan.PlannedQueue.{PlannedQueue};
 
 use crate::fault::LoadFault;
+use crate::looking::look_for_queues;
 use crate::plan::PlannedQueue;
 use client_threads::{Broker, ClientEnd, Front, Lane, Opened, Room};
 use core_model::Refusal;
@@ -42,7 +42,7 @@ fn open_queue<B: Room>(
     requires front { front.old.board ≡ B.board }
     ensures front { front.new.board ≡ B.board }
     ensures section { IsSection B.opened front.old.left front.new.left (λ before after.
-        MeetsOrLacks (opening_event planned.client planned.agent MOST_IN_FLIGHT producers) before.history after.history (map_ok (λ o. Outcome.Opened o.0) result)) }
+        OpensQueue (opening_event planned.client planned.agent MOST_IN_FLIGHT producers) before.history (map_ok (λ o. Outcome.Opened o.0) result) after.history) }
     ensures opened { IfOk result (λ o. IsOpened broker.old MOST_IN_FLIGHT producers front.new o.0 o.1.items o.2 broker.new) }
     ensures refused { IfErr result (λ _. broker.new ≡ broker.old) }
 {
@@ -127,8 +127,7 @@ fn open_next<B: Room>(
     ensures ends { OnOk result (All (λ end. IsEndOf broker.new end) ends.new.items) }
     ensures lanes { OnOk result (All (λ lane. IsLaneOf B.board broker.new lane) lanes.new.items) }
     ensures keeps { All KeepsAll lanes.old.items → OnOk result (All KeepsAll lanes.new.items) }
-    ensures queues { (before : List PlannedQueue) → WasLeft front.old.left (λ left. HasQueues left before) → AreOf (length before) lanes.old.items
-        → OnOk result (WasLeft front.new.left (λ left. HasQueues left (before ++ planned ∷ [])) × AreOf (length (before ++ planned ∷ [])) lanes.new.items) }
+    ensures queues { (before : List PlannedQueue) → AreOf (length before) lanes.old.items → OnOk result (AreOf (length (before ++ planned ∷ [])) lanes.new.items) }
 {
     let number = lanes.len() as u64 + 1;
     match open_queue(alloc, broker, front, planned, producers) {
@@ -163,13 +162,26 @@ fn open_queues<B: Room>(
     ensures ends { OnOk result (All (λ end. IsEndOf broker.new end) ends.new.items) }
     ensures lanes { OnOk result (All (λ lane. IsLaneOf B.board broker.new lane) lanes.new.items) }
     ensures keeps { All KeepsAll lanes.old.items → OnOk result (All KeepsAll lanes.new.items) }
-    ensures queues { WasLeft front.old.left (λ left. HasQueues left []) → AreOf 0 lanes.old.items
-        → OnOk result (WasLeft front.new.left (λ left. HasQueues left plan.now) × AreOf (length plan.now) lanes.new.items) }
+    ensures queues { AreOf 0 lanes.old.items → OnOk result (AreOf (length plan.now) lanes.new.items) }
 {
     for planned in plan {
         open_next(alloc, broker, front, *planned, producers, ends, lanes)?;
     }
     Ok(())
+}
+
+// Looks for the queues of a plan, in a section.
+fn look_alone<B: Room>(
+    broker: &mut Broker<B>,
+    front: &mut Front,
+    plan: &[PlannedQueue],
+) -> Result<(), LoadFault>
+    requires { front.old.board ≡ B.board }
+    ensures front { front.new.board ≡ B.board }
+    ensures section { IsSection B.opened front.old.left front.new.left (λ before after. OnOk result (HasQueues after plan.now)) }
+    ensures rings { broker.new ≡ broker.old }
+{
+    broker.with_core_alone(front, |core| look_for_queues(core, plan))
 }
 
 /// Opens the queues of a plan over a broker, of whose core a front has seen some, each for so many producers. Where all
@@ -199,6 +211,7 @@ pub fn open_stage<B: Room>(
         &mut ends,
         &mut lanes,
     )?;
+    look_alone(&mut broker, &mut front, plan)?;
     Ok(Stage {
         broker,
         front,

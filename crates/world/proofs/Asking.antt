@@ -25,7 +25,7 @@ use Rattle.world.specs.Dues.{AreReplies, Due, IsServed, Meets, Reply, due_collec
 use Rattle.world.specs.Headline.{IsBegun}
 use Rattle.world.specs.States.{Joined, ring_of}
 use Rattle.world.proofs.GoingOn.{kernels-stay}
-use Rattle.world.proofs.Kept.{IsUnparted, handed_none, unparted_at_step, unparted_at_take, unparted_event, unparted_opening, unparted_query, unrotated}
+use Rattle.world.proofs.Kept.{IsUnparted, handed_none, unparted_at_step, unparted_at_take, unparted_call, unparted_event, unparted_opening, unparted_query, unrotated}
 
 -- entries are those of a world, or one more, which is of a request
 abbrev Adds : Joined → Request → List Entry → Type 0
@@ -88,12 +88,12 @@ by-due old new asked owed reply unparted follows (inl served) = record {
     all = λ i. none i ++ (served.1 i).core.entries
 by-due old new asked owed reply unparted follows (inr lacked) = unchanged old new asked reply (ap handed lacked.1) lacked.2
 
-by-rotation : (old new : Joined) (reply : Reply) (made : Result Handed cores.Refusal) → reply ≡ rotated_reply made → Rotates old.core made new.core → new.rings ≡ old.rings → Enters old request.Rotate reply new
-by-rotation old new reply (Ok part) told is rings = record {
+by-rotation : (old new : Joined) (reply : Reply) (made : Result Handed cores.Refusal) → reply ≡ rotated_reply made → Rotates old.core made new.core → Enters old request.Rotate reply new
+by-rotation old new reply (Ok part) told is = record {
   adds = inl ((λ i. ap handed told i ++ is.1.empty i) ∙ append-nil part.entries ∙ is.1.entries_are);
   room = is.1.capacity_is;
 }
-by-rotation old new reply (Err why) told is rings =
+by-rotation old new reply (Err why) told is =
     let same : new.core ≡ old.core = unrotated old.core new.core why is in
     record {
       adds = inl (λ i. ap handed told i ++ (same i).entries);
@@ -110,13 +110,13 @@ enters-one old new (request.OpenQueue client agent size producers) reply is =
     let opening : Event = event.Open client agent (judged_size size producers) in
     by-due old new asked (due_opening old size producers opening (due old.core opening)) reply (unparted_opening old size producers opening (due old.core opening)) (after-event old asked opening (due old.core opening) refl) is
 enters-one old new (request.Call asked) reply is =
-    by-due old new (request.Call asked) _ reply (unparted_event old (event.Call asked) (due old.core (event.Call asked))) (after-event old (request.Call asked) (event.Call asked) (due old.core (event.Call asked)) refl) is
+    by-due old new (request.Call asked) _ reply (unparted_call old asked (due old.core (event.Call asked))) (after-event old (request.Call asked) (event.Call asked) (due old.core (event.Call asked)) refl) is
 enters-one old new (request.Query asked) reply is = by-due old new (request.Query asked) (due_query old asked) reply (unparted_query old asked) (stays old (request.Query asked)) is
 enters-one old new (request.Reload policy) reply (inl is) =
     by-due old new (request.Reload policy) _ reply (unparted_event old (event.Reload policy.rows) (due old.core (event.Reload policy.rows)))
     (after-event old (request.Reload policy) (event.Reload policy.rows) (due old.core (event.Reload policy.rows)) refl) is.1
 enters-one old new (request.Reload policy) reply (inr others) = unchanged old new (request.Reload policy) reply (ap handed others.1) others.2
-enters-one old new request.Rotate reply is = by-rotation old new reply is.0 is.1 is.2 is.3
+enters-one old new request.Rotate reply is = by-rotation old new reply is.0 is.1 is.2
 
 -- ---- any list of requests
 

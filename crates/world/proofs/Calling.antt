@@ -1,5 +1,5 @@
 -- The steps of a call on a queue's ring are requests, made in turn.
-use Rattle.std.proofs.Common.{◌≡◌, ℕ, ◌+◌, ◌-◌, Bool, true, false, List, [], ◌∷◌, ◌++◌, length, refl, sym, ap, ◌∙◌, subst, Option, Some, None, Result, Ok, Err, inl}
+use Rattle.std.proofs.Common.{◌≡◌, ℕ, ◌+◌, Bool, true, false, List, [], ◌∷◌, ◌++◌, length, refl, sym, ap, ◌∙◌, subst, Option, Some, None, Result, Ok, Err, inl}
 use Rattle.std.specs.Prelude.{◌&&◌, get_or, option_map, replicate, slice_get, slice_index, slice_set, if◌then◌else◌}
 use Rattle.std.specs.Option.{option_map_or}
 use Rattle.aql_packet.specs.declared.ids.PacketId.{PacketId}
@@ -15,7 +15,6 @@ use Rattle.ring_core.specs.InTurn.{MadeInTurn, collecting, look_if, packet_among
 use Rattle.ring_core.specs.Machine.{Machine, Makes, found, is_allowed, made, read_index}
 use Rattle.ring_core.specs.Words.{is_invalid}
 use Rattle.ring_core.proofs.Gathering.{eight}
-use Rattle.ring_core.proofs.Turning.{set_twice}
 use Rattle.world.specs.declared.lane.Sent.TheVariants as sent
 use Rattle.world.specs.declared.reply.Answer.{Answer}
 use Rattle.world.specs.declared.reply.Refusal.{Refusal}
@@ -25,7 +24,7 @@ use Rattle.world.specs.Dues.{Meets, answer_to, due_step, due_where, has_spent, h
 use Rattle.world.specs.Lanes.{collects, peek, publish_where, retire, shown_as, shows, stores, stores_body}
 use Rattle.world.specs.States.{Joined, joined, ring_of, slots_of, with_ring}
 use Rattle.world.specs.inner.Calling.{sent_as}
-use Rattle.world.proofs.Numbering.{numbered_same, numbered_set}
+use Rattle.world.proofs.Among.{put_found, put_its_own, put_twice}
 
 -- ---- whether a step is hindered
 
@@ -65,13 +64,13 @@ module _ (world : Joined) (queue : QueueId) (start : Machine) (has : ring_of wor
   Over ring = with_ring world queue ring
 
   over_ring : (ring : Machine) → ring_of (Over ring) queue ≡ Some ring
-  over_ring ring = numbered_same world.rings queue.0 start ring has
+  over_ring ring = put_found world.rings queue start ring has
 
   pub over_start : Over start ≡ world
-  over_start = λ i. joined world.core (numbered_set world.rings queue.0 start has i)
+  over_start = λ i. joined world.core (put_its_own world.rings queue start has i) world.closed
 
   over_again : (one other : Machine) → with_ring (Over one) queue other ≡ Over other
-  over_again one other = λ i. joined world.core (set_twice world.rings (queue.0 - 1) one other i)
+  over_again one other = λ i. joined world.core (put_twice world.rings queue one other i) world.closed
 
   goes : (ring : Machine) (seat : ℕ) (access : Access) → hindrance (is_decided world.core queue ring) ring (step_by seat access) ≡ None
       → asks (step queue seat access) (Over ring) (Ok (answer_to access (read_index ring) (found ring (step_by seat access)))) (Over (made ring (step_by seat access)))

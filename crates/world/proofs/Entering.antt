@@ -16,11 +16,15 @@ use Rattle.policy.specs.Policy.{Declared}
 use Rattle.core_model.specs.Queues.{next_id, openings}
 use Rattle.core_model.specs.Owed.{Owed, owed, refuses, answers, enters}
 use Rattle.core_model.specs.Legal.{IsWhole, due, entry_of, lacks_room, within_room}
-use Rattle.core_model.proofs.More.{with_some}
 use Rattle.core_model.proofs.States.{whole-more}
 use Rattle.world.specs.InStep.{size_of, sizes, taken_from, takes}
 
 -- ---- lists of what entries tell
+
+-- a list with one more item, if there is one
+abbrev pub with_some : {X : Type 0} → List X → Option X → List X
+with_some xs None = xs
+with_some xs (Some x) = xs ++ x ∷ []
 
 one_told : {X : Type 0} (o : Option X) → filter_map (λ (x : Option X). x) (o ∷ []) ≡ option_to_list o
 one_told None = refl

@@ -19,12 +19,12 @@ use Rattle.world.specs.declared.request.Request.TheVariants as request
 use Rattle.world.specs.Dues.{AreReplies, Due, IsServed, Meets, Reply, handed_out, part_of, parts_out, rotated_reply}
 use Rattle.world.specs.InStep.{IsJoinedBehind}
 use Rattle.world.specs.States.{Joined, ring_of}
-use Rattle.world.proofs.Kept.{BeginsAlike, IsUnparted, replies_kept, unparted_at_step, unparted_at_take, unparted_event, unparted_opening, unparted_query, unrotated}
+use Rattle.world.proofs.Kept.{BeginsAlike, IsUnparted, replies_kept, unparted_at_step, unparted_at_take, unparted_call, unparted_event, unparted_opening, unparted_query, unrotated}
 
 -- ---- the same to begin from
 
 same-self : (o : Origin) → SameOrigin o o
-same-self o = record { policy = refl; granted = λ client on right. refl; held = λ queue id client on right. refl; memory = refl; signals = refl; queues = refl; packets = refl; before = refl }
+same-self o = record { policy = refl; granted = λ client on right. refl; held = λ queue id client on right. refl; memory = refl; signals = refl; opened = refl; queues = refl; packets = refl; before = refl }
 
 same-along : (a b c : Origin) → SameOrigin a b → SameOrigin b c → SameOrigin a c
 same-along a b c one two = record {
@@ -33,6 +33,7 @@ same-along a b c one two = record {
   held = λ queue id client on right. one.held queue id client on right ∙ two.held queue id client on right;
   memory = one.memory ∙ two.memory;
   signals = one.signals ∙ two.signals;
+  opened = one.opened ∙ two.opened;
   queues = one.queues ∙ two.queues;
   packets = one.packets ∙ two.packets;
   before = one.before ∙ two.before;
@@ -71,7 +72,7 @@ hands-on old new (request.Take queue) reply is = by-due old new _ reply (unparte
 hands-on old new (request.OpenQueue client agent size producers) reply is =
     let opening : Event = event.Open client agent (judged_size size producers) in
     by-due old new _ reply (unparted_opening old size producers opening (due old.core opening)) is
-hands-on old new (request.Call asked) reply is = by-due old new _ reply (unparted_event old (event.Call asked) (due old.core (event.Call asked))) is
+hands-on old new (request.Call asked) reply is = by-due old new _ reply (unparted_call old asked (due old.core (event.Call asked))) is
 hands-on old new (request.Query asked) reply is = by-due old new _ reply (unparted_query old asked) is
 hands-on old new (request.Reload policy) reply (inl is) = by-due old new _ reply (unparted_event old (event.Reload policy.rows) (due old.core (event.Reload policy.rows))) is.1
 hands-on old new (request.Reload policy) reply (inr others) = stays (ap part_of others.1) (same-begins new old others.2)

@@ -1,10 +1,10 @@
 -- What the code knows where the core refuses, and of a world that begins.
-use Rattle.std.proofs.Common.{◌≡◌, ℕ, List, [], length, refl, sym, ap, ◌∙◌, subst, true, Option, Some, None, Err}
+use Rattle.std.proofs.Common.{◌≡◌, ℕ, List, [], refl, sym, ap, ◌∙◌, subst, true, Option, Some, None, Err}
 use Rattle.aql_packet.specs.declared.ids.AgentHandle.{AgentHandle}
 use Rattle.aql_packet.specs.declared.ids.ClientId.{ClientId}
 use Rattle.aql_packet.specs.declared.ids.QueueId.{QueueId}
 use Rattle.kernel_check.specs.Programs.{Program}
-use Rattle.policy.specs.Policy.{Declared, numbered}
+use Rattle.policy.specs.Policy.{Declared}
 use Rattle.core_model.specs.declared.event.Event.TheVariants.{Open, Take}
 use Rattle.core_model.specs.declared.outcome.Outcome.TheVariants as outcome
 use Rattle.core_model.specs.declared.refusal.Refusal as cores
@@ -20,17 +20,17 @@ use Rattle.world.specs.declared.queue_ring.QueueRing.{QueueRing}
 use Rattle.world.specs.declared.reply.Refusal.TheVariants as refusal
 use Rattle.aql_packet.specs.Words.{bytes_of}
 use Rattle.world.specs.InStep.{IsJoined, IsJoinedBehind}
-use Rattle.world.specs.Making.{AreDecided}
+use Rattle.world.specs.Making.{AreDecided, ring_in}
 use Rattle.world.specs.Obeying.{HandsOver, MayOpen, TakesAt, next_of, next_where}
-use Rattle.world.proofs.Numbering.{numbered_none, numbered_set}
+use Rattle.world.proofs.Places.{put_itself}
 use Rattle.world.proofs.Entering.{due_enters}
 use Rattle.world.proofs.OpeningKept.{opening_owed, size_asked}
 use Rattle.world.proofs.Kept.{begins}
 use Rattle.world.proofs.Obeyed.{World}
 
 -- a hand-over that the core refuses leaves the rings as they are
-pub handed_refused : (core core' : History) (rings : List QueueRing) (queue : QueueId) (r : QueueRing) (next : Next) (bytes : List ℕ) (why : cores.Refusal) → numbered rings queue.0 ≡ Some r → next_of r ≡ Some next → bytes ≡ bytes_of next.words
-    → MeetsOrLacks (Take queue next.packet bytes) core core' (Err why) → TakesAt (numbered rings queue.0) queue core rings (Err (refusal.Core why)) core' rings
+pub handed_refused : (core core' : History) (rings : List QueueRing) (queue : QueueId) (r : QueueRing) (next : Next) (bytes : List ℕ) (why : cores.Refusal) → ring_in rings queue ≡ Some r → next_of r ≡ Some next → bytes ≡ bytes_of next.words
+    → MeetsOrLacks (Take queue next.packet bytes) core core' (Err why) → TakesAt (ring_in rings queue) queue core rings (Err (refusal.Core why)) core' rings
 handed_refused core core' rings queue r next bytes why found is filled meets =
     subst (λ o. TakesAt o queue core rings (Err (refusal.Core why)) core' rings) (sym found) (by_packet (collected_packet (processor_of r.ring.parts)) is)
   where
@@ -41,7 +41,7 @@ handed_refused core core' rings queue r next bytes why found is filled meets =
           Err why,
           subst (λ (n : Next). MeetsOrLacks (Take queue n.packet (bytes_of n.words)) core core' (Err why)) (sym there) (subst (λ (bs : List ℕ). MeetsOrLacks (Take queue next.packet bs) core core' (Err why)) filled meets),
           refl,
-          sym (numbered_set rings queue.0 r found),
+          sym (put_itself rings queue r found),
         )
 
 -- a queue that the core allows to be opened can have its ring
@@ -55,8 +55,9 @@ allowed_fits core client agent size producers queue may =
     (ap is_ring_size (sym good.0) ∙ fits, good.1)
 
 -- a world begins joined
-pub starts : (policy : Declared) (kernels : List Program) (capacity : ℕ) (core : History) (rings : List QueueRing) → IsOpening core policy kernels capacity → rings ≡ [] → IsJoined (World core rings) × AreDecided core rings
-starts policy kernels capacity core rings opening none = (
-  record { first = policy; prior = []; behind = subst (λ (rs : List QueueRing). IsJoinedBehind policy [] (World core rs)) (sym none) (begins policy kernels capacity core opening) },
-  (λ queue r found. absurd (let nothing = numbered_none rings queue.0 (ap length none) in cc)),
+pub starts : (policy : Declared) (kernels : List Program) (capacity : ℕ) (core : History) (rings gone : List QueueRing) → IsOpening core policy kernels capacity → rings ≡ [] → gone ≡ []
+    → IsJoined (World core rings gone) × AreDecided core rings
+starts policy kernels capacity core rings gone opening none nothing = (
+  record { first = policy; prior = []; behind = subst (IsJoinedBehind policy []) (λ i. World core (sym none i) (sym nothing i)) (begins policy kernels capacity core opening) },
+  (λ queue r found. absurd (let never : None ≡ Some r = ap (λ (rs : List QueueRing). ring_in rs queue) (sym none) ∙ found in cc)),
 )

@@ -1,17 +1,17 @@
 -- The rings and the history stay in step, whatever is asked.
-use Rattle.std.proofs.Common.{◌≡◌, ℕ, ◌+◌, ◌-◌, ◌<◌, List, [], ◌∷◌, ◌++◌, length, refl, sym, ap, ◌∙◌, subst, true, false, Option, Some, None, inl, inr, arith, length-set}
-use Rattle.std.specs.Prelude.{◌⊎◌, slice_get, if◌then◌else◌}
+use Rattle.std.proofs.Common.{◌≡◌, ◌≢◌, ℕ, ◌+◌, ◌<◌, List, [], ◌∷◌, ◌++◌, length, refl, sym, ap, ◌∙◌, subst, true, false, Option, Some, None, inl, inr, arith}
+use Rattle.std.specs.Prelude.{◌⊎◌, ◌&&◌, is_some, nat_le, slice_get}
 use Rattle.std.proofs.lemmas.Bool.{ltb-true}
 use Rattle.std.proofs.lemmas.Bool.Decides.{eqb_tells}
 use Rattle.aql_packet.specs.declared.ids.QueueId.{QueueId}
-use Rattle.policy.specs.Policy.{Declared}
+use Rattle.policy.specs.Policy.{Declared, numbered}
 use Rattle.core_model.specs.declared.event.Event.{Event}
 use Rattle.core_model.specs.declared.entry.Entry.{Entry}
 use Rattle.core_model.specs.History.{beginning, History}
-use Rattle.core_model.specs.Queues.{hands_over_packet_of, next_id, opening_of, openings}
+use Rattle.core_model.specs.Queues.{Openings, next_id, next_id_after, opening_in, openings, openings_after, owner}
 use Rattle.core_model.specs.Owed.{Owed, refuses, answers, enters}
 use Rattle.core_model.specs.Legal.{due, entry_of, history_after}
-use Rattle.core_model.proofs.More.{with_some, next_id-more, openings-more}
+use Rattle.core_model.proofs.More.{next_id-more, openings-more}
 use Rattle.ring_core.specs.declared.access.Access.TheVariants.{ClearHeader}
 use Rattle.ring_core.specs.declared.access.Step.{Step}
 use Rattle.ring_core.specs.Words.{packet_of}
@@ -20,11 +20,11 @@ use Rattle.ring_core.specs.Machine.{Machine, is_allowed, made, producers_of, rea
 use Rattle.ring_core.specs.Rule.{IsRing, processor_of}
 use Rattle.ring_core.proofs.Publication.{Raised, Stayed, index_moves, published_stays}
 use Rattle.aql_packet.specs.Words.{bytes_of}
-use Rattle.world.specs.States.{Joined, ring_of, with_core, with_ring}
+use Rattle.world.specs.States.{Joined, among, closed_ring_of, put, ring_of, with_core, with_ring}
 use Rattle.world.specs.Dues.{is_decided, may_follow}
-use Rattle.world.specs.InStep.{IsInStep, IsJoinedBehind, IsPublished, Stands, published, size_of, sizes, taken_from, takes}
-use Rattle.world.proofs.Numbering.{map_same, numbered_other, numbered_place, numbered_same}
-use Rattle.world.proofs.Entering.{sizes_behind, takes_behind, whole_entered}
+use Rattle.world.specs.InStep.{HasItsSize, IsInStep, IsJoinedBehind, IsPublished, Stands, StandsOpen, StoodClosed, is_open, published, size_of, sizes, taken_from, takes, was_opened}
+use Rattle.world.proofs.Entering.{sizes_behind, takes_behind, whole_entered, with_some}
+use Rattle.world.proofs.Among.{apart_put, put_found, put_others, same_queue}
 
 -- ---- a ring's step
 
@@ -72,51 +72,110 @@ module _ (core : History) (all : List Entry) (queue : QueueId) (ring : Machine) 
   pub step_in_step : IsInStep core all queue (made ring step)
   step_in_step = by_index (index_moves (producers_of ring) ring step is_ring.rule may)
 
--- a queue is its number
-pub same_queue : (one other : QueueId) → one.0 ≡ other.0 → one ≡ other
-same_queue one other e = λ i. record { 0 = e i }
+-- a queue that has a ring is open, and its ring is none of a closed queue's
+pub stands_open : (core : History) (all : List Entry) (queue : QueueId) (ring : Machine) (closed : Option Machine) → Stands core all queue (Some ring) closed → StandsOpen core all queue ring × (closed ≡ None)
+stands_open core all queue ring None h = (h, refl)
+stands_open core all queue ring (Some other) h = absurd h
+
+pub stands_so : (first : Declared) (prior : List Entry) (world : Joined) (h : IsJoinedBehind first prior world) (queue : QueueId) (ring : Machine) → ring_of world queue ≡ Some ring
+    → StandsOpen world.core (prior ++ world.core.entries) queue ring × (closed_ring_of world queue ≡ None)
+stands_so first prior world h queue ring found =
+    stands_open world.core (prior ++ world.core.entries) queue ring (closed_ring_of world queue)
+    (subst (λ o. Stands world.core (prior ++ world.core.entries) queue o (closed_ring_of world queue)) found (h.each queue))
 
 -- another state of a queue's ring, in step
-pub ring_replaced : (first : Declared) (prior : List Entry) (world : Joined) (queue : QueueId) (ring new : Machine) (h : IsJoinedBehind first prior world) → ring_of world queue ≡ Some ring → new.size ≡ ring.size → Stands world.core (prior ++ world.core.entries) queue (Some new) → IsJoinedBehind first prior (with_ring world queue new)
-ring_replaced first prior world queue ring new h found size stands = record {
+pub ring_replaced : (first : Declared) (prior : List Entry) (world : Joined) (queue : QueueId) (ring new : Machine) (h : IsJoinedBehind first prior world) → ring_of world queue ≡ Some ring
+    → StandsOpen world.core (prior ++ world.core.entries) queue new → IsJoinedBehind first prior (with_ring world queue new)
+ring_replaced first prior world queue ring new h found stands = record {
   start_is = h.start_is;
   whole = h.whole;
-  count = length-set world.rings (queue.0 - 1) new ∙ h.count;
-  sizes = map_same (λ (r : Machine). r.size) world.rings (queue.0 - 1) ring new (numbered_place world.rings queue.0 ring found).1 size ∙ h.sizes;
-  each = λ other.
-      elim (eqb_tells other.0 queue.0) [
-        | inl e ↦
-            let same = same_queue other queue e.1 in
-            subst (λ (q : QueueId). Stands world.core (prior ++ world.core.entries) q (ring_of (with_ring world queue new) q)) (sym same)
-            (subst (Stands world.core (prior ++ world.core.entries) queue) (sym (numbered_same world.rings queue.0 ring new found)) stands)
-        | inr e ↦ subst (Stands world.core (prior ++ world.core.entries) other) (sym (numbered_other world.rings queue.0 other.0 ring new found e.1)) (h.each other)
-      ];
+  apart = apart_put world.rings queue new h.apart;
+  count = h.count;
+  each = at;
 }
+  where
+    here : Stands world.core (prior ++ world.core.entries) queue (Some new) (closed_ring_of world queue)
+    here = subst (Stands world.core (prior ++ world.core.entries) queue (Some new)) (sym (stands_so first prior world h queue ring found).1) stands
+
+    at : (other : QueueId) → Stands world.core (prior ++ world.core.entries) other (ring_of (with_ring world queue new) other) (closed_ring_of world other)
+    at other =
+        elim (eqb_tells other.0 queue.0) [
+          | inl e ↦
+              subst (λ (o : Option Machine). Stands world.core (prior ++ world.core.entries) other o (closed_ring_of world other)) (sym (ap (among (put world.rings queue new)) (same_queue other queue e.1) ∙ put_found world.rings queue ring new found))
+              (subst (λ (q : QueueId). Stands world.core (prior ++ world.core.entries) q (Some new) (closed_ring_of world q)) (sym (same_queue other queue e.1)) here)
+          | inr e ↦
+              subst (λ (o : Option Machine). Stands world.core (prior ++ world.core.entries) other o (closed_ring_of world other)) (sym (put_others world.rings queue other new e.1)) (h.each other)
+        ]
 
 -- ---- an entry
 
--- a queue stands as before where its questions have the same answers
-pub stands_along : (old new : History) (was now : List Entry) (queue : QueueId) (o : Option Machine) → next_id (beginning new) new.entries queue ≡ next_id (beginning old) old.entries queue → takes now queue ≡ takes was queue → Stands old was queue o → Stands new now queue o
-stands_along old new was now queue None next same h = record { next = next ∙ h.next; takes = same ∙ h.takes }
-stands_along old new was now queue (Some ring) next same h = (
-  h.0,
-  record {
-    floor = omega (arith, next, h.1.floor);
-    ceiling = omega (arith, next, h.1.ceiling);
-    cleared = λ raising. let below = h.1.cleared raising in omega arith;
-    count = ap length same ∙ h.1.count ∙ sym next;
-    whole = λ id lt.
-        let there = h.1.whole id (omega (arith, next, lt)) in
-        (there.0, ap (λ xs. slice_get xs id) same ∙ there.1);
-  },
-)
+-- the questions that rings and history share have the same answers of a queue
+pub record IsStill (old new : History) (was now : List Entry) (queue : QueueId) : Type 0 where
+  pub next : next_id (beginning new) new.entries queue ≡ next_id (beginning old) old.entries queue
+  pub takes : takes now queue ≡ takes was queue
+  pub size : numbered (sizes now) queue.0 ≡ numbered (sizes was) queue.0
+  pub opened : was_opened new queue ≡ was_opened old queue
+  pub owned : is_open new queue ≡ is_open old queue
 
--- an event that neither opens a queue nor hands over a packet
+-- so the queue stands as before
+pub stands_along : (old new : History) (was now : List Entry) (queue : QueueId) (o c : Option Machine) → IsStill old new was now queue → Stands old was queue o c → Stands new now queue o c
+stands_along old new was now queue None None still h = record {
+  next = still.next ∙ h.next;
+  takes = still.takes ∙ h.takes;
+  unopened = still.opened ∙ h.unopened;
+  unowned = still.owned ∙ h.unowned;
+}
+stands_along old new was now queue (Some ring) None still h = record {
+  rule = h.rule;
+  in_step = record {
+    floor = omega (arith, still.next, h.in_step.floor);
+    ceiling = omega (arith, still.next, h.in_step.ceiling);
+    cleared = λ raising. let below = h.in_step.cleared raising in omega (arith, still.next);
+    count = ap length still.takes ∙ h.in_step.count ∙ sym still.next;
+    whole = λ id lt.
+        let there = h.in_step.whole id (omega (arith, still.next, lt)) in
+        (there.0, ap (λ xs. slice_get xs id) still.takes ∙ there.1);
+  };
+  size = still.size ∙ h.size;
+  opened = still.opened ∙ h.opened;
+  owned = still.owned ∙ h.owned;
+}
+stands_along old new was now queue None (Some ring) still h = stood_along old new was now queue ring still.takes still.size still.opened (still.owned ∙ h.unowned) (still.next ∙ h.next) h
+  where
+    stood_along : (old new : History) (was now : List Entry) (queue : QueueId) (ring : Machine) → takes now queue ≡ takes was queue → numbered (sizes now) queue.0 ≡ numbered (sizes was) queue.0
+        → was_opened new queue ≡ was_opened old queue → is_open new queue ≡ false → next_id (beginning new) new.entries queue ≡ 0 → StoodClosed old was queue ring → StoodClosed new now queue ring
+    stood_along old new was now queue ring same size opened owned next h =
+        let long : length (takes now queue) ≡ length (takes was queue) = ap length same in
+        record {
+          rule = h.rule;
+          in_step = record {
+            floor = omega (arith, long, h.in_step.floor);
+            ceiling = omega (arith, long, h.in_step.ceiling);
+            cleared = λ raising. let below = h.in_step.cleared raising in omega (arith, long);
+            whole = λ id lt.
+                let there = h.in_step.whole id (omega (arith, long, lt)) in
+                (there.0, ap (λ xs. slice_get xs id) same ∙ there.1);
+          };
+          size = size ∙ h.size;
+          opened = opened ∙ h.opened;
+          unowned = owned;
+          next = next;
+        }
+stands_along old new was now queue (Some ring) (Some other) still h = absurd h
+
+-- an event that neither opens nor closes a queue, and hands over no packet
 pub record IsAside (event : Event) : Type 0 where
-  pub opens : opening_of event ≡ None
+  pub opens : (before : Openings) → openings_after before event ≡ before
   pub sizes : size_of event ≡ None
   pub takes : (queue : QueueId) → taken_from queue event ≡ None
-  pub hands : (queue : QueueId) → hands_over_packet_of queue event ≡ false
+  pub nexts : (queue : QueueId) (next : ℕ) → next_id_after queue next event ≡ next
+
+-- whether a queue is open, and whether it was opened, by all openings
+pub open_as : (core : History) (queue : QueueId) (all : Openings) → openings (beginning core) core.entries ≡ all → is_open core queue ≡ is_some (opening_in all.queues queue)
+open_as core queue all is = ap (λ (o : Openings). is_some (opening_in o.queues queue)) is
+
+pub opened_as : (core : History) (queue : QueueId) (all : Openings) → openings (beginning core) core.entries ≡ all → was_opened core queue ≡ (nat_le 1 queue.0 && nat_le queue.0 all.opened)
+opened_as core queue all is = ap (λ (o : Openings). nat_le 1 queue.0 && nat_le queue.0 o.opened) is
 
 module _ (first : Declared) (prior : List Entry) (world : Joined) (h : IsJoinedBehind first prior world) (event : Event) where
   abbrev After : Owed → Joined
@@ -127,14 +186,24 @@ module _ (first : Declared) (prior : List Entry) (world : Joined) (h : IsJoinedB
   aside_by aside (answers outcome) is = h
   aside_by aside (enters outcome effects) is =
       let e : Entry = entry_of event outcome effects in
+      let new : History = history_after world.core event (enters outcome effects) in
+      let all : openings (beginning new) new.entries ≡ openings (beginning world.core) world.core.entries =
+      openings-more (beginning world.core) world.core.entries e ∙ aside.opens (openings (beginning world.core) world.core.entries) in
+      let same_sizes : sizes (prior ++ (world.core.entries ++ e ∷ [])) ≡ sizes (prior ++ world.core.entries) =
+      sizes_behind prior world.core.entries e ∙ ap (with_some (sizes (prior ++ world.core.entries))) aside.sizes in
       record {
         start_is = h.start_is;
         whole = whole_entered world.core event outcome effects first prior h.start_is h.whole is;
-        count = h.count ∙ ap length (sym (openings-more (beginning world.core) world.core.entries e ∙ ap (with_some (openings (beginning world.core) world.core.entries)) aside.opens));
-        sizes = h.sizes ∙ sym (sizes_behind prior world.core.entries e ∙ ap (with_some (sizes (prior ++ world.core.entries))) aside.sizes);
-        each = λ queue. stands_along world.core (history_after world.core event (enters outcome effects)) (prior ++ world.core.entries) (prior ++ (world.core.entries ++ e ∷ [])) queue (ring_of world queue)
-            (next_id-more (beginning world.core) world.core.entries e queue ∙ ap (λ b. if b then next_id (beginning world.core) world.core.entries queue + 1 else next_id (beginning world.core) world.core.entries queue) (aside.hands queue))
-            (takes_behind prior world.core.entries e queue ∙ ap (with_some (takes (prior ++ world.core.entries) queue)) (aside.takes queue))
+        apart = h.apart;
+        count = ap length same_sizes ∙ h.count ∙ ap (λ (o : Openings). o.opened) (sym all);
+        each = λ queue. stands_along world.core new (prior ++ world.core.entries) (prior ++ (world.core.entries ++ e ∷ [])) queue (ring_of world queue) (closed_ring_of world queue)
+            (record {
+              next = next_id-more (beginning world.core) world.core.entries e queue ∙ aside.nexts queue (next_id (beginning world.core) world.core.entries queue);
+              takes = takes_behind prior world.core.entries e queue ∙ ap (with_some (takes (prior ++ world.core.entries) queue)) (aside.takes queue);
+              size = ap (λ (ns : List ℕ). numbered ns queue.0) same_sizes;
+              opened = opened_as new queue (openings (beginning world.core) world.core.entries) all;
+              owned = open_as new queue (openings (beginning world.core) world.core.entries) all;
+            })
             (h.each queue);
       }
 

@@ -1,8 +1,8 @@
 -- Whatever is asked, the world stays joined.
-use Rattle.std.proofs.Common.{◌≡◌, ℕ, List, [], ◌∷◌, ◌++◌, append_assoc, map, refl, sym, subst, Bool, true, false, Option, Some, None, Result, Ok, Err, inl, inr}
+use Rattle.std.proofs.Common.{◌≡◌, ℕ, List, [], ◌∷◌, ◌++◌, append_assoc, refl, sym, subst, Bool, true, false, Option, Some, None, Result, Ok, Err, inl, inr}
 use Rattle.std.proofs.lemmas.List.{append-nil}
 use Rattle.std.proofs.Common.{ap, ◌∙◌}
-use Rattle.std.specs.Prelude.{◌&&◌, length, slice_get, if◌then◌else◌}
+use Rattle.std.specs.Prelude.{◌&&◌, length, nat_le, slice_get, if◌then◌else◌}
 use Rattle.aql_packet.specs.declared.ids.QueueId.{QueueId}
 use Rattle.kernel_check.specs.Programs.{Program}
 use Rattle.policy.specs.Policy.{Declared, numbered}
@@ -11,7 +11,7 @@ use Rattle.core_model.specs.declared.event.Event.{Event}
 use Rattle.core_model.specs.declared.event.Query.{Query}
 use Rattle.core_model.specs.declared.event.Event.TheVariants.{Open, Reload}
 use Rattle.core_model.specs.Legal.{IsOpening, IsWhole}
-use Rattle.core_model.specs.Queues.{next_id, openings}
+use Rattle.core_model.specs.Queues.{Openings, next_id, openings}
 use Rattle.core_model.specs.declared.entry.Entry.{Entry}
 use Rattle.core_model.proofs.States.{begin-opening, rotated-start, state-join, state-now}
 use Rattle.ring_core.specs.declared.access.Step.{Step}
@@ -26,14 +26,15 @@ use Rattle.world.specs.declared.request.Request.{Request}
 use Rattle.world.specs.declared.request.Request.TheVariants as request
 use Rattle.world.specs.declared.reply.Refusal.{Refusal}
 use Rattle.world.specs.declared.reply.Refusal.TheVariants as refusal
-use Rattle.world.specs.States.{Joined, joined, ring_of}
+use Rattle.world.specs.States.{Joined, Rings, among, closed_ring_of, joined, ring_of, with_core}
 use Rattle.core_model.specs.declared.event.Event.TheVariants as event
-use Rattle.world.specs.Dues.{AreReplies, Due, IsServed, Meets, Reply, answer_to, due_collected, due_event, due_opening, due_query, due_step, due_take, due_where, handed, handed_out, has_spent, hindrance, is_decided, may_follow, of_core, part_of, reserves, rotated_reply, taken_reply, taking}
+use Rattle.world.specs.Dues.{AreReplies, Due, IsServed, Meets, Reply, answer_to, closed_by, due_call, due_collected, due_event, due_opening, due_query, due_step, due_take, due_where, handed, handed_out, has_spent, hindrance, is_decided, left_by, may_follow, of_core, part_of, reserves, rotated_reply, taken_reply, taking}
 use Rattle.world.specs.Headline.{IsBegun}
-use Rattle.world.specs.InStep.{IsJoinedBehind, Stands, sizes, takes}
-use Rattle.world.proofs.Numbering.{numbered_none}
+use Rattle.world.specs.InStep.{AreApart, IsJoinedBehind, Stands, StandsOpen, sizes, takes}
 use Rattle.world.proofs.Entering.{no_openings, no_sizes, no_takes, none_next}
-use Rattle.world.proofs.Joining.{IsAside, aside_kept, ring_replaced, stands_along, step_in_step}
+use Rattle.world.proofs.ClosingKept.{closing_kept}
+use Rattle.world.proofs.Joining.{IsAside, aside_kept, open_as, opened_as, ring_replaced, stands_along, stands_so, step_in_step}
+use Rattle.world.proofs.Opened.{none_among}
 use Rattle.world.proofs.Taking.{take_kept}
 use Rattle.world.proofs.OpeningKept.{opening_kept}
 use Rattle.core_model.specs.History.{History, Start, beginning, opening_state}
@@ -65,20 +66,37 @@ unhindered decided ring step = by_spent (reserves step.access && has_spent (slic
     by_spent true e = absurd (cc)
     by_spent false e = by_may (is_allowed ring step && may_follow decided step.access) refl e
 
--- a call concerns no ring
-pub call_aside : (asked : Call) → IsAside (event.Call asked)
-call_aside (call.Grant client object rights) = record { opens = refl; sizes = refl; takes = λ q. refl; hands = λ q. refl }
-call_aside (call.Revoke client object rights) = record { opens = refl; sizes = refl; takes = λ q. refl; hands = λ q. refl }
-call_aside (call.Stop queue) = record { opens = refl; sizes = refl; takes = λ q. refl; hands = λ q. refl }
-call_aside (call.RunNext queue packet) = record { opens = refl; sizes = refl; takes = λ q. refl; hands = λ q. refl }
-call_aside (call.Poll queue packet) = record { opens = refl; sizes = refl; takes = λ q. refl; hands = λ q. refl }
-call_aside (call.Finish queue packet) = record { opens = refl; sizes = refl; takes = λ q. refl; hands = λ q. refl }
-call_aside (call.HostWrite client address bytes) = record { opens = refl; sizes = refl; takes = λ q. refl; hands = λ q. refl }
-call_aside (call.ChangeSignal client signal operation) = record { opens = refl; sizes = refl; takes = λ q. refl; hands = λ q. refl }
+-- a call that closes no queue concerns no ring
+aside_call : (asked : Call) → closed_by asked ≡ None → IsAside (event.Call asked)
+aside_call (call.Grant client object rights) none = record { opens = λ o. refl; sizes = refl; takes = λ q. refl; nexts = λ q n. refl }
+aside_call (call.Revoke client object rights) none = record { opens = λ o. refl; sizes = refl; takes = λ q. refl; nexts = λ q n. refl }
+aside_call (call.Stop queue) none = record { opens = λ o. refl; sizes = refl; takes = λ q. refl; nexts = λ q n. refl }
+aside_call (call.Close queue) none = absurd (cc)
+aside_call (call.RunNext queue packet) none = record { opens = λ o. refl; sizes = refl; takes = λ q. refl; nexts = λ q n. refl }
+aside_call (call.Poll queue packet) none = record { opens = λ o. refl; sizes = refl; takes = λ q. refl; nexts = λ q n. refl }
+aside_call (call.Finish queue packet) none = record { opens = λ o. refl; sizes = refl; takes = λ q. refl; nexts = λ q n. refl }
+aside_call (call.HostWrite client address bytes) none = record { opens = λ o. refl; sizes = refl; takes = λ q. refl; nexts = λ q n. refl }
+aside_call (call.ChangeSignal client signal operation) none = record { opens = λ o. refl; sizes = refl; takes = λ q. refl; nexts = λ q n. refl }
+
+-- a call closes no queue and concerns no ring, or it is the close of one
+pub data IsCall (asked : Call) : Type 0 where
+  closes_none : closed_by asked ≡ None → IsAside (event.Call asked) → IsCall asked
+  closes_one : (queue : QueueId) → closed_by asked ≡ Some queue → asked ≡ call.Close queue → IsCall asked
+
+pub which_call : (asked : Call) → IsCall asked
+which_call (call.Close queue) = closes_one queue refl refl
+which_call (call.Grant client object rights) = closes_none refl (aside_call (call.Grant client object rights) refl)
+which_call (call.Revoke client object rights) = closes_none refl (aside_call (call.Revoke client object rights) refl)
+which_call (call.Stop queue) = closes_none refl (aside_call (call.Stop queue) refl)
+which_call (call.RunNext queue packet) = closes_none refl (aside_call (call.RunNext queue packet) refl)
+which_call (call.Poll queue packet) = closes_none refl (aside_call (call.Poll queue packet) refl)
+which_call (call.Finish queue packet) = closes_none refl (aside_call (call.Finish queue packet) refl)
+which_call (call.HostWrite client address bytes) = closes_none refl (aside_call (call.HostWrite client address bytes) refl)
+which_call (call.ChangeSignal client signal operation) = closes_none refl (aside_call (call.ChangeSignal client signal operation) refl)
 
 -- nor does a policy that is handed in
 pub reload_aside : (rows : PolicyRows) → IsAside (Reload rows)
-reload_aside rows = record { opens = refl; sizes = refl; takes = λ q. refl; hands = λ q. refl }
+reload_aside rows = record { opens = λ o. refl; sizes = refl; takes = λ q. refl; nexts = λ q n. refl }
 
 -- ---- rotations
 
@@ -151,6 +169,9 @@ unparted_opening world size producers event owing = record { no_part = no_part_o
 pub unparted_event : (world : Joined) (event : Event) (owing : Owed) → IsUnparted world (due_event world event owing)
 unparted_event world event owing = record { no_part = no_part_of_core (as_reply (reply_of owing)); begins = begins_after world.core event owing }
 
+pub unparted_call : (world : Joined) (asked : Call) (owing : Owed) → IsUnparted world (due_call world asked owing)
+unparted_call world asked owing = record { no_part = no_part_of_core (as_reply (reply_of owing)); begins = begins_after world.core (event.Call asked) owing }
+
 pub unparted_query : (world : Joined) (asked : Query) → IsUnparted world (due_query world asked)
 unparted_query world asked = record { no_part = no_part_of_core (query_answer (beginning world.core) world.core.entries asked); begins = begins_self world.core }
 
@@ -167,8 +188,14 @@ module _ (first : Declared) (prior : List Entry) (world : Joined) (h : IsJoinedB
       by_hindrance (Some why) is = h
       by_hindrance None is =
           let free = unhindered (is_decided world.core queue ring) ring step is in
-          let stands : Stands world.core (prior ++ world.core.entries) queue (Some ring) = subst (Stands world.core (prior ++ world.core.entries) queue) found (h.each queue) in
-          ring_replaced first prior world queue ring (made ring step) h found refl (ring_steps ring step stands.0 free.0, step_in_step world.core (prior ++ world.core.entries) queue ring step stands.0 free.0 free.1 stands.1)
+          let stands : StandsOpen world.core (prior ++ world.core.entries) queue ring = (stands_so first prior world h queue ring found).0 in
+          ring_replaced first prior world queue ring (made ring step) h found (record {
+            rule = ring_steps ring step stands.rule free.0;
+            in_step = step_in_step world.core (prior ++ world.core.entries) queue ring step stands.rule free.0 free.1 stands.in_step;
+            size = stands.size;
+            opened = stands.opened;
+            owned = stands.owned;
+          })
 
   taking_kept : (queue : QueueId) (o : Option Machine) → ring_of world queue ≡ o → IsJoinedBehind first prior (due_take world queue o).after
   taking_kept queue None found = h
@@ -178,8 +205,19 @@ module _ (first : Declared) (prior : List Entry) (world : Joined) (h : IsJoinedB
       by_packet None is = h
       by_packet (Some words) is = take_kept first prior world h queue ring found words is
 
-  rotated_kept : (part : Handed) (new : Joined) → IsRotated world.core part new.core → new.rings ≡ world.rings → IsJoinedBehind first (prior ++ part.entries) new
-  rotated_kept part new is rings =
+  -- a call leaves the rings as they are, or is the close of a queue
+  call_kept : (asked : Call) → IsJoinedBehind first prior (due_call world asked (due world.core (event.Call asked))).after
+  call_kept asked = by_kind (which_call asked)
+    where
+      by_kind : IsCall asked → IsJoinedBehind first prior (due_call world asked (due world.core (event.Call asked))).after
+      by_kind (closes_none none is) =
+          subst (λ (o : Option QueueId). IsJoinedBehind first prior (with_core (left_by world o (reply_of (due world.core (event.Call asked)))) (history_after world.core (event.Call asked) (due world.core (event.Call asked))))) (sym none)
+          (aside_kept first prior world h (event.Call asked) is)
+      by_kind (closes_one queue some is) =
+          subst (λ (c : Call). IsJoinedBehind first prior (due_call world c (due world.core (event.Call c))).after) (sym is) (closing_kept first prior world h queue)
+
+  rotated_kept : (part : Handed) (new : Joined) → IsRotated world.core part new.core → new.rings ≡ world.rings → new.closed ≡ world.closed → IsJoinedBehind first (prior ++ part.entries) new
+  rotated_kept part new is rings closed =
       let start : beginning new.core ≡ state_after (beginning world.core) world.core.entries = rotated-start world.core new.core part is in
       let all : (prior ++ part.entries) ++ new.core.entries ≡ prior ++ world.core.entries =
       ap (λ (es : List Entry). (prior ++ part.entries) ++ es) is.empty ∙ append-nil (prior ++ part.entries) ∙ ap (λ (es : List Entry). prior ++ es) is.entries_are in
@@ -192,12 +230,18 @@ module _ (first : Declared) (prior : List Entry) (world : Joined) (h : IsJoinedB
             ∙ (λ i. state_after (opening_state first (sym is.kernels_are i)) (prior ++ sym is.entries_are i));
         whole = subst (IsWhole (opening_state first new.core.kernels)) (sym all)
             (subst (λ (kernels : List Program). IsWhole (opening_state first kernels) (prior ++ world.core.entries)) (sym is.kernels_are) h.whole);
-        count = ap length rings ∙ h.count ∙ ap length (sym opened);
-        sizes = ap (map (λ (ring : Machine). ring.size)) rings ∙ h.sizes ∙ ap sizes (sym all);
+        apart = subst AreApart (sym rings) h.apart;
+        count = ap (λ (es : List Entry). length (sizes es)) all ∙ h.count ∙ ap (λ (o : Openings). o.opened) (sym opened);
         each = λ queue.
-            subst (λ (machines : List Machine). Stands new.core ((prior ++ part.entries) ++ new.core.entries) queue (numbered machines queue.0)) (sym rings)
-            (stands_along world.core new.core (prior ++ world.core.entries) ((prior ++ part.entries) ++ new.core.entries) queue (ring_of world queue)
-            (rotated_next world.core new.core part is queue) (ap (λ (es : List Entry). takes es queue) all) (h.each queue));
+            subst (λ (machines : Rings). Stands new.core ((prior ++ part.entries) ++ new.core.entries) queue (among machines queue) (closed_ring_of new queue)) (sym rings)
+            (subst (λ (machines : Rings). Stands new.core ((prior ++ part.entries) ++ new.core.entries) queue (ring_of world queue) (among machines queue)) (sym closed)
+            (stands_along world.core new.core (prior ++ world.core.entries) ((prior ++ part.entries) ++ new.core.entries) queue (ring_of world queue) (closed_ring_of world queue) (record {
+              next = rotated_next world.core new.core part is queue;
+              takes = ap (λ (es : List Entry). takes es queue) all;
+              size = ap (λ (es : List Entry). numbered (sizes es) queue.0) all;
+              opened = opened_as new.core queue (openings (beginning world.core) world.core.entries) opened;
+              owned = open_as new.core queue (openings (beginning world.core) world.core.entries) opened;
+            }) (h.each queue)));
       }
 
   -- with no entry handed out, the same come before
@@ -209,11 +253,11 @@ module _ (first : Declared) (prior : List Entry) (world : Joined) (h : IsJoinedB
       none_more (handed reply) new (ap handed served.0 ∙ handed_none owed.reply unparted.no_part) (subst (IsJoinedBehind first prior) (sym served.1) kept)
   meets_kept owed reply new unparted kept (inr lacked) = none_more (handed reply) new (ap handed lacked.1) (subst (IsJoinedBehind first prior) (sym lacked.2) h)
 
-  rotates_kept : (reply : Reply) (new : Joined) (made : Result Handed cores.Refusal) → reply ≡ rotated_reply made → Rotates world.core made new.core → new.rings ≡ world.rings → IsJoinedBehind first (prior ++ handed reply) new
-  rotates_kept reply new (Ok part) told is rings =
-      subst (λ (es : List Entry). IsJoinedBehind first (prior ++ es) new) (sym (ap handed told)) (rotated_kept part new is.1 rings)
-  rotates_kept reply new (Err why) told is rings =
-      let same : new ≡ world = λ i. joined (unrotated world.core new.core why is i) (rings i) in
+  rotates_kept : (reply : Reply) (new : Joined) (made : Result Handed cores.Refusal) → reply ≡ rotated_reply made → Rotates world.core made new.core → new.rings ≡ world.rings → new.closed ≡ world.closed → IsJoinedBehind first (prior ++ handed reply) new
+  rotates_kept reply new (Ok part) told is rings closed =
+      subst (λ (es : List Entry). IsJoinedBehind first (prior ++ es) new) (sym (ap handed told)) (rotated_kept part new is.1 rings closed)
+  rotates_kept reply new (Err why) told is rings closed =
+      let same : new ≡ world = λ i. joined (unrotated world.core new.core why is i) (rings i) (closed i) in
       none_more (handed reply) new (ap handed told) (subst (IsJoinedBehind first prior) (sym same) h)
 
   -- one request
@@ -226,14 +270,13 @@ module _ (first : Declared) (prior : List Entry) (world : Joined) (h : IsJoinedB
       let event : Event = Open client agent (judged_size size producers) in
       meets_kept (due_opening world size producers event (due world.core event)) reply new (unparted_opening world size producers event (due world.core event)) (opening_kept first prior world h client agent size producers) is
   served_kept (request.Call asked) reply new is =
-      meets_kept (due_event world (event.Call asked) (due world.core (event.Call asked))) reply new (unparted_event world (event.Call asked) (due world.core (event.Call asked)))
-      (aside_kept first prior world h (event.Call asked) (call_aside asked)) is
+      meets_kept (due_call world asked (due world.core (event.Call asked))) reply new (unparted_call world asked (due world.core (event.Call asked))) (call_kept asked) is
   served_kept (request.Query asked) reply new is = meets_kept (due_query world asked) reply new (unparted_query world asked) h is
   served_kept (request.Reload policy) reply new (inl is) =
       meets_kept (due_event world (Reload policy.rows) (due world.core (Reload policy.rows))) reply new (unparted_event world (Reload policy.rows) (due world.core (Reload policy.rows)))
       (aside_kept first prior world h (Reload policy.rows) (reload_aside policy.rows)) is.1
   served_kept (request.Reload policy) reply new (inr others) = none_more (handed reply) new (ap handed others.1) (subst (IsJoinedBehind first prior) (sym others.2) h)
-  served_kept request.Rotate reply new is = rotates_kept reply new is.0 is.1 is.2 is.3
+  served_kept request.Rotate reply new is = rotates_kept reply new is.0 is.1 is.2 is.3 is.4
 
 -- any list of requests
 pub replies_kept : (first : Declared) (prior : List Entry) (world new : Joined) (requests : List Request) (replies : List Reply) → IsJoinedBehind first prior world → AreReplies world requests replies new
@@ -251,23 +294,31 @@ module _ (policy : Declared) (kernels : List Program) (capacity : ℕ) (core : H
   opened : beginning core ≡ opening_state policy kernels
   opened = begin-opening policy core.kernels core.origin opening.origin_is ∙ ap (opening_state policy) opening.kernels_are
 
+  abbrev NothingOpened : Openings
+  NothingOpened = record { opened = 0; queues = [] }
+
   -- what holds where an opening begins, and of no entry, holds of its history
   of_none : (P : Start → List Entry → Type 0) → P (opening_state policy kernels) [] → P (beginning core) core.entries
   of_none P none = subst (P (beginning core)) (sym opening.entries_are) (subst (λ (now : Start). P now []) (sym opened) none)
 
-  pub begins : IsJoinedBehind policy [] (joined core [])
+  pub begins : IsJoinedBehind policy [] (joined core [] [])
   begins = record {
     start_is = begin-opening policy core.kernels core.origin opening.origin_is ∙ sym (state-now (opening_state policy core.kernels));
     whole = subst (IsWhole (opening_state policy core.kernels)) (sym opening.entries_are) (record { opens = refl; legal = tt });
-    count = sym (of_none (λ now es. length (openings now es) ≡ 0) (ap length (no_openings (opening_state policy kernels))));
-    sizes = sym (of_none (λ now es. sizes es ≡ []) no_sizes);
-    each = λ queue.
-        subst (Stands core core.entries queue) (sym (numbered_none (joined core []).rings queue.0 refl)) (record {
-          next = of_none (λ now es. next_id now es queue ≡ 0) (none_next (opening_state policy kernels) queue);
-          takes = of_none (λ now es. takes es queue ≡ []) (no_takes queue);
-        });
+    apart = tt;
+    count = ap length (of_none (λ now es. sizes es ≡ []) no_sizes) ∙ ap (λ (o : Openings). o.opened) (sym none);
+    each = λ queue. record {
+      next = of_none (λ now es. next_id now es queue ≡ 0) (none_next (opening_state policy kernels) queue);
+      takes = of_none (λ now es. takes es queue ≡ []) (no_takes queue);
+      unopened = opened_as core queue NothingOpened none ∙ none_among queue.0;
+      unowned = open_as core queue NothingOpened none;
+    };
   }
+    where
+      none : openings (beginning core) core.entries ≡ NothingOpened
+      none = of_none (λ now es. openings now es ≡ NothingOpened) (no_openings (opening_state policy kernels))
 
 -- a world that was just opened is joined
 pub begun_joined : (world : Joined) (policy : Declared) (kernels : List Program) (capacity : ℕ) → IsBegun world policy kernels capacity → IsJoinedBehind policy [] world
-begun_joined world policy kernels capacity is = subst (λ (rings : List Machine). IsJoinedBehind policy [] (joined world.core rings)) (sym is.rings) (begins policy kernels capacity world.core is.core)
+begun_joined world policy kernels capacity is =
+    subst (IsJoinedBehind policy []) (λ i. joined world.core (sym is.rings i) (sym is.closed i)) (begins policy kernels capacity world.core is.core)

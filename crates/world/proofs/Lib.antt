@@ -1,9 +1,15 @@
 pub mod Numbering
+pub mod Among
+pub mod Places
+pub mod Opened
+pub mod Nearest
 pub mod Entering
 pub mod Joining
 pub mod Taking
 pub mod OpeningKept
+pub mod ClosingKept
 pub mod Kept
+pub mod Closed
 pub mod GoingOn
 pub mod Asking
 pub mod Refusing

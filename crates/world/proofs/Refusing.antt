@@ -1,5 +1,5 @@
 -- What is refused changes nothing.
-use Rattle.std.proofs.Common.{◌≡◌, ℕ, List, Option, Some, None, Result, Ok, Err, inl, inr, refl, ◌∙◌}
+use Rattle.std.proofs.Common.{◌≡◌, ℕ, List, Option, Some, None, Result, Ok, Err, inl, inr, refl, ap, ◌∙◌}
 use Rattle.aql_packet.specs.declared.ids.QueueId.{QueueId}
 use Rattle.core_model.specs.declared.event.Event.{Event}
 use Rattle.core_model.specs.declared.event.Event.TheVariants.{Open, Reload}
@@ -17,9 +17,10 @@ use Rattle.core_model.specs.History.{Part as Handed}
 use Rattle.core_model.specs.Rotation.{Rotates}
 use Rattle.core_model.specs.declared.refusal.Refusal as cores
 use Rattle.world.proofs.Kept.{unrotated}
-use Rattle.world.specs.States.{Joined, joined, ring_of}
+use Rattle.world.specs.States.{Joined, joined, ring_of, with_core}
 use Rattle.core_model.specs.declared.event.Event.TheVariants as event
-use Rattle.world.specs.Dues.{Due, IsServed, Meets, due_collected, due_event, due_opening, due_query, due_step, due_take, due_taken, due_where, hindrance, is_decided, rotated_reply}
+use Rattle.core_model.specs.declared.call.Call.{Call}
+use Rattle.world.specs.Dues.{Due, IsServed, Meets, closed_by, due_call, due_collected, due_event, due_opening, due_query, due_step, due_take, due_taken, due_where, hindrance, is_decided, left_by, rotated_reply}
 
 -- a reply that is a refusal leaves the world
 abbrev Refuses : Joined → Due → Type 0
@@ -37,6 +38,16 @@ event_refused : (old : Joined) (event : Event) (owing : Owed) → Refuses old (d
 event_refused old event (refuses _) why is = refl
 event_refused old event (answers told) why is = refl
 event_refused old event (enters told effects) why is = absurd (cc)
+
+-- a queue that wasn't closed keeps its ring
+left_refused : (old : Joined) (o : Option QueueId) (why : cores.Refusal) → left_by old o (Err why) ≡ old
+left_refused old None why = refl
+left_refused old (Some queue) why = refl
+
+call_refused : (old : Joined) (call : Call) (owing : Owed) → Refuses old (due_call old call owing)
+call_refused old call (refuses cause) why is = ap (λ (world : Joined). with_core world old.core) (left_refused old (closed_by call) cause)
+call_refused old call (answers told) why is = absurd (cc)
+call_refused old call (enters told effects) why is = absurd (cc)
 
 opening_refused : (old : Joined) (size producers : ℕ) (event : Event) (owing : Owed) → Refuses old (due_opening old size producers event owing)
 opening_refused old size producers event (refuses _) why is = refl
@@ -62,9 +73,9 @@ meets_refused : (old new : Joined) (owed : Due) (why : Refusal) → Refuses old 
 meets_refused old new owed why stays (inl served) = served.1 ∙ stays why served.0
 meets_refused old new owed why stays (inr lacked) = lacked.2
 
-rotation_refused : (old new : Joined) (why : Refusal) (made : Result Handed cores.Refusal) → Err why ≡ rotated_reply made → Rotates old.core made new.core → new.rings ≡ old.rings → new ≡ old
-rotation_refused old new why (Ok part) told is rings = absurd (cc)
-rotation_refused old new why (Err wanted) told is rings = λ i. joined (unrotated old.core new.core wanted is i) (rings i)
+rotation_refused : (old new : Joined) (why : Refusal) (made : Result Handed cores.Refusal) → Err why ≡ rotated_reply made → Rotates old.core made new.core → new.rings ≡ old.rings → new.closed ≡ old.closed → new ≡ old
+rotation_refused old new why (Ok part) told is rings closed = absurd (cc)
+rotation_refused old new why (Err wanted) told is rings closed = λ i. joined (unrotated old.core new.core wanted is i) (rings i) (closed i)
 
 pub refused_stays : (old new : Joined) (asked : Request) (why : Refusal) → IsServed old asked (Err why) new → new ≡ old
 refused_stays old new (request.Step queue step) why is = meets_refused old new (due_step old queue step (ring_of old queue)) why (step_refused old queue step (ring_of old queue)) is
@@ -73,9 +84,9 @@ refused_stays old new (request.OpenQueue client agent size producers) why is =
     let event : Event = Open client agent (judged_size size producers) in
     meets_refused old new (due_opening old size producers event (due old.core event)) why (opening_refused old size producers event (due old.core event)) is
 refused_stays old new (request.Call call) why is =
-    meets_refused old new (due_event old (event.Call call) (due old.core (event.Call call))) why (event_refused old (event.Call call) (due old.core (event.Call call))) is
+    meets_refused old new (due_call old call (due old.core (event.Call call))) why (call_refused old call (due old.core (event.Call call))) is
 refused_stays old new (request.Query query) why is = meets_refused old new (due_query old query) why (λ refusal told. refl) is
 refused_stays old new (request.Reload policy) why (inl is) =
     meets_refused old new (due_event old (Reload policy.rows) (due old.core (Reload policy.rows))) why (event_refused old (Reload policy.rows) (due old.core (Reload policy.rows))) is.1
 refused_stays old new (request.Reload policy) why (inr others) = others.2
-refused_stays old new request.Rotate why is = rotation_refused old new why is.0 is.1 is.2 is.3
+refused_stays old new request.Rotate why is = rotation_refused old new why is.0 is.1 is.2 is.3 is.4

@@ -1,7 +1,6 @@
 -- A reservation, made on its ring at once, is the request for its step.
 use Rattle.std.proofs.Common.{ℕ, List, refl, ap, Option, Some, None, Result, Ok, Err, inl, inr}
 use Rattle.aql_packet.specs.declared.ids.QueueId.{QueueId}
-use Rattle.policy.specs.Policy.{numbered}
 use Rattle.core_model.specs.History.{History}
 use Rattle.ring_core.specs.declared.access.Access.TheVariants.{Reserve}
 use Rattle.ring_core.specs.declared.access.Seen.TheVariants as seen
@@ -12,7 +11,7 @@ use Rattle.world.specs.declared.reply.Refusal.{Refusal}
 use Rattle.world.specs.declared.request.Request.TheVariants as request
 use Rattle.world.specs.Actions.{asks, reads}
 use Rattle.world.specs.Dues.{IsServed, Reply, hindrance}
-use Rattle.world.specs.Making.{MakesAt, MakesWhere}
+use Rattle.world.specs.Making.{MakesAt, MakesWhere, ring_in}
 use Rattle.world.specs.Obeying.{Obeys}
 use Rattle.world.specs.States.{Joined}
 use Rattle.world.specs.inner.Calling.{CallsAt, ReservesOn, ReservesWhere}
@@ -34,9 +33,9 @@ makes_at None queue producer old result new (told, same) = (ap as_step told, sam
 makes_at (Some ring) queue producer old result new (after, on, put) = (after, makes_where (hindrance ring.decided ring.ring (step_by producer Reserve)) producer ring result after on, put)
 
 -- so the code obeys that request
-pub reserving : (core : History) (queue : QueueId) (producer : ℕ) (old : List QueueRing) (result : Result ℕ Refusal) (new : List QueueRing) → CallsAt (ReservesOn producer) (numbered old queue.0) queue old result new
-    → Obeys (request.Step queue (step_by producer Reserve)) core old (as_step result) core new
-reserving core queue producer old result new called = (makes_at (numbered old queue.0) queue producer old result new called, refl)
+pub reserving : (core : History) (gone : List QueueRing) (queue : QueueId) (producer : ℕ) (old : List QueueRing) (result : Result ℕ Refusal) (new : List QueueRing) → CallsAt (ReservesOn producer) (ring_in old queue) queue old result new
+    → Obeys (request.Step queue (step_by producer Reserve)) core old gone (as_step result) core new gone
+reserving core gone queue producer old result new called = (makes_at (ring_in old queue) queue producer old result new called, refl, refl)
 
 -- and reads what it is told
 pub reserved : (queue : QueueId) (producer : ℕ) (old : Joined) (result : Result ℕ Refusal) (new : Joined) → IsServed old (request.Step queue (step_by producer Reserve)) (as_step result) new

@@ -4,6 +4,8 @@ use Rattle.aql_packet.specs.declared.ids.QueueId.{QueueId}
 use Rattle.std.specs.List.{filter_map, flat_map}
 use Rattle.policy.specs.Declaring.{DeclaresAs}
 use Rattle.policy.specs.Policy.{Declared}
+use Rattle.core_model.specs.declared.call.Call.{Call}
+use Rattle.core_model.specs.declared.call.Call.TheVariants as call
 use Rattle.core_model.specs.declared.entry.Entry.{Entry}
 use Rattle.core_model.specs.declared.event.Event.{Event}
 use Rattle.core_model.specs.declared.event.Event.TheVariants.{Open, Reload, Take}
@@ -34,7 +36,7 @@ use Rattle.world.specs.declared.reply.Answer.{Answer}
 use Rattle.world.specs.declared.reply.Answer.TheVariants as answer
 use Rattle.world.specs.declared.reply.Refusal.{Refusal}
 use Rattle.world.specs.declared.reply.Refusal.TheVariants as refusal
-use Rattle.world.specs.States.{Joined, joined, ring_of, with_core, with_ring}
+use Rattle.world.specs.States.{Joined, Rings, joined, ring_of, with_core, with_one, with_ring, without_ring}
 use Rattle.aql_packet.specs.Words.{bytes_of}
 use Rattle.core_model.specs.declared.event.Event.TheVariants as event
 
@@ -94,7 +96,7 @@ due_where world queue ring step None = record {
   may_lack_memory = reserves step.access;
 }
 
--- a step on the ring of a queue, if it was opened
+-- a step on the ring of a queue, if it is open
 abbrev pub due_step : Joined → QueueId → Step → Option Machine → Due
 due_step world queue step None = refused world (refusal.Core why.UnknownQueue)
 due_step world queue step (Some ring) = due_where world queue ring step (hindrance (is_decided world.core queue ring) ring step)
@@ -116,6 +118,25 @@ due_event world event owing = record {
   reply = of_core (as_reply (reply_of owing));
   after = with_core world (history_after world.core event owing);
   may_lack_memory = lacks_memory world.core event owing;
+}
+
+-- the queue that a call closes, if it does
+abbrev pub closed_by : Call → Option QueueId
+closed_by (call.Close queue) = Some queue
+closed_by _ = None
+
+-- the world once a call that closes a queue, or none, came to this: a queue that was closed has no ring any more
+abbrev pub left_by : Joined → Option QueueId → Result Outcome cores.Refusal → Joined
+left_by world None made = world
+left_by world (Some queue) (Ok told) = without_ring world queue
+left_by world (Some queue) (Err why) = world
+
+-- a call
+abbrev pub due_call : Joined → Call → Owed → Due
+due_call world asked owing = record {
+  reply = of_core (as_reply (reply_of owing));
+  after = with_core (left_by world (closed_by asked) (reply_of owing)) (history_after world.core (event.Call asked) owing);
+  may_lack_memory = lacks_memory world.core (event.Call asked) owing;
 }
 
 -- a query
@@ -157,14 +178,15 @@ due_take world queue (Some ring) = due_collected world queue (read_index ring) (
 -- ---- openings
 
 -- the rings after an opening that came to this: an opened queue has a ring of its size and producers, in which nothing happened
-abbrev pub rings_after : List Machine → ℕ → ℕ → Result Outcome cores.Refusal → List Machine
-rings_after rings size producers (Ok made) = rings ++ opened size producers ∷ []
+abbrev pub rings_after : Rings → ℕ → ℕ → Result Outcome cores.Refusal → Rings
+rings_after rings size producers (Ok (outcome.Opened queue)) = with_one rings queue (Some (opened size producers))
+rings_after rings size producers (Ok _) = rings
 rings_after rings size producers (Err why) = rings
 
 abbrev pub due_opening : Joined → ℕ → ℕ → Event → Owed → Due
 due_opening world size producers event owing = record {
   reply = of_core (as_reply (reply_of owing));
-  after = joined (history_after world.core event owing) (rings_after world.rings size producers (reply_of owing));
+  after = joined (history_after world.core event owing) (rings_after world.rings size producers (reply_of owing)) world.closed;
   may_lack_memory = lacks_memory world.core event owing;
 }
 
@@ -193,7 +215,7 @@ rotated_reply (Err why) = Err (refusal.Core why)
 -- the core's audit was handed out, or that was refused; the rings stay. A part tells its grants by their look-ups alone, so it is no function
 -- of the history (own)
 abbrev pub RotatesTo : Joined → Reply → Joined → Type 0
-RotatesTo old reply new = (made : Result Handed cores.Refusal) × (reply ≡ rotated_reply made) × Rotates old.core made new.core × (new.rings ≡ old.rings)
+RotatesTo old reply new = (made : Result Handed cores.Refusal) × (reply ≡ rotated_reply made) × Rotates old.core made new.core × (new.rings ≡ old.rings) × (new.closed ≡ old.closed)
 
 -- ---- any request
 
@@ -203,7 +225,7 @@ IsServed old (request.Step queue step) reply new = Meets old (due_step old queue
 IsServed old (request.Take queue) reply new = Meets old (due_take old queue (ring_of old queue)) reply new
 IsServed old (request.OpenQueue client agent size producers) reply new =
     Meets old (due_opening old size producers (Open client agent (judged_size size producers)) (due old.core (Open client agent (judged_size size producers)))) reply new
-IsServed old (request.Call call) reply new = Meets old (due_event old (event.Call call) (due old.core (event.Call call))) reply new
+IsServed old (request.Call call) reply new = Meets old (due_call old call (due old.core (event.Call call))) reply new
 IsServed old (request.Query query) reply new = Meets old (due_query old query) reply new
 IsServed old (request.Reload policy) reply new = Reloads old policy reply new
 IsServed old request.Rotate reply new = RotatesTo old reply new

@@ -1,5 +1,6 @@
 -- The headline: what holds after any list of requests, in any interleaving.
-use Rattle.std.specs.Prelude.{◌≡◌, ◌⊎◌, ℕ, ℤ, true, false, List, [], ◌∷◌, ◌++◌, length, map, Some, Ok, Err, All}
+use Rattle.std.specs.Prelude.{◌≡◌, ◌⊎◌, ℕ, ℤ, true, false, List, [], ◌∷◌, ◌++◌, length, Some, Ok, Err, All}
+use Rattle.std.specs.Option.{is_some}
 use Rattle.aql_packet.specs.declared.ids.Address.{Address}
 use Rattle.aql_packet.specs.declared.ids.AgentHandle.{AgentHandle}
 use Rattle.aql_packet.specs.declared.ids.ClientId.{ClientId}
@@ -38,7 +39,6 @@ use Rattle.core_model.specs.History.{beginning, opening_state, Start}
 use Rattle.core_model.specs.States.{state_after}
 use Rattle.core_model.specs.Grants.{in_force}
 use Rattle.core_model.specs.Memory.{memory_from, signals}
-use Rattle.core_model.specs.Queues.{openings}
 use Rattle.core_model.specs.declared.origin.Opening.{Opening}
 use Rattle.core_model.specs.Flight.{in_flight, progress}
 use Rattle.core_model.specs.Holds.{own_rights}
@@ -48,13 +48,14 @@ use Rattle.core_model.specs.Legal.{IsOpening, IsWhole, entry_of}
 use Rattle.core_model.specs.Queries.{query_answer}
 use Rattle.core_model.specs.Headline.{ChangeIsGranted, InFlightSince, IsDenied, IsEntryBehind, IsListed, MayBeLaunched, MayReach, MayReachRange, WriteIsGranted, packet_named, ranges_seen}
 use Rattle.ring_core.specs.Machine.{Machine}
-use Rattle.world.specs.States.{Joined, ring_of}
-use Rattle.world.specs.InStep.{IsInStep, sizes}
+use Rattle.world.specs.States.{Joined, closed_ring_of, ring_of}
+use Rattle.world.specs.InStep.{HasItsSize, IsInStep, WasInStep, is_closed, is_open}
 
 -- a world that was just opened over a policy with these kernels: no entry, and no queue
 pub record IsBegun (world : Joined) (policy : Declared) (kernels : List Program) (capacity : ℕ) : Type 0 where
   pub core : IsOpening world.core policy kernels capacity
   pub rings : world.rings ≡ []
+  pub closed : world.closed ≡ []
 
 -- each packet that was launched may be by the grants in force at that moment, and its launch changed nothing
 abbrev pub EachLaunchWasGranted : Start → List Entry → Type 0
@@ -172,8 +173,12 @@ pub record Headline (policy : Declared) (prior : List Entry) (world : Joined) : 
   pub listed : EachHandleListedIsGranted (beginning world.core) world.core.entries
   -- all else is denied: of packets this is said above, of the calls of clients here
   pub denied : CallsWithoutTheirRightAreDenied (beginning world.core) world.core.entries
-  -- each queue that was opened has a ring, of the size that was asked for
-  pub ring_count : length world.rings ≡ length (openings (beginning world.core) world.core.entries)
-  pub ring_sizes : map (λ ring. ring.size) world.rings ≡ sizes (prior ++ world.core.entries)
+  -- each queue that is open has a ring, of the size that was asked for, and no other queue has one
+  pub rings : (queue : QueueId) → is_some (ring_of world queue) ≡ is_open world.core queue
+  pub ring_sizes : (queue : QueueId) (ring : Machine) → ring_of world queue ≡ Some ring → HasItsSize (prior ++ world.core.entries) queue ring
   -- what was launched and denied of each queue is a beginning of what was published in its ring, whole, each once, in the order of ids
   pub in_step : (queue : QueueId) (ring : Machine) → ring_of world queue ≡ Some ring → IsInStep world.core (prior ++ world.core.entries) queue ring
+  -- and so it is of each queue that was closed, with its ring as it stood before the close: nothing of the queue was launched or denied since
+  pub closed : (queue : QueueId) → is_some (closed_ring_of world queue) ≡ is_closed world.core queue
+  pub closed_sizes : (queue : QueueId) (ring : Machine) → closed_ring_of world queue ≡ Some ring → HasItsSize (prior ++ world.core.entries) queue ring
+  pub closed_in_step : (queue : QueueId) (ring : Machine) → closed_ring_of world queue ≡ Some ring → WasInStep (prior ++ world.core.entries) queue ring

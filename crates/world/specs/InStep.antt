@@ -1,21 +1,22 @@
 -- What holds between any two steps of the world: its rings and its history are in step.
-use Rattle.std.specs.Prelude.{◌≡◌, ℕ, ◌+◌, ◌==◌, ◌<◌, ◌≤◌, true, List, [], ◌++◌, length, map, slice_get, Option, Some, None, if◌then◌else◌}
+use Rattle.std.specs.Prelude.{◌≡◌, ℕ, ◌+◌, ◌==◌, ◌&&◌, ◌<◌, ◌≤◌, Bool, true, false, nat_le, not, List, [], ◌∷◌, ◌++◌, length, slice_get, Option, Some, None, if◌then◌else◌}
 use Rattle.std.specs.List.{filter_map}
+use Rattle.std.specs.Option.{is_some}
 use Rattle.aql_packet.specs.declared.ids.QueueId.{QueueId}
 use Rattle.core_model.specs.declared.event.Event.{Event}
 use Rattle.core_model.specs.declared.event.Event.TheVariants.{Open, Take}
 use Rattle.core_model.specs.declared.entry.Entry.{Entry}
 use Rattle.core_model.specs.History.{beginning, History, opening_state}
 use Rattle.core_model.specs.States.{state_after}
-use Rattle.core_model.specs.Queues.{next_id, openings}
+use Rattle.core_model.specs.Queues.{next_id, openings, owner}
 use Rattle.core_model.specs.Legal.{IsWhole}
-use Rattle.policy.specs.Policy.{Declared}
+use Rattle.policy.specs.Policy.{Declared, numbered}
 use Rattle.ring_core.specs.Words.{packet_of}
 use Rattle.ring_core.specs.Tickets.{is_published}
 use Rattle.ring_core.specs.Machine.{Machine, read_index}
 use Rattle.ring_core.specs.Rule.{IsRing, processor_of, ticket_of}
 use Rattle.aql_packet.specs.Words.{bytes_of}
-use Rattle.world.specs.States.{Joined, ring_of}
+use Rattle.world.specs.States.{Joined, Rings, among, closed_ring_of, ring_of}
 
 -- the bytes of a packet of a queue that an event hands over, if it does
 abbrev pub taken_from : QueueId → Event → Option (List ℕ)
@@ -31,9 +32,25 @@ abbrev pub size_of : Event → Option ℕ
 size_of (Open client agent size) = Some size
 size_of _ = None
 
--- the sizes of the queues that were opened, in order
+-- the sizes of the queues that were opened, in order: the first is queue 1's
 unfoldable pub sizes : List Entry → List ℕ
 sizes entries = filter_map (λ entry. size_of entry.event) entries
+
+-- a ring has the size that was asked for at its queue's opening
+abbrev pub HasItsSize : List Entry → QueueId → Machine → Type 0
+HasItsSize all queue ring = numbered (sizes all) queue.0 ≡ Some ring.size
+
+-- whether a queue is open
+abbrev pub is_open : History → QueueId → Bool
+is_open core queue = is_some (owner (beginning core) core.entries queue)
+
+-- whether a queue was ever opened: its number is at most how many were
+abbrev pub was_opened : History → QueueId → Bool
+was_opened core queue = nat_le 1 queue.0 && nat_le queue.0 (openings (beginning core) core.entries).opened
+
+-- whether a queue was closed: it was opened, and is open no more
+abbrev pub is_closed : History → QueueId → Bool
+is_closed core queue = was_opened core queue && not (is_open core queue)
 
 -- whether the packet of an id is published in a ring, and its bytes as they were published
 abbrev pub IsPublished : Machine → ℕ → Type 0
@@ -53,25 +70,62 @@ pub record IsInStep (core : History) (all : List Entry) (queue : QueueId) (ring 
   pub count : length (takes all queue) ≡ next_id (beginning core) core.entries queue
   pub whole : (id : ℕ) → id < next_id (beginning core) core.entries queue → IsPublished ring id × (slice_get (takes all queue) id ≡ Some (published ring id))
 
+-- a closed queue's ring, as it stood before the close, was in step with all that was ever launched or denied of the queue: nothing was
+-- since (own)
+pub record WasInStep (all : List Entry) (queue : QueueId) (ring : Machine) : Type 0 where
+  -- every packet that was retired was launched or denied, and at most one more was
+  pub floor : read_index ring ≤ length (takes all queue)
+  pub ceiling : length (takes all queue) ≤ read_index ring + 1
+  -- the header at the read index was cleared only once its packet was launched or denied
+  pub cleared : (processor_of ring.parts).raising ≡ true → read_index ring < length (takes all queue)
+  -- what was launched or denied is what was published under the first ids, whole, each once, in order
+  pub whole : (id : ℕ) → id < length (takes all queue) → IsPublished ring id × (slice_get (takes all queue) id ≡ Some (published ring id))
+
 -- of a queue that wasn't opened nothing was launched or denied
 pub record IsUntouched (core : History) (all : List Entry) (queue : QueueId) : Type 0 where
   pub next : next_id (beginning core) core.entries queue ≡ 0
   pub takes : takes all queue ≡ []
+  pub unopened : was_opened core queue ≡ false
+  pub unowned : is_open core queue ≡ false
 
--- a queue's ring keeps the ring rule and is in step; a queue that wasn't opened has none
-abbrev pub Stands : History → List Entry → QueueId → Option Machine → Type 0
-Stands core all queue None = IsUntouched core all queue
-Stands core all queue (Some ring) = IsRing ring × IsInStep core all queue ring
+-- an open queue's ring keeps the ring rule and is in step
+pub record StandsOpen (core : History) (all : List Entry) (queue : QueueId) (ring : Machine) : Type 0 where
+  pub rule : IsRing ring
+  pub in_step : IsInStep core all queue ring
+  pub size : HasItsSize all queue ring
+  pub opened : was_opened core queue ≡ true
+  pub owned : is_open core queue ≡ true
+
+-- a closed queue's ring kept the ring rule and was in step
+pub record StoodClosed (core : History) (all : List Entry) (queue : QueueId) (ring : Machine) : Type 0 where
+  pub rule : IsRing ring
+  pub in_step : WasInStep all queue ring
+  pub size : HasItsSize all queue ring
+  pub opened : was_opened core queue ≡ true
+  pub unowned : is_open core queue ≡ false
+  pub next : next_id (beginning core) core.entries queue ≡ 0
+
+-- a queue by its ring, and by what its ring was if it was closed: no queue has both
+abbrev pub Stands : History → List Entry → QueueId → Option Machine → Option Machine → Type 0
+Stands core all queue None None = IsUntouched core all queue
+Stands core all queue (Some ring) None = StandsOpen core all queue ring
+Stands core all queue None (Some ring) = StoodClosed core all queue ring
+Stands core all queue (Some ring) (Some other) = ⊥
+
+-- no two rings are of one queue
+abbrev pub AreApart : Rings → Type 0
+AreApart [] = Unit {0}
+AreApart (x ∷ rings) = (among rings x.queue ≡ None) × AreApart rings
 
 -- the world between any two steps: its history is the rest of a whole one, which begins at an opening over this policy, and of which these
 -- entries come before; what rings and history share is said of the whole (own)
 pub record IsJoinedBehind (first : Declared) (prior : List Entry) (world : Joined) : Type 0 where
   pub start_is : beginning world.core ≡ state_after (opening_state first world.core.kernels) prior
   pub whole : IsWhole (opening_state first world.core.kernels) (prior ++ world.core.entries)
-  -- a ring for each opening, of its size
-  pub count : length world.rings ≡ length (openings (beginning world.core) world.core.entries)
-  pub sizes : map (λ ring. ring.size) world.rings ≡ sizes (prior ++ world.core.entries)
-  pub each : (queue : QueueId) → Stands world.core (prior ++ world.core.entries) queue (ring_of world queue)
+  pub apart : AreApart world.rings
+  -- each opening told its size
+  pub count : length (sizes (prior ++ world.core.entries)) ≡ (openings (beginning world.core) world.core.entries).opened
+  pub each : (queue : QueueId) → Stands world.core (prior ++ world.core.entries) queue (ring_of world queue) (closed_ring_of world queue)
 
 -- it is so, over some policy and behind some entries (own)
 pub record IsJoined (world : Joined) : Type 0 where

@@ -1,9 +1,8 @@
 -- What becomes of the core and of the rings, request by request, as the code serves them.
-use Rattle.std.specs.Prelude.{◌≡◌, ℕ, true, false, List, [], ◌∷◌, ◌++◌, Option, Some, None, Result, Ok, Err}
+use Rattle.std.specs.Prelude.{◌≡◌, ◌==◌, ℕ, true, false, List, [], ◌∷◌, ◌++◌, Option, Some, None, Result, Ok, Err, if◌then◌else◌}
 use Rattle.aql_packet.specs.declared.ids.AgentHandle.{AgentHandle}
 use Rattle.aql_packet.specs.declared.ids.ClientId.{ClientId}
 use Rattle.aql_packet.specs.declared.ids.QueueId.{QueueId}
-use Rattle.policy.specs.Policy.{numbered}
 use Rattle.core_model.specs.declared.answer.Answer.TheVariants as told
 use Rattle.core_model.specs.declared.event.Event.TheVariants.{Open}
 use Rattle.core_model.specs.declared.event.CoreRequest.{CoreRequest as Asked}
@@ -30,12 +29,12 @@ use Rattle.world.specs.declared.request.Request.TheVariants as request
 use Rattle.world.specs.declared.reply.Answer.TheVariants as answer
 use Rattle.world.specs.declared.reply.Refusal.TheVariants as refusal
 use Rattle.world.specs.declared.queue_ring.Next.{Next}
-use Rattle.world.specs.Dues.{Reply, of_core, rotated_reply, taking}
-use Rattle.world.specs.Making.{MakesAt, with_queue_ring}
+use Rattle.world.specs.Dues.{Reply, closed_by, of_core, rotated_reply, taking}
+use Rattle.world.specs.Making.{MakesAt, ring_in, with_queue_ring}
 
 -- a queue has a ring
 abbrev pub HasRing : List QueueRing → QueueId → Type 0
-HasRing rings queue = (ring : QueueRing) × (numbered rings queue.0 ≡ Some ring)
+HasRing rings queue = (ring : QueueRing) × (ring_in rings queue ≡ Some ring)
 
 -- the packet that a ring's processor has collected whole, with its id
 abbrev pub next_where : ℕ → Option (List ℕ) → Option Next
@@ -47,7 +46,7 @@ next_of r = next_where (read_index r.ring) (collected_packet (processor_of r.rin
 
 -- a queue's processor has collected this packet
 abbrev pub IsNext : List QueueRing → QueueId → Next → Type 0
-IsNext rings queue next = (ring : QueueRing) × (numbered rings queue.0 ≡ Some ring) × (next_of ring ≡ Some next)
+IsNext rings queue next = (ring : QueueRing) × (ring_in rings queue ≡ Some ring) × (next_of ring ≡ Some next)
 
 -- what a hand-over is told
 abbrev pub told_taken : ℕ → Result Taken cores.Refusal → Reply
@@ -57,7 +56,7 @@ told_taken id (Err why) = Err (refusal.Core why)
 -- a queue's ring after its packet was handed over
 abbrev pub decided_by : Taken → QueueRing → QueueRing
 decided_by (taken.Waiting cause) r = r
-decided_by _ r = record { ring = r.ring; decided = true }
+decided_by _ r = record { queue = r.queue; ring = r.ring; decided = true }
 
 abbrev pub ring_taken : QueueRing → Result Taken cores.Refusal → QueueRing
 ring_taken r (Ok became) = decided_by became r
@@ -80,8 +79,8 @@ TakesAt None queue core old reply core' new = (reply ≡ Err (refusal.Core why.U
 TakesAt (Some r) queue core old reply core' new = HandsOver (collected_packet (processor_of r.ring.parts)) r queue core old reply core' new
 
 -- a ring in which nothing happened
-abbrev pub new_ring : ℕ → ℕ → QueueRing
-new_ring size producers = record { ring = opened size producers; decided = false }
+abbrev pub new_ring : QueueId → ℕ → ℕ → QueueRing
+new_ring queue size producers = record { queue = queue; ring = opened size producers; decided = false }
 
 -- what an opening is told, and the rings after it
 abbrev pub told_opened : Result QueueId cores.Refusal → Reply
@@ -89,7 +88,7 @@ told_opened (Ok queue) = Ok (answer.Core (told.Outcome (outcome.Opened queue)))
 told_opened (Err why) = Err (refusal.Core why)
 
 abbrev pub rings_opened : List QueueRing → ℕ → ℕ → Result QueueId cores.Refusal → List QueueRing
-rings_opened rings size producers (Ok queue) = rings ++ new_ring size producers ∷ []
+rings_opened rings size producers (Ok queue) = rings ++ new_ring queue size producers ∷ []
 rings_opened rings size producers (Err why) = rings
 
 -- the core allows a queue to be opened, under this number
@@ -106,16 +105,32 @@ Opens client agent size producers core old reply core' new =
 abbrev pub Asks : Asked → History → Reply → History → Type 0
 Asks wanted core reply core' = (replied : AnswerOrRefusal) × cores_law.IsServed core wanted replied core' × (reply ≡ of_core replied)
 
+-- rings without that of a queue
+abbrev pub without : List QueueRing → QueueId → List QueueRing
+without [] queue = []
+without (r ∷ rings) queue = if r.queue.0 == queue.0 then rings else r ∷ without rings queue
+
+-- the rings of closed queues with one more, if there is one
+abbrev pub with_gone : List QueueRing → Option QueueRing → List QueueRing
+with_gone gone None = gone
+with_gone gone (Some r) = gone ++ r ∷ []
+
+-- the rings that are kept, and those that were, once a call that closes a queue, or none, was told this
+abbrev pub Leaves : Option QueueId → Reply → List QueueRing → List QueueRing → List QueueRing → List QueueRing → Type 0
+Leaves (Some queue) (Ok told) old gone new gone' = (new ≡ without old queue) × (gone' ≡ with_gone gone (ring_in old queue))
+Leaves (Some queue) (Err why) old gone new gone' = (new ≡ old) × (gone' ≡ gone)
+Leaves None reply old gone new gone' = (new ≡ old) × (gone' ≡ gone)
+
 -- the core's audit was handed out, and told so (own)
 abbrev pub HandsOut : History → Reply → History → Type 0
 HandsOut core reply core' = (made : Result Handed cores.Refusal) × Rotates core made core' × (reply ≡ rotated_reply made)
 
--- any request
-abbrev pub Obeys : Request → History → List QueueRing → Reply → History → List QueueRing → Type 0
-Obeys (request.Step queue step) core old reply core' new = MakesAt (numbered old queue.0) queue step old reply new × (core' ≡ core)
-Obeys (request.Take queue) core old reply core' new = TakesAt (numbered old queue.0) queue core old reply core' new
-Obeys (request.OpenQueue client agent size producers) core old reply core' new = Opens client agent size producers core old reply core' new
-Obeys (request.Call call) core old reply core' new = Asks (asked.Call call) core reply core' × (new ≡ old)
-Obeys (request.Query query) core old reply core' new = Asks (asked.Query query) core reply core' × (new ≡ old)
-Obeys (request.Reload policy) core old reply core' new = Asks (asked.Reload policy) core reply core' × (new ≡ old)
-Obeys request.Rotate core old reply core' new = HandsOut core reply core' × (new ≡ old)
+-- any request: the core, the rings that are kept, and those of closed queues
+abbrev pub Obeys : Request → History → List QueueRing → List QueueRing → Reply → History → List QueueRing → List QueueRing → Type 0
+Obeys (request.Step queue step) core old gone reply core' new gone' = MakesAt (ring_in old queue) queue step old reply new × (core' ≡ core) × (gone' ≡ gone)
+Obeys (request.Take queue) core old gone reply core' new gone' = TakesAt (ring_in old queue) queue core old reply core' new × (gone' ≡ gone)
+Obeys (request.OpenQueue client agent size producers) core old gone reply core' new gone' = Opens client agent size producers core old reply core' new × (gone' ≡ gone)
+Obeys (request.Call call) core old gone reply core' new gone' = Asks (asked.Call call) core reply core' × Leaves (closed_by call) reply old gone new gone'
+Obeys (request.Query query) core old gone reply core' new gone' = Asks (asked.Query query) core reply core' × (new ≡ old) × (gone' ≡ gone)
+Obeys (request.Reload policy) core old gone reply core' new gone' = Asks (asked.Reload policy) core reply core' × (new ≡ old) × (gone' ≡ gone)
+Obeys request.Rotate core old gone reply core' new gone' = HandsOut core reply core' × (new ≡ old) × (gone' ≡ gone)

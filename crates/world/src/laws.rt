@@ -1,6 +1,6 @@
 //! The headline, as a law of all lists of requests.
 
-ghost use Rattle.std.specs.Prelude.{◌≡◌, ◌++◌, [], ℕ, List, Option, Result, Err};
+ghost use Rattle.std.specs.Prelude.{◌≡◌, ◌++◌, [], ℕ, List, Option, Result, None, Some, Ok, Err};
 ghost use Rattle.aql_packet.specs.declared.ids.PacketId.{PacketId};
 ghost use Rattle.aql_packet.specs.declared.ids.QueueId.{QueueId};
 ghost use Rattle.policy.specs.Policy.{Declared, region_lengths};
@@ -17,10 +17,14 @@ ghost use Rattle.world.specs.declared.request.Request.{Request};
 ghost use Rattle.world.specs.Actions.{Reaches};
 ghost use Rattle.world.specs.Asked.{GoesOnAsAsked, IsAsAsked};
 ghost use Rattle.world.specs.Dues.{AreReplies, IsServed, Reply, handed_out, parts_out};
+ghost use Rattle.core_model.specs.declared.call.Call.TheVariants.{Close};
+ghost use Rattle.ring_core.specs.Machine.{Machine};
+ghost use Rattle.world.specs.declared.reply.Answer.{Answer};
+ghost use Rattle.world.specs.declared.request.Request.TheVariants as request;
 ghost use Rattle.world.specs.Headline.{Headline, IsBegun};
 ghost use Rattle.world.specs.Lanes.{peek, publish, retire, serve_next, submit};
-ghost use Rattle.world.specs.InStep.{IsJoinedBehind};
-ghost use Rattle.world.specs.States.{Joined};
+ghost use Rattle.world.specs.InStep.{IsJoinedBehind, WasInStep};
+ghost use Rattle.world.specs.States.{Joined, closed_ring_of, ring_of};
 
 use core_model::{
     law_calls_without_their_right_are_denied, law_denials_name_the_first_rule,
@@ -36,7 +40,7 @@ use policy::{Kind, Policy};
 /// is one that a packet or a call of that client asked for and a grant in force allowed, at launch for a
 /// packet; each denial changes nothing and names the packet and the first rule that failed; a group that
 /// faults leaves nothing; and what was launched or denied of each queue is a beginning of what was published in
-/// its ring, whole, each once, in order. The history is that of all parts that replies handed out, in order, and
+/// its ring, whole, each once, in order; so it is of each closed queue, with its ring as it stood before the close. The history is that of all parts that replies handed out, in order, and
 /// then of the audit. The world has the kernels and the audit's room that it was opened with, and each entry is of one
 /// of the requests, in their order, with one entry a request at most.
 pub fn law_headline(policy: &Policy)
@@ -92,6 +96,15 @@ pub fn law_each_run_goes_on()
 /// What is refused, for whatever cause, leaves the world as it was.
 pub fn law_refusals_change_nothing()
     ensures { (old new : Joined) (asked : Request) (why : Refusal) → IsServed old asked (Err why) new → new ≡ old }
+{}
+
+/// Where a queue was closed, it has no ring from then on, whatever is asked; and its ring as it stood just before was in step
+/// with all that was ever launched or denied of it: that is a beginning of what was published in that ring, whole, each
+/// once, in order, and no packet of it is launched or denied later.
+pub fn law_closed_rings_were_in_step()
+    ensures { (first : Declared) (prior : List Entry) (queue : QueueId) (ring : Machine) (told : Answer) (requests : List Request) (replies : List Reply) (old mid new : Joined) →
+        IsJoinedBehind first prior old → ring_of old queue ≡ Some ring → IsServed old (request.Call (Close queue)) (Ok told) mid → AreReplies mid requests replies new →
+        (ring_of new queue ≡ None) × (closed_ring_of new queue ≡ Some ring) × WasInStep ((prior ++ handed_out replies) ++ new.core.entries) queue ring }
 {}
 
 /// What `publish`, `submit`, `peek`, `retire` and `serve_next` of a world do is some requests, served in turn, and they hand

@@ -12,12 +12,13 @@ ghost use Rattle.world.specs.inner.Calling.{CollectsOn, PublishesOn, ReservesOn,
 
 use crate::lane::{Sent, Shown};
 use crate::reply::{Answer, Refusal, Reply};
-use aql_packet::PacketId;
+use aql_packet::{PacketId, QueueId};
 use ring_core::{Access, Look, RingState, SeatPart, Seen, Step, StepFault};
 
 /// A queue's ring.
 #[derive(Drop)]
 pub struct QueueRing {
+    pub queue: QueueId,
     pub ring: RingState,
     /// Whether the packet at the read index was launched or denied.
     pub decided: bool,

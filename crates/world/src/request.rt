@@ -26,7 +26,7 @@ pub enum Request {
     Take {
         queue: QueueId,
     },
-    /// A call of the core.
+    /// A call of the core. A queue that it closes has its ring no longer.
     Call(Call),
     /// A call of the core that changes nothing.
     Query(Query),

@@ -1,10 +1,9 @@
-//! The rings of all queues, in the order in which the queues were opened.
+//! The rings of the queues that are open, in the order in which they were opened.
 
 ghost use Rattle.std.specs.Prelude.{◌≡◌, false, option_map, slice_index};
 ghost use Rattle.std.specs.Option.{option_copied};
-ghost use Rattle.policy.specs.Policy.{numbered};
-ghost use Rattle.world.specs.Making.{MakesAt};
-ghost use Rattle.world.specs.Obeying.{HasRing, RingFollows, next_of};
+ghost use Rattle.world.specs.Making.{MakesAt, nearer, place_in, queue_after, ring_in};
+ghost use Rattle.world.specs.Obeying.{HasRing, RingFollows, next_of, with_gone, without};
 ghost use Rattle.ring_core.specs.Words.{is_invalid};
 ghost use Rattle.world.specs.inner.Calling.{CallsAt, CollectsOn, PublishesOn, ReservesOn, RetiresOn};
 
@@ -13,21 +12,66 @@ use crate::queue_ring::{Next, QueueRing};
 use crate::reply::{Refusal, Reply};
 use aql_packet::{PacketId, QueueId};
 use core_model::Taken;
-use ring_core::Step;
+use ring_core::{Log, Step};
 
-/// A queue's ring, if it was opened.
-pub(crate) fn ring_at(rings: &Vec<QueueRing>, queue: QueueId) -> Option<&QueueRing>
-    ensures { option_copied result ≡ numbered rings.now.items queue.0 }
+// Where a queue's ring stands: behind the last, where the queue has none. At most 64 rings are looked at, as many queues
+// as may be open.
+fn place_of(rings: &Vec<QueueRing>, queue: QueueId) -> usize
+    ensures { result ≡ place_in rings.now.items queue }
 {
-    if queue.0 == 0 {
-        return None;
+    for place in 0..rings.len() {
+        if rings[place].queue.0 == queue.0 {
+            return place;
+        }
     }
-    rings.get(queue.0 as usize - 1)
+    rings.len()
+}
+
+/// A queue's ring, if it is open.
+pub(crate) fn ring_at(rings: &Vec<QueueRing>, queue: QueueId) -> Option<&QueueRing>
+    ensures { option_copied result ≡ ring_in rings.now.items queue }
+{
+    rings.get(place_of(rings, queue))
+}
+
+/// The queue with a ring whose number is the least behind this one.
+pub(crate) fn queue_after(rings: &Vec<QueueRing>, queue: QueueId) -> Option<QueueId>
+    ensures { result ≡ queue_after rings.now.items queue }
+{
+    let mut next = None;
+    for place in 0..rings.len() {
+        next = nearer(queue, next, rings[place].queue);
+    }
+    next
+}
+
+// Of the next queue behind one so far, if there is one, and another, the nearer.
+fn nearer(queue: QueueId, next: Option<QueueId>, other: QueueId) -> Option<QueueId>
+    ensures { result ≡ nearer queue next other }
+{
+    match next {
+        None if other.0 <= queue.0 => None,
+        None => Some(other),
+        Some(found) if other.0 <= queue.0 || found.0 <= other.0 => Some(found),
+        Some(_) => Some(other),
+    }
+}
+
+/// The ring of a queue goes: it is taken out, and what it was is told from then on.
+pub(crate) fn close(rings: &mut Vec<QueueRing>, closed: &mut Log<QueueRing>, queue: QueueId)
+    ensures rings { rings.new.items ≡ without rings.old.items queue }
+    ensures closed { closed.new ≡ with_gone closed.old (ring_in rings.old.items queue) }
+{
+    let place = place_of(rings, queue);
+    if place < rings.len() {
+        let ring = rings.remove(place);
+        closed.push(&ring);
+    }
 }
 
 /// A seat makes a step on a queue's ring.
 pub(crate) fn make_step(rings: &mut Vec<QueueRing>, queue: QueueId, step: Step) -> Reply
-    ensures { MakesAt (numbered rings.old.items queue.0) queue step rings.old.items result rings.new.items }
+    ensures { MakesAt (ring_in rings.old.items queue) queue step rings.old.items result rings.new.items }
 {
     match ring_at(rings, queue) {
         None => Err(Refusal::Core(core_model::Refusal::UnknownQueue)),
@@ -38,9 +82,9 @@ pub(crate) fn make_step(rings: &mut Vec<QueueRing>, queue: QueueId, step: Step) 
 // A seat makes a step on the ring of a queue that is open.
 fn make_at(rings: &mut Vec<QueueRing>, queue: QueueId, step: Step) -> Reply
     requires { HasRing rings.old.items queue }
-    ensures { MakesAt (numbered rings.old.items queue.0) queue step rings.old.items result rings.new.items }
+    ensures { MakesAt (ring_in rings.old.items queue) queue step rings.old.items result rings.new.items }
 {
-    let place = queue.0 as usize - 1;
+    let place = place_of(rings, queue);
     let ring = &mut rings[place];
     ring.make(step)
 }
@@ -51,7 +95,7 @@ pub(crate) fn reserve(
     queue: QueueId,
     producer: u64,
 ) -> Result<u64, Refusal>
-    ensures { CallsAt (ReservesOn producer) (numbered rings.old.items queue.0) queue rings.old.items result rings.new.items }
+    ensures { CallsAt (ReservesOn producer) (ring_in rings.old.items queue) queue rings.old.items result rings.new.items }
 {
     match ring_at(rings, queue) {
         None => Err(Refusal::Core(core_model::Refusal::UnknownQueue)),
@@ -62,16 +106,16 @@ pub(crate) fn reserve(
 // A producer of a queue that is open reserves a ticket.
 fn reserve_at(rings: &mut Vec<QueueRing>, queue: QueueId, producer: u64) -> Result<u64, Refusal>
     requires { HasRing rings.old.items queue }
-    ensures { CallsAt (ReservesOn producer) (numbered rings.old.items queue.0) queue rings.old.items result rings.new.items }
+    ensures { CallsAt (ReservesOn producer) (ring_in rings.old.items queue) queue rings.old.items result rings.new.items }
 {
-    let place = queue.0 as usize - 1;
+    let place = place_of(rings, queue);
     let ring = &mut rings[place];
     ring.reserve(producer)
 }
 
 /// A queue's processor collects the packet at the read index.
 pub(crate) fn collect(rings: &mut Vec<QueueRing>, queue: QueueId) -> Result<Option<Shown>, Refusal>
-    ensures { CallsAt CollectsOn (numbered rings.old.items queue.0) queue rings.old.items result rings.new.items }
+    ensures { CallsAt CollectsOn (ring_in rings.old.items queue) queue rings.old.items result rings.new.items }
 {
     match ring_at(rings, queue) {
         None => Err(Refusal::Core(core_model::Refusal::UnknownQueue)),
@@ -82,16 +126,16 @@ pub(crate) fn collect(rings: &mut Vec<QueueRing>, queue: QueueId) -> Result<Opti
 // The processor of a queue that is open collects the packet at the read index.
 fn collect_at(rings: &mut Vec<QueueRing>, queue: QueueId) -> Result<Option<Shown>, Refusal>
     requires { HasRing rings.old.items queue }
-    ensures { CallsAt CollectsOn (numbered rings.old.items queue.0) queue rings.old.items result rings.new.items }
+    ensures { CallsAt CollectsOn (ring_in rings.old.items queue) queue rings.old.items result rings.new.items }
 {
-    let place = queue.0 as usize - 1;
+    let place = place_of(rings, queue);
     let ring = &mut rings[place];
     ring.collect()
 }
 
 /// A queue's processor retires the packet at the read index.
 pub(crate) fn retire(rings: &mut Vec<QueueRing>, queue: QueueId) -> Result<u64, Refusal>
-    ensures { CallsAt RetiresOn (numbered rings.old.items queue.0) queue rings.old.items result rings.new.items }
+    ensures { CallsAt RetiresOn (ring_in rings.old.items queue) queue rings.old.items result rings.new.items }
 {
     match ring_at(rings, queue) {
         None => Err(Refusal::Core(core_model::Refusal::UnknownQueue)),
@@ -102,9 +146,9 @@ pub(crate) fn retire(rings: &mut Vec<QueueRing>, queue: QueueId) -> Result<u64, 
 // The processor of a queue that is open retires the packet at the read index.
 fn retire_at(rings: &mut Vec<QueueRing>, queue: QueueId) -> Result<u64, Refusal>
     requires { HasRing rings.old.items queue }
-    ensures { CallsAt RetiresOn (numbered rings.old.items queue.0) queue rings.old.items result rings.new.items }
+    ensures { CallsAt RetiresOn (ring_in rings.old.items queue) queue rings.old.items result rings.new.items }
 {
-    let place = queue.0 as usize - 1;
+    let place = place_of(rings, queue);
     let ring = &mut rings[place];
     ring.retire()
 }
@@ -118,7 +162,7 @@ pub(crate) fn publish(
     words: &[u64; 8],
 ) -> Result<Sent, Refusal>
     requires { is_invalid (slice_index words.now 0) ≡ false }
-    ensures { CallsAt (PublishesOn producer ticket words.now) (numbered rings.old.items queue.0) queue rings.old.items result rings.new.items }
+    ensures { CallsAt (PublishesOn producer ticket words.now) (ring_in rings.old.items queue) queue rings.old.items result rings.new.items }
 {
     match ring_at(rings, queue) {
         None => Err(Refusal::Core(core_model::Refusal::UnknownQueue)),
@@ -136,16 +180,16 @@ fn publish_at(
 ) -> Result<Sent, Refusal>
     requires ring { HasRing rings.old.items queue }
     requires valid { is_invalid (slice_index words.now 0) ≡ false }
-    ensures { CallsAt (PublishesOn producer ticket words.now) (numbered rings.old.items queue.0) queue rings.old.items result rings.new.items }
+    ensures { CallsAt (PublishesOn producer ticket words.now) (ring_in rings.old.items queue) queue rings.old.items result rings.new.items }
 {
-    let place = queue.0 as usize - 1;
+    let place = place_of(rings, queue);
     let ring = &mut rings[place];
     ring.publish(producer, ticket, words)
 }
 
 /// The packet that a queue's processor has collected, if the queue is open and it has one whole.
 pub(crate) fn next_packet(rings: &Vec<QueueRing>, queue: QueueId) -> Option<Option<Next>>
-    ensures { result ≡ option_map next_of (numbered rings.now.items queue.0) }
+    ensures { result ≡ option_map next_of (ring_in rings.now.items queue) }
 {
     match ring_at(rings, queue) {
         None => None,
@@ -156,11 +200,11 @@ pub(crate) fn next_packet(rings: &Vec<QueueRing>, queue: QueueId) -> Option<Opti
 /// Notes beside a queue's ring what became of the packet at its read index.
 pub(crate) fn note_taken(rings: &mut Vec<QueueRing>, queue: QueueId, taken: Taken)
     requires { HasRing rings.old.items queue }
-    ensures { RingFollows (numbered rings.old.items queue.0) queue taken rings.old.items rings.new.items }
+    ensures { RingFollows (ring_in rings.old.items queue) queue taken rings.old.items rings.new.items }
 {
     match taken {
         Taken::Launched | Taken::Denied(_) => {
-            let place = queue.0 as usize - 1;
+            let place = place_of(rings, queue);
             rings[place].decided = true;
         }
         Taken::Waiting(_) => {}

@@ -1,22 +1,24 @@
 //! Requests are served: each by the core, by a queue's ring, or by both.
 
 ghost use Rattle.std.specs.Prelude.{◌≡◌, ◌<◌, IfOk, OnOk, true, vec_capacity, vec_len};
-ghost use Rattle.policy.specs.Policy.{numbered};
 ghost use Rattle.core_model.specs.declared.answer.Answer.TheVariants as told;
+ghost use Rattle.core_model.specs.declared.event.CoreRequest.TheVariants as asked;
 ghost use Rattle.core_model.specs.declared.outcome.Outcome.TheVariants as outcome;
 ghost use Rattle.aql_packet.specs.Ring.{is_ring_size};
 ghost use Rattle.ring_core.specs.Machine.{is_producer_count, opened};
 ghost use Rattle.world.specs.declared.reply.Answer.TheVariants as answer;
-ghost use Rattle.world.specs.Obeying.{Asks, HandsOut, IsNext, MayOpen, Obeys, Opens, TakesAt};
+ghost use Rattle.world.specs.Dues.{closed_by};
+ghost use Rattle.world.specs.Making.{ring_in};
+ghost use Rattle.world.specs.Obeying.{Asks, HandsOut, IsNext, Leaves, MayOpen, Obeys, Opens, TakesAt};
 
 use crate::queue_ring::{Next, QueueRing};
 use crate::reply::{Answer, Refusal, Reply};
 use crate::request::Request;
-use crate::rings::{make_step, next_packet, note_taken};
+use crate::rings::{close, make_step, next_packet, note_taken};
 use access_core::AccessCore;
 use aql_packet::{AgentHandle, ClientId, QueueId, bytes_of};
-use core_model::Outcome;
-use ring_core::{RingState, judged_size};
+use core_model::{Call, Outcome};
+use ring_core::{Log, RingState, judged_size};
 use std::alloc::{AllocError, Global};
 
 /// Who opens a queue, on which agent, and with which ring.
@@ -33,9 +35,10 @@ pub(crate) fn serve_request(
     alloc: Global,
     core: &mut AccessCore,
     rings: &mut Vec<QueueRing>,
+    closed: &mut Log<QueueRing>,
     request: Request,
 ) -> Reply
-    ensures { Obeys request core.old.history rings.old.items result core.new.history rings.new.items }
+    ensures { Obeys request core.old.history rings.old.items closed.old result core.new.history rings.new.items closed.new }
 {
     match request {
         Request::Step { queue, step } => make_step(rings, queue, step),
@@ -54,7 +57,7 @@ pub(crate) fn serve_request(
             };
             open(alloc, core, rings, opening)
         }
-        Request::Call(call) => ask(alloc, core, core_model::CoreRequest::Call(call)),
+        Request::Call(call) => make_call(alloc, core, rings, closed, call),
         Request::Query(query) => ask(alloc, core, core_model::CoreRequest::Query(query)),
         Request::Reload(policy) => ask(alloc, core, core_model::CoreRequest::Reload(policy)),
         Request::Rotate => rotate(alloc, core),
@@ -81,6 +84,48 @@ fn ask(alloc: Global, core: &mut AccessCore, request: core_model::CoreRequest) -
     }
 }
 
+// Has the core serve a call. A queue that it closes has its ring no longer.
+fn make_call(
+    alloc: Global,
+    core: &mut AccessCore,
+    rings: &mut Vec<QueueRing>,
+    closed: &mut Log<QueueRing>,
+    call: Call,
+) -> Reply
+    ensures asks { Asks (asked.Call call) core.old.history result core.new.history }
+    ensures leaves { Leaves (closed_by call) result rings.old.items closed.old rings.new.items closed.new }
+{
+    let closing = closed_by(&call);
+    let reply = ask(alloc, core, core_model::CoreRequest::Call(call));
+    leave(rings, closed, closing, &reply);
+    reply
+}
+
+// The queue that a call closes, if it does.
+fn closed_by(call: &Call) -> Option<QueueId>
+    ensures { result ≡ closed_by call.now }
+{
+    match call {
+        Call::Close { queue } => Some(*queue),
+        _ => None,
+    }
+}
+
+// The ring of a queue goes that was to be closed, where it was.
+fn leave(
+    rings: &mut Vec<QueueRing>,
+    closed: &mut Log<QueueRing>,
+    closing: Option<QueueId>,
+    reply: &Reply,
+)
+    ensures { Leaves closing reply.now rings.old.items closed.old rings.new.items closed.new }
+{
+    match (closing, reply) {
+        (Some(queue), Ok(_)) => close(rings, closed, queue),
+        _ => {}
+    }
+}
+
 // A queue's processor hands over the packet that it has collected.
 pub(crate) fn take(
     alloc: Global,
@@ -88,7 +133,7 @@ pub(crate) fn take(
     rings: &mut Vec<QueueRing>,
     queue: QueueId,
 ) -> Reply
-    ensures { TakesAt (numbered rings.old.items queue.0) queue core.old.history rings.old.items result core.new.history rings.new.items }
+    ensures { TakesAt (ring_in rings.old.items queue) queue core.old.history rings.old.items result core.new.history rings.new.items }
 {
     match next_packet(rings, queue) {
         None => Err(Refusal::Core(core_model::Refusal::UnknownQueue)),
@@ -106,7 +151,7 @@ fn hand_over(
     next: Next,
 ) -> Reply
     requires { IsNext rings.old.items queue next }
-    ensures { TakesAt (numbered rings.old.items queue.0) queue core.old.history rings.old.items result core.new.history rings.new.items }
+    ensures { TakesAt (ring_in rings.old.items queue) queue core.old.history rings.old.items result core.new.history rings.new.items }
 {
     let packet = next.packet;
     let bytes = bytes_of(&next.words);
@@ -155,6 +200,7 @@ fn open_allowed(
     match core.open_allowed(alloc, opening.client, opening.agent, size, queue) {
         Ok(queue) => {
             rings.push_reserved(QueueRing {
+                queue,
                 ring,
                 decided: false,
             });

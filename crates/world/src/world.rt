@@ -1,4 +1,4 @@
-//! The core with the ring of each queue, served request by request.
+//! The core with the ring of each open queue, served request by request.
 
 ghost use Rattle.std.specs.Prelude.{◌≡◌, ◌≤◌, List, [], IfOk, OnErr, length};
 ghost use Rattle.policy.specs.Policy.{Declared};
@@ -8,33 +8,39 @@ ghost use Rattle.world.specs.Headline.{Headline};
 ghost use Rattle.world.specs.InStep.{IsJoined, IsJoinedBehind};
 ghost use Rattle.world.specs.Starting.{Begins};
 ghost use Rattle.std.specs.Option.{option_copied};
-ghost use Rattle.world.specs.States.{ring_of, slots_of};
+ghost use Rattle.world.specs.States.{IsNextOpen, ring_of, slots_of};
 
 use crate::laws::headline_of;
 use crate::queue_ring::QueueRing;
 use crate::reply::Reply;
 use crate::request::Request;
-use crate::rings::ring_at;
+use crate::rings::{queue_after, ring_at};
 use crate::serving::serve_request;
 use access_core::{AccessCore, Kernel, OpenFault};
 use aql_packet::QueueId;
 use policy::Policy;
-use ring_core::RingState;
+use ring_core::{Log, RingState};
 use sequences::Reserved;
 use std::alloc::{AllocError, Global};
 use std::marker::Model;
 
-/// The core, and the ring of each of its queues, in the order in which they were opened. A contract sees
-/// the core's history and each ring's machine.
+/// The core, and the ring of each of its queues that is open, in the order in which they were opened. A contract sees
+/// the core's history, each ring's machine, and of each closed queue what its ring was before the close: of that nothing
+/// is kept.
 pub struct World {
     pub(crate) core: AccessCore,
     pub(crate) rings: Vec<QueueRing>,
+    pub(crate) closed: Log<QueueRing>,
 }
 
 // Written out, so that where a world ends stands one call, and not what ends each of its parts.
 impl Drop for World {
     fn drop(self) {
-        let World { core: _, rings: _ } = self;
+        let World {
+            core: _,
+            rings: _,
+            closed: _,
+        } = self;
     }
 }
 
@@ -46,10 +52,10 @@ impl Model for World {
     ghost use Rattle.world.specs.InStep.{IsJoined};
     ghost use Rattle.world.specs.Making.{AreDecided, rings_of};
 
-    ghost view = { λ world. joined world.core.history (rings_of world.rings.items) };
+    ghost view = { λ world. joined world.core.history (rings_of world.rings.items) (rings_of world.closed) };
 
     // The rings and the history are in step.
-    ghost invariant = { λ world. IsJoined (joined world.core.history (rings_of world.rings.items)) × AreDecided world.core.history world.rings.items };
+    ghost invariant = { λ world. IsJoined (joined world.core.history (rings_of world.rings.items) (rings_of world.closed)) × AreDecided world.core.history world.rings.items };
 }
 
 impl World {
@@ -67,6 +73,7 @@ impl World {
         Ok(World {
             core,
             rings: Vec::new(alloc),
+            closed: Log::new(),
         })
     }
 
@@ -94,7 +101,7 @@ impl World {
         &self.core
     }
 
-    /// The ring of a queue, if the queue was opened.
+    /// The ring of a queue, if the queue is open.
     pub fn ring(&self, queue: QueueId) -> Option<&RingState>
         ensures { option_copied result ≡ ring_of self.now queue }
     {
@@ -102,6 +109,13 @@ impl World {
             Some(ring) => Some(&ring.ring),
             None => None,
         }
+    }
+
+    /// The open queue with the least number behind this one; behind 0 the first.
+    pub fn queue_after(&self, queue: QueueId) -> Option<QueueId>
+        ensures { IsNextOpen self.now queue result }
+    {
+        queue_after(&self.rings, queue)
     }
 
     /// Does nothing but say to callers what holds of each world, at any moment: it is in step behind what was handed
@@ -120,7 +134,13 @@ impl World {
         ensures served { IsServed self.old request result self.new }
         ensures joined { IsJoined self.new }
     {
-        serve_request(alloc, &mut self.core, &mut self.rings, request)
+        serve_request(
+            alloc,
+            &mut self.core,
+            &mut self.rings,
+            &mut self.closed,
+            request,
+        )
     }
 
     /// Serves requests in turn, and tells the reply to each. Want of memory for the list of replies is

@@ -6,7 +6,7 @@ use Rattle.aql_packet.specs.declared.ids.QueueId.{QueueId}
 use Rattle.aql_packet.specs.declared.ids.PacketId.{PacketId}
 use Rattle.policy.specs.declared.object.Object.{Object}
 use Rattle.policy.specs.declared.rights.Right.{Right}
-use Rattle.policy.specs.Policy.{numbered, rules_of, region_lengths}
+use Rattle.policy.specs.Policy.{rules_of, region_lengths}
 use Rattle.regions.specs.Memory.{byte_at, lengths_of, lies_in_region}
 use Rattle.sequences.specs.Room.{Roomy}
 use Rattle.core_model.specs.declared.entry.Entry.{Entry}
@@ -31,7 +31,8 @@ use Rattle.access_core.specs.declared.kernel.Kernel.{Kernel}
 use Rattle.access_core.specs.declared.queue.Queue.{Queue}
 use Rattle.core_model.specs.declared.kernel.KernelSegments.{KernelSegments}
 use Rattle.access_core.specs.Opening.{has_entry, program_of}
-pub use Rattle.access_core.specs.inner.CachedQueue.{HasBlockPlaces, IsSound, cached_view, cached_opening, queue_at}
+pub use Rattle.access_core.specs.inner.CachedQueue.{HasBlockPlaces, IsSound, cached_view, cached_openings, cached_queue, cached_opening, queue_at}
+use Rattle.access_core.specs.inner.Numbers.{AscendFrom, queue_in}
 use Rattle.access_core.specs.inner.LiesInRegions.{lies_in_regions}
 
 -- what the history begins from, as data, and the answers that it gives
@@ -99,9 +100,11 @@ pub record IsCached (a : Inside) : Type 0 where
   pub memory : (x : ℕ) → lies_in_region (region_lengths a.start.policy) x ≡ true → byte_at a.memory x ≡ Some (memory_at (start_of a) a.audit.items x)
   -- the signals' values
   pub values : a.signals ≡ signals (start_of a) a.audit.items
-  -- the queues
-  pub openings : map cached_opening a.queues.items ≡ openings (start_of a) a.audit.items
-  pub queues : (queue : QueueId) → cached_view (numbered a.queues.items queue.0) ≡ queue_at (start_of a) a.audit.items queue
+  -- the open queues, by number, and how many were ever opened
+  pub openings : cached_openings a.opened a.queues.items ≡ openings (start_of a) a.audit.items
+  pub queues : (queue : QueueId) → cached_view (queue_in a.queues.items queue) ≡ queue_at (start_of a) a.audit.items queue
+  pub ascending : AscendFrom 0 a.queues.items
+  pub up_to : All (λ q. q.number.0 ≤ a.opened) a.queues.items
   pub sound : All IsSound a.queues.items
   pub few_queues : length a.queues.items ≤ QUEUES
   -- how many packets are in flight, each with all its ranges within regions

@@ -7,7 +7,7 @@ use Rattle.core_model.specs.declared.entry.Entry.{Entry}
 use Rattle.core_model.specs.declared.flight.InFlight.{InFlight}
 use Rattle.core_model.specs.declared.limits.TheConstants.{MOST_IN_FLIGHT}
 use Rattle.core_model.specs.History.{beginning, Start, History}
-use Rattle.core_model.specs.Queues.{next_id, errors, is_stopped, owner}
+use Rattle.core_model.specs.Queues.{OpenQueue, Openings, next_id, errors, is_stopped, owner}
 use Rattle.core_model.specs.declared.origin.Opening.{Opening}
 use Rattle.core_model.specs.Flight.{flight_of, progress}
 use Rattle.packet_processor.specs.declared.places.Place.{Place}
@@ -16,6 +16,14 @@ use Rattle.access_core.specs.declared.queue.Queue.{Queue}
 -- the opening of a queue that is cached
 abbrev pub cached_opening : Queue → Opening
 cached_opening q = record { client = q.client; agent = q.agent }
+
+-- and its number with it
+abbrev pub cached_queue : Queue → OpenQueue
+cached_queue q = record { queue = q.number; opening = cached_opening q }
+
+-- how many queues were ever opened, with those that are cached
+abbrev pub cached_openings : ℕ → List Queue → Openings
+cached_openings opened queues = record { opened = opened; queues = map cached_queue queues }
 
 -- A queue beside its opening: the id of its next packet, whether it was stopped, its errors, and its packets in flight.
 pub record QueueView : Type 0 where

@@ -7,7 +7,6 @@ use Rattle.aql_packet.specs.declared.ids.QueueId.{QueueId}
 use Rattle.policy.specs.declared.object.Object.{Object}
 use Rattle.policy.specs.declared.rights.Right.{Right}
 use Rattle.grants.specs.Ledger.{Ledger, SameRights, holds, rules_in}
-use Rattle.policy.specs.Policy.{numbered}
 use Rattle.core_model.specs.declared.origin.Origin.{Origin}
 use Rattle.core_model.specs.declared.origin.PacketOrigin.{PacketOrigin}
 use Rattle.core_model.specs.declared.origin.QueueOrigin.{QueueOrigin}
@@ -18,10 +17,11 @@ use Rattle.access_core.specs.declared.argument_blocks.ArgumentBlock.{ArgumentBlo
 use Rattle.access_core.specs.declared.queue.Queue.{Queue}
 use Rattle.access_core.specs.inner.ArgumentBlocks.{is_given}
 use Rattle.access_core.specs.inner.CachedQueue.{cached_opening}
+use Rattle.access_core.specs.inner.Numbers.{queue_in}
 
--- of a queue: its opening, next id and errors, and whether it was stopped
+-- of a queue: its number and opening, next id and errors, and whether it was stopped
 abbrev pub queue_origin : Queue → QueueOrigin
-queue_origin q = record { opening = cached_opening q; next = q.next; stopped = q.stopped; errors = q.errors.items }
+queue_origin q = record { queue = q.number; opening = cached_opening q; next = q.next; stopped = q.stopped; errors = q.errors.items }
 
 -- the place of the packet with this id, in a queue that is there
 abbrev pub sought_in : Option Queue → PacketId → Option Place
@@ -38,7 +38,7 @@ told_origin block place = record {
 
 -- the same, of a packet that is in flight
 abbrev pub packet_origin : List Queue → ArgumentBlock → Option PacketOrigin
-packet_origin queues block = option_map (told_origin block) (sought_in (numbered queues block.queue.0) block.packet)
+packet_origin queues block = option_map (told_origin block) (sought_in (queue_in queues block.queue) block.packet)
 
 -- The grants of a start: what is in force is what the core keeps, and packets hold what their argument blocks list.
 pub record IsHolding (grants : Ledger) (blocks : List ArgumentBlock) (held : Ledger) : Type 0 where
@@ -54,6 +54,7 @@ origin_behind a grants = record {
   grants = grants;
   memory = a.memory;
   signals = a.signals;
+  opened = a.opened;
   queues = map queue_origin a.queues.items;
   packets = filter_map (packet_origin a.queues.items) a.blocks.items;
   before = a.start.before + length a.audit.items;

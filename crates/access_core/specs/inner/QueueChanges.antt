@@ -1,10 +1,9 @@
 -- How a queue of the list changes: a packet is launched, denied, comes further, fails or leaves flight, or the queue is stopped.
-use Rattle.std.specs.Prelude.{◌≡◌, ◌+◌, ◌-◌, ◌<◌, ◌^◌, ℕ, true, List, [], ◌∷◌, ◌++◌, map, length, option_map, slice_set, All, IfSome, Option, Some, None}
+use Rattle.std.specs.Prelude.{◌≡◌, ◌+◌, ◌-◌, ◌<◌, ◌^◌, ℕ, true, List, [], ◌∷◌, ◌++◌, map, length, option_map, All, IfSome, Option, Some, None, if◌then◌else◌}
 use Rattle.aql_packet.specs.declared.ids.QueueId.{QueueId}
 use Rattle.aql_packet.specs.declared.ids.PacketId.{PacketId}
 use Rattle.aql_packet.specs.declared.packet.Packet.{Packet}
 use Rattle.queue_error.specs.declared.error.QueueError.{QueueError}
-use Rattle.policy.specs.Policy.{numbered}
 use Rattle.core_model.specs.declared.flight.Progress.{Progress}
 use Rattle.core_model.specs.declared.limits.TheConstants.{MOST_IN_FLIGHT}
 use Rattle.packet_processor.specs.declared.places.FoundPacket.{FoundPacket}
@@ -14,10 +13,15 @@ use Rattle.sequences.specs.Room.{Roomy}
 use Rattle.access_core.specs.declared.access.leaving.Leaving.{Leaving}
 use Rattle.access_core.specs.declared.access.leaving.Leaving.TheVariants as leaving
 use Rattle.access_core.specs.declared.queue.Queue.{Queue}
+use Rattle.access_core.specs.inner.Numbers.{AscendFrom, IsThere, has_number, queue_in}
+
+-- a queue, changed if it has the number
+abbrev pub changed_if : QueueId → (Queue → Queue) → Queue → Queue
+changed_if queue change q = if has_number queue q then change q else q
 
 -- the queues with the one of a number changed
 abbrev pub with_queue : List Queue → QueueId → (Queue → Queue) → List Queue
-with_queue queues queue change = elim (numbered queues queue.0) [ None ↦ queues | Some q ↦ slice_set queues (queue.0 - 1) (change q) ]
+with_queue queues queue change = map (changed_if queue change) queues
 
 -- a list of errors with one more, which takes some of its room
 abbrev pub with_error : Roomy QueueError → QueueError → Roomy QueueError
@@ -34,11 +38,11 @@ packet_in found = option_map (λ one. one.packet) found
 
 -- if a packet is named, it was found in its place of the queue
 abbrev pub IsFoundOf : List Queue → QueueId → Option FoundPacket → Type 0
-IsFoundOf queues queue found = (q : Queue) → numbered queues queue.0 ≡ Some q → IfSome found (λ one. IsFoundIn one q.places)
+IsFoundOf queues queue found = (q : Queue) → queue_in queues queue ≡ Some q → IfSome found (λ one. IsFoundIn one q.places)
 
 -- the packets in the queue's places have ids below this one
 abbrev pub IsAbove : List Queue → QueueId → PacketId → Type 0
-IsAbove queues queue id = (q : Queue) → numbered queues queue.0 ≡ Some q → All (λ place. place.id.0 < id.0) q.places
+IsAbove queues queue id = (q : Queue) → queue_in queues queue ≡ Some q → All (λ place. place.id.0 < id.0) q.places
 
 -- what becomes of a queue
 abbrev pub with_launched : PacketId → Packet → Queue → Queue
@@ -61,15 +65,11 @@ abbrev pub places_freed : Option PacketId → List Place → ℕ
 places_freed id places = length places - length (without_one id places)
 
 abbrev pub freed_by : Option PacketId → List Queue → QueueId → ℕ
-freed_by id queues queue = elim (numbered queues queue.0) [ None ↦ 0 | Some q ↦ places_freed id q.places ]
-
--- the queue is there
-abbrev pub IsThere : List Queue → QueueId → Type 0
-IsThere queues queue = (q : Queue) × (numbered queues queue.0 ≡ Some q)
+freed_by id queues queue = elim (queue_in queues queue) [ None ↦ 0 | Some q ↦ places_freed id q.places ]
 
 -- the queue is there, and has room for an error
 abbrev pub CanFail : List Queue → QueueId → Type 0
-CanFail queues queue = (q : Queue) × (numbered queues queue.0 ≡ Some q) × (0 < q.errors.room) × (q.next < 2 ^ 63)
+CanFail queues queue = (q : Queue) × (queue_in queues queue ≡ Some q) × (0 < q.errors.room) × (q.next < 2 ^ 63) × AscendFrom 0 queues
 
 -- the queue is there, with room for an error where a packet leaves it that failed
 abbrev pub CanLeave : List Queue → QueueId → Leaving → Type 0
@@ -78,4 +78,4 @@ CanLeave queues queue _ = IsThere queues queue
 
 -- the queue is there, and has a place for a packet
 abbrev pub CanLaunch : List Queue → QueueId → Type 0
-CanLaunch queues queue = (q : Queue) × (numbered queues queue.0 ≡ Some q) × (length q.places < MOST_IN_FLIGHT) × (q.next < 2 ^ 63)
+CanLaunch queues queue = (q : Queue) × (queue_in queues queue ≡ Some q) × (length q.places < MOST_IN_FLIGHT) × (q.next < 2 ^ 63) × AscendFrom 0 queues

@@ -6,6 +6,7 @@ ghost use Rattle.access_core.specs.Cores.{places_of};
 ghost use Rattle.access_core.specs.inner.ArgumentBlocks.{AreNamedOnce, is_block};
 ghost use Rattle.access_core.specs.inner.QueueChanges.{CanLeave, IsFoundOf, freed_by, packet_in, places_freed, with_leaving, with_queue, without_one};
 
+use crate::access::lookups::open_index;
 use crate::argument_blocks::ArgumentBlocks;
 use crate::queue::Queue;
 use aql_packet::QueueId;
@@ -52,7 +53,8 @@ fn leave_queue(
     ensures freed { result ≡ freed_by (packet_in found) queues.old.items queue }
     ensures capacity { vec_capacity queues.new ≡ vec_capacity queues.old }
 {
-    let kept = &mut queues[queue.0 as usize - 1];
+    let index = open_index(queues.as_slice(), queue);
+    let kept = &mut queues[index];
     match leaving {
         Leaving::Completed => {}
         Leaving::Failed(error) => kept.errors.push(error),

@@ -1,13 +1,14 @@
 //! What the core looks up before it decides a call.
 
 ghost use Rattle.core_model.specs.History.{beginning};
-ghost use Rattle.std.specs.Prelude.{◌≡◌};
+ghost use Rattle.std.specs.Prelude.{◌≡◌, ◌≤◌, Some, length};
 ghost use Rattle.std.specs.Option.{option_copied};
 ghost use Rattle.policy.specs.Policy.{numbered};
 ghost use Rattle.signals.specs.Values.{value_of};
 ghost use Rattle.core_model.specs.Grants.{in_force};
 ghost use Rattle.core_model.specs.Memory.{signals};
 ghost use Rattle.access_core.specs.inner.CachedQueue.{IsQueue};
+ghost use Rattle.access_core.specs.inner.Numbers.{AscendFrom, IsQueueIndex, IsNotFrom, IsThere, queue_in};
 
 use crate::access::AccessCore;
 use crate::kernel::kernel_named;
@@ -38,7 +39,7 @@ impl AccessCore {
         Some(kernel_named(self.kernels.as_slice(), dispatch.kernel_object)?.program())
     }
 
-    // What is kept of a queue, if it was opened.
+    // What is kept of a queue, if it is open.
     pub(crate) fn queue(&self, queue: QueueId) -> Option<&Queue>
         ensures { IsQueue self.now.history queue (option_copied result) }
     {
@@ -46,12 +47,51 @@ impl AccessCore {
     }
 }
 
-// The queue with a number, which counts from 1.
+// The queue with a number, if one of these has it.
 pub(crate) fn queue_of(queues: &[Queue], queue: QueueId) -> Option<&Queue>
-    ensures { option_copied result ≡ numbered queues.now queue.0 }
+    requires { AscendFrom 0 queues.now }
+    ensures { option_copied result ≡ queue_in queues.now queue }
 {
-    if queue.0 == 0 {
+    let index = queue_index(queues, queue)?;
+    Some(&queues[index])
+}
+
+// The index of a queue that is one of these.
+pub(crate) fn open_index(queues: &[Queue], queue: QueueId) -> usize
+    requires { IsThere queues.now queue }
+    ensures { IsQueueIndex queues.now queue (Some result) }
+{
+    queue_index(queues, queue).unwrap()
+}
+
+// The index of the queue with a number, if one of these has it. Numbers ascend from 1 at least, so it isn't behind the place of
+// its number, where the first look finds it as long as no queue before it was closed.
+fn queue_index(queues: &[Queue], queue: QueueId) -> Option<usize>
+    requires { AscendFrom 0 queues.now }
+    ensures { IsQueueIndex queues.now queue result }
+{
+    let behind = (queue.0 as usize).min(queues.len());
+    if behind == 0 {
         return None;
     }
-    queues.get(queue.0 as usize - 1)
+    if queues[behind - 1].number == queue {
+        return Some(behind - 1);
+    }
+    index_before(queues, queue, behind - 1)
+}
+
+// The index of the queue with a number, if one of these has it before another index, where none has it from there on.
+#[inline(never)]
+fn index_before(queues: &[Queue], queue: QueueId, behind: usize) -> Option<usize>
+    requires ascending { AscendFrom 0 queues.now }
+    requires within { behind ≤ length queues.now }
+    requires none { IsNotFrom queues.now queue behind }
+    ensures { IsQueueIndex queues.now queue result }
+{
+    for index in (0..behind).rev() {
+        if queues[index].number == queue {
+            return Some(index);
+        }
+    }
+    None
 }

@@ -252,6 +252,7 @@ fn first_origin(alloc: Global, policy: Policy, state: State) -> Origin
         memory,
         signals,
         queues: Sequence::new(alloc),
+        opened: 0,
         packets: Sequence::new(alloc),
         before: 0,
     }
@@ -291,6 +292,7 @@ fn blank(
         memory,
         signals,
         queues: Vec::new(alloc),
+        opened: 0,
         in_flight_count: 0,
         capacity,
         audit,

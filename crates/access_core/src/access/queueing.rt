@@ -11,6 +11,7 @@ ghost use Rattle.access_core.specs.Keeping.{GrowsByOpening, KeepsPlaces};
 
 use crate::access::{AccessCore, enter};
 use crate::queue::Queue;
+use crate::release_room::ReleaseRoom;
 use aql_packet::{AgentHandle, ClientId, QueueId, is_ring_size};
 use core_model::{Effects, Event, MOST_IN_FLIGHT, Outcome, QUEUES, Refusal};
 use packet_processor::Places;
@@ -31,7 +32,8 @@ fn get_room(queues: &mut Vec<Queue>) -> Result<(), AllocError>
 }
 
 impl AccessCore {
-    /// Opens a queue of `size` slots for a client, whose packets an agent runs.
+    /// Opens a queue of `size` slots for a client, whose packets an agent runs. Its number is one more than how many
+    /// queues were opened before it.
     #[inline(never)]
     pub fn open_queue(
         &mut self,
@@ -64,16 +66,20 @@ impl AccessCore {
         ensures grows { GrowsByOpening self.old result self.new }
     {
         let errors = Reserved::with_room(alloc, MOST_IN_FLIGHT)?;
+        let releases = ReleaseRoom::get(alloc)?;
         get_room(&mut self.queues)?;
         self.blocks
             .get_places(MOST_IN_FLIGHT * (self.queues.len() + 1))?;
+        self.opened = queue.0;
         self.queues.push_reserved(Queue {
+            number: queue,
             client,
             agent,
             next: 0,
             stopped: false,
             errors,
             places: Places::new(),
+            releases,
         });
         let event = Event::Open {
             client,
@@ -100,7 +106,7 @@ impl AccessCore {
         size: u64,
     ) -> Result<QueueId, Refusal>
         ensures may { IfOk result (λ queue. due self.now.history (Event.Open client agent size) ≡ enters (Outcome.Opened queue) []) }
-        ensures few { OnOk result (length (openings (beginning self.now.history) self.now.history.entries) < most_queues) }
+        ensures few { OnOk result (length (openings (beginning self.now.history) self.now.history.entries).queues < most_queues) }
         ensures why { IfErr result (λ why. due self.now.history (Event.Open client agent size) ≡ refuses why) }
     {
         if !self.policy().declares_client(client) {
@@ -118,6 +124,6 @@ impl AccessCore {
         if self.is_full() {
             return Err(Refusal::AuditFull);
         }
-        Ok(QueueId(self.queues.len() as u64 + 1))
+        Ok(QueueId(self.opened + 1))
     }
 }

@@ -3,7 +3,6 @@
 ghost use Rattle.std.specs.Prelude.{◌≡◌, true, false, map, All, IfOk};
 ghost use Rattle.std.specs.List.{filter_map};
 ghost use Rattle.std.specs.Option.{option_copied};
-ghost use Rattle.policy.specs.Policy.{numbered};
 ghost use Rattle.core_model.specs.History.{begin, beginning};
 ghost use Rattle.policy.specs.Policy.{region_lengths};
 ghost use Rattle.regions.specs.Memory.{lengths_of};
@@ -11,6 +10,7 @@ ghost use Rattle.core_model.specs.Legal.{IsLegalPart, SameOrigin};
 ghost use Rattle.core_model.specs.Rotation.{Rotates, lies_too_far};
 ghost use Rattle.core_model.specs.States.{state_after};
 ghost use Rattle.grants.specs.Ledger.{are_in_force};
+ghost use Rattle.access_core.specs.inner.Numbers.{AscendFrom, queue_in};
 ghost use Rattle.access_core.specs.inner.Origins.{IsHolding, packet_origin, queue_origin, sought_in, told_origin};
 
 use crate::access::AccessCore;
@@ -83,6 +83,7 @@ impl AccessCore {
             memory: self.memory.copy(alloc)?,
             signals: self.signals.copy(alloc)?,
             queues: queue_origins(alloc, self.queues.as_slice())?,
+            opened: self.opened,
             packets: packet_origins(alloc, self.queues.as_slice(), self.blocks.as_slice())?,
             before: self.entries_before() + self.audit.len() as u64,
         })
@@ -125,6 +126,7 @@ fn queue_origin(alloc: Global, queue: &Queue) -> Result<QueueOrigin, AllocError>
 {
     let errors = Vec::from_slice(alloc, queue.errors.as_slice())?;
     Ok(QueueOrigin {
+        queue: queue.number,
         opening: Opening {
             client: queue.client,
             agent: queue.agent,
@@ -148,7 +150,8 @@ fn queue_origins(alloc: Global, queues: &[Queue]) -> Result<Sequence<QueueOrigin
 
 // The place of a packet in its queue, if it is in flight.
 fn place_in(queues: &[Queue], queue: QueueId, packet: PacketId) -> Option<&Place>
-    ensures { option_copied result ≡ sought_in (numbered queues.now queue.0) packet }
+    requires { AscendFrom 0 queues.now }
+    ensures { option_copied result ≡ sought_in (queue_in queues.now queue) packet }
 {
     match queue_of(queues, queue) {
         Some(kept) => kept.places.get(packet),
@@ -181,6 +184,7 @@ fn packet_origins(
     queues: &[Queue],
     blocks: &[ArgumentBlock],
 ) -> Result<Sequence<PacketOrigin>, AllocError>
+    requires { AscendFrom 0 queues.now }
     ensures { IfOk result (λ origins. origins ≡ filter_map (packet_origin queues.now) blocks.now) }
 {
     let mut origins = Sequence::new(alloc);

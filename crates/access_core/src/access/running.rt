@@ -13,11 +13,13 @@ ghost use Rattle.queue_error.specs.declared.error.QueueError.{QueueError};
 ghost use Rattle.core_model.specs.Owed.{enters, owed};
 ghost use Rattle.policy.specs.Results.{map_ok};
 ghost use Rattle.core_model.specs.Legal.{MeetsOrLacks};
-ghost use Rattle.access_core.specs.inner.QueueChanges.{IsFoundOf, IsThere, with_advance, with_queue};
+ghost use Rattle.access_core.specs.inner.Numbers.{IsThere};
+ghost use Rattle.access_core.specs.inner.QueueChanges.{IsFoundOf, with_advance, with_queue};
 ghost use Rattle.access_core.specs.inner.LiesInRegions.{lies_in_regions};
 ghost use Rattle.access_core.specs.inner.InPlace.{IsChanged, IsFoundAt, IsInPlace, IsPlaced, is_placed};
 
 use crate::access::completing::FoundPlace;
+use crate::access::lookups::open_index;
 use crate::access::{AccessCore, enter};
 use crate::lists::copied;
 use crate::queue::Queue;
@@ -218,7 +220,8 @@ pub(crate) fn advance(
     ensures queues { queues.new.items ≡ with_queue queues.old.items queue (with_advance found.packet progress) }
     ensures capacity { vec_capacity queues.new ≡ vec_capacity queues.old }
 {
-    queues[queue.0 as usize - 1].places.advance(found, progress);
+    let index = open_index(queues.as_slice(), queue);
+    queues[index].places.advance(found, progress);
 }
 
 // The 8 bytes of a number, the lowest first.

@@ -4,7 +4,7 @@ ghost use Rattle.core_model.specs.History.{beginning};
 ghost use Rattle.core_model.specs.declared.event.Event.TheVariants as event;
 ghost use Rattle.std.specs.Prelude.{◌≡◌, ◌<◌, IfOk, OnErr, length};
 ghost use Rattle.core_model.specs.Legal.{IsLegal, IsServed, MeetsOrLacks, ReloadMeetsOrLacks, RepliesOrLacks, as_reply};
-ghost use Rattle.access_core.specs.Keeping.{ServedInPlace};
+ghost use Rattle.access_core.specs.Keeping.{CalledInPlace, ServedInPlace};
 ghost use Rattle.access_core.specs.Reloads.{as_reloaded};
 
 use crate::access::AccessCore;
@@ -72,7 +72,7 @@ impl AccessCore {
     #[inline(never)]
     fn make_call(&mut self, alloc: Global, call: Call) -> Result<Outcome, Refusal>
         ensures met { MeetsOrLacks (event.Call call) self.old.history self.new.history result }
-        ensures places { self.new.places ≡ self.old.places }
+        ensures places { CalledInPlace call self.old self.new }
     {
         match call {
             Call::Grant {
@@ -90,6 +90,7 @@ impl AccessCore {
                 .revoke(client, object, rights)
                 .map(|()| Outcome::Accepted),
             Call::Stop { queue } => self.stop(queue).map(|()| Outcome::Accepted),
+            Call::Close { queue } => self.close(queue).map(|()| Outcome::Accepted),
             Call::RunNext { queue, packet } => self
                 .run_next(alloc, queue, packet)
                 .map(Outcome::Worked),

@@ -12,7 +12,7 @@ ghost use Rattle.access_core.specs.inner.QueueChanges.{CanFail, CanLaunch, IsAbo
 ghost use Rattle.policy.specs.Results.{map_ok};
 ghost use Rattle.core_model.specs.Legal.{Meets, MeetsOrLacks, due};
 
-use crate::access::lookups::queue_of;
+use crate::access::lookups::{open_index, queue_of};
 use crate::access::{AccessCore, enter};
 use crate::argument_blocks::ArgumentBlock;
 use crate::queue::Queue;
@@ -59,7 +59,8 @@ fn place_next(queues: &mut Vec<Queue>, queue: QueueId, id: PacketId, packet: Pac
     ensures queues { queues.new.items ≡ with_queue queues.old.items queue (with_launched id packet) }
     ensures capacity { vec_capacity queues.new ≡ vec_capacity queues.old }
 {
-    let kept = &mut queues[queue.0 as usize - 1];
+    let index = open_index(queues.as_slice(), queue);
+    let kept = &mut queues[index];
     kept.next += 1;
     kept.places.launch(id, packet);
 }
@@ -70,7 +71,8 @@ fn fail_next(queues: &mut Vec<Queue>, queue: QueueId, error: QueueError)
     ensures queues { queues.new.items ≡ with_queue queues.old.items queue (with_denied error) }
     ensures capacity { vec_capacity queues.new ≡ vec_capacity queues.old }
 {
-    let kept = &mut queues[queue.0 as usize - 1];
+    let index = open_index(queues.as_slice(), queue);
+    let kept = &mut queues[index];
     kept.next += 1;
     kept.errors.push(error);
 }

@@ -14,6 +14,7 @@ ghost use Rattle.access_core.specs.inner.InPlace.{IsInPlace};
 ghost use Rattle.access_core.specs.inner.Running.{IsHolder, lent_if_held, region_numbered, view_whole};
 
 use crate::access::AccessCore;
+use crate::access::lookups::open_index;
 use crate::holders::is_listed;
 use aql_packet::{Address, ClientId, MOST_REGIONS, PacketId, QueueId, REGION_SPAN, RegionHandle};
 use executor::{HeldRegion, View};
@@ -32,7 +33,7 @@ impl AccessCore {
         requires { IsInPlace self.now.history queue packet place }
         ensures { IsHolder self.now.history queue packet result }
     {
-        self.queues[queue.0 as usize - 1].client
+        self.queues[open_index(self.queues.as_slice(), queue)].client
     }
 
     // Memory takes the lengths of the regions: each policy is within its limits.

@@ -15,6 +15,7 @@ no_core = record {
       };
       memory = [];
       signals = [];
+      opened = 0;
       queues = [];
       packets = [];
       before = 0;

@@ -2,10 +2,10 @@
 use Rattle.std.specs.Prelude.{◌≡◌, ◌≤◌, ℕ, true, List, [], ◌∷◌, ◌++◌, map}
 use Rattle.aql_packet.specs.declared.ids.QueueId.{QueueId}
 use Rattle.core_model.specs.declared.event.Event.{Event}
-use Rattle.core_model.specs.declared.limits.TheConstants.{QUEUES}
 use Rattle.core_model.specs.declared.outcome.Outcome.TheVariants as outcome
 use Rattle.core_model.specs.History.{History}
 use Rattle.core_model.specs.Legal.{due}
+use Rattle.core_model.specs.Limits.{most_queues}
 use Rattle.core_model.specs.Owed.{enters}
 use Rattle.ring_core.specs.Machine.{is_producer_count}
 use Rattle.ring.specs.Dealt.{dealt, new_processor_pass}
@@ -17,11 +17,11 @@ use Rattle.client_threads.specs.Lanes.{LaneSeen}
 use Rattle.client_threads.specs.Opening.{as_end, next_queue}
 use Rattle.client_threads.specs.Rings.{QueueRing}
 
--- an opening makes this queue, which is the next
+-- an opening makes this queue, which is the next, and one of those that a broker opens in its life (own)
 pub record IsOpenable (history : History) (event : Event) (queue : QueueId) : Type 0 where
   pub due_is : due history event ≡ enters (outcome.Opened queue) []
   pub next : queue.0 ≡ next_queue history
-  pub few : queue.0 ≤ QUEUES
+  pub few : queue.0 ≤ most_queues
 
 -- this was made for a queue: a ring of this size, its ends and its lane
 pub record IsBeside (queue : QueueId) (size producers : ℕ) (front : PassSeen) (made : Beside) : Type 0 where

@@ -1,26 +1,17 @@
--- The rights that rows don't allow, taken out of force at some clients and objects, and who stands against it.
-use Rattle.std.specs.Prelude.{◌≡◌, ℕ, Bool, true, not, ◌&&◌, ◌||◌, ◌==◌, nat_le, List}
+-- Clients and objects by tests of their numbers, and holds that stand against a reload.
+use Rattle.std.specs.Prelude.{ℕ, Bool, true, not, ◌&&◌, ◌==◌, nat_le, List}
 use Rattle.std.specs.List.{list_any}
 use Rattle.aql_packet.specs.declared.ids.ClientId.{ClientId}
 use Rattle.aql_packet.specs.declared.ids.QueueId.{QueueId}
 use Rattle.aql_packet.specs.declared.ids.PacketId.{PacketId}
 use Rattle.policy.specs.declared.object.Kind.{Kind}
 use Rattle.policy.specs.declared.object.Object.{Object}
-use Rattle.policy.specs.declared.rights.Right.{Right}
 use Rattle.policy.specs.declared.rows.PolicyRows.{PolicyRows}
 use Rattle.policy.specs.Object.{kind_of, number_of, same_kind}
 use Rattle.policy.specs.Rights.{each_right}
 use Rattle.policy.specs.Rules.{rows_allow}
 use Rattle.grants.specs.declared.hold.Hold.{Hold}
-use Rattle.grants.specs.Cells.{Table, in_table}
 use Rattle.grants.specs.Holders.{same_packet}
-use Rattle.grants.specs.inner.Counts.{SameCounts}
-
--- at the clients and objects that pass the test the rights that rows don't allow went out of force, and nothing else changed
-pub record TakesDenied (rows : PolicyRows) (test : ClientId → Object → Bool) (old new : Table) : Type 0 where
-  pub kept : (client : ClientId) (object : Object) (right : Right)
-      → in_table new client object right ≡ (in_table old client object right && (not (test client object) || rows_allow rows client object right))
-  pub counts : SameCounts old new
 
 -- the client's objects of a kind, up to a number
 abbrev pub of_kind_up_to : ClientId → Kind → ℕ → ClientId → Object → Bool

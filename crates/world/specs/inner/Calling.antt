@@ -27,7 +27,7 @@ RefusesOn old seat access why new = (hindrance old.decided old.ring (step_by sea
 
 -- the steps of a call were made in turn, and then this is known of the packet at the read index
 abbrev pub MakesInTurn : QueueRing → ℕ → List Made → Bool → QueueRing → Type 0
-MakesInTurn old seat mades decided new = MadeInTurn old.ring seat mades new.ring × (new.decided ≡ decided)
+MakesInTurn old seat mades decided new = MadeInTurn old.ring seat mades new.ring × (new.decided ≡ decided) × (new.queue ≡ old.queue)
 
 -- the packet at the read index is collected, and shown with its id, if it is published
 abbrev pub CollectsOn : QueueRing → Result (Option Shown) Refusal → QueueRing → Type 0
@@ -61,7 +61,7 @@ ReservesWhere None producer old result new =
 abbrev pub ReservesOn : ℕ → QueueRing → Result ℕ Refusal → QueueRing → Type 0
 ReservesOn producer old result new = ReservesWhere (hindrance old.decided old.ring (step_by producer Reserve)) producer old result new
 
--- a call on the ring of a queue, if it was opened
+-- a call on the ring of a queue, if it is open
 abbrev pub CallsAt : {X : Type 0} → (QueueRing → Result X Refusal → QueueRing → Type 0) → Option QueueRing → QueueId → List QueueRing → Result X Refusal → List QueueRing → Type 0
 CallsAt call None queue old result new = (result ≡ Err (refusal.Core why.UnknownQueue)) × (new ≡ old)
 CallsAt call (Some ring) queue old result new = (after : QueueRing) × call ring result after × (new ≡ with_queue_ring old queue after)

@@ -1,5 +1,6 @@
 use Rattle.core_model.proofs.Absent.{launch-unfound, no-arguments-unfound, unheld-unfound, zero-outside}
 use Rattle.core_model.proofs.Apart.{apart-legal, found-legal}
+use Rattle.core_model.proofs.ClosedLaw.{nothing-told}
 use Rattle.core_model.proofs.laws.law_nothing_is_told_of_what_is_not_there.Goals as goal
 
 pub returns-clause-memory : goal.returns-clause-memory
@@ -16,6 +17,9 @@ returns-clause-named c = λ start entries legal. found-legal start entries legal
 
 pub returns-clause-arguments : goal.returns-clause-arguments
 returns-clause-arguments c = λ start entries queue id legal none. no-arguments-unfound start entries legal queue id none
+
+pub returns-clause-queues : goal.returns-clause-queues
+returns-clause-queues c = λ start entries queue legal none. nothing-told start entries legal queue none
 
 pub returns-clause-apart : goal.returns-clause-apart
 returns-clause-apart c = λ start entries legal. apart-legal start entries legal

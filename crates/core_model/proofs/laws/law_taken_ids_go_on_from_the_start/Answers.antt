@@ -6,4 +6,4 @@ pub returns-clause-ids : goal.returns-clause-ids
 returns-clause-ids c = λ start entries queue place served legal found. ids start entries queue place served legal found
 
 pub returns-clause-count : goal.returns-clause-count
-returns-clause-count c = λ start entries queue. count start [] entries queue
+returns-clause-count c = λ start entries queue unclosed. count start [] entries queue unclosed

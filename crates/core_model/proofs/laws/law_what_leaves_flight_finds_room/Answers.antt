@@ -1,6 +1,4 @@
-use Rattle.core_model.specs.History.{beginning}
-use Rattle.core_model.proofs.Changes.{fault-released}
-use Rattle.core_model.proofs.Room.{failure-finds, fault-finds, finish-finds, never-owed, stop-finds}
+use Rattle.core_model.proofs.Room.{close-finds, failure-finds, fault-finds, finish-finds, never-owed, stop-finds}
 use Rattle.core_model.proofs.laws.law_what_leaves_flight_finds_room.Goals as goal
 
 pub returns-clause-completion : goal.returns-clause-completion
@@ -14,6 +12,9 @@ returns-clause-failure c = λ history queue id error effects room owing. failure
 
 pub returns-clause-stop : goal.returns-clause-stop
 returns-clause-stop c = λ history queue barrier room some. stop-finds history room queue barrier some
+
+pub returns-clause-close : goal.returns-clause-close
+returns-clause-close c = λ history queue flying room there. close-finds history room queue flying there
 
 pub returns-clause-owes : goal.returns-clause-owes
 returns-clause-owes c = λ start entries event is. never-owed start entries event is

@@ -1,11 +1,11 @@
-use Rattle.std.proofs.Common.{rules, ◌≡◌, None, Some, ◌-◌, ◌<◌, ◌≤◌, length, arith, subst, sym, ap}
+use Rattle.std.proofs.Common.{rules, ◌≡◌, None, Some, ◌+◌, ◌-◌, ◌<◌, ◌≤◌, length, arith, subst, sym, ap}
 use Rattle.std.specs.Prelude.{slice_get}
 use Rattle.executor.specs.Group.{ready, context_of_item}
 use Rattle.executor.specs.Meaning.{turn, goes_on, arrives, ends, broke}
 use Rattle.executor.specs.declared.fault.RunFault.{RunFault}
+use Rattle.executor.specs.declared.item.Item.{Item}
 use Rattle.executor.specs.inner.Held.{contents, surroundings}
 use Rattle.executor.specs.inner.ItemRuns.{ItemFails}
-use Rattle.queue_error.specs.declared.error.SegmentAddress.TheVariants as segment
 use Rattle.queue_error.specs.declared.rule.Rule.TheVariants.{A5}
 use Rattle.executor.proofs.FlatLemmas.{flat_turn}
 use Rattle.executor.proofs.GroupLemmas.{spent, stops}
@@ -68,11 +68,78 @@ returns-in-Broke-clause-err c =
     let spent_less : 65536 - left < 65536 = omega (arith, few, some) in
     let flats = c.flat_steps-flat_steps.result.now in
     let found : slice_get flats next ≡ Some c.in-Some.flat.now = get_read flats next c.in-Some.flat.now c.in-Some.ensures.lookup.1 c.in-Some.ensures.lookup.3.0 in
-    let is : turn (context_of_item a n) p.steps (record { registers = r; next = next }) (65536 - left) m ≡ broke c.in-Broke.rule (Some (segment.Global c.in-Broke.address)) =
-    flat_turn (surroundings c.context_of_item-own.result) (context_of_item a n) flats p.steps r next m c.in-Some.flat.now (broke c.in-Broke.rule (Some (segment.Global c.in-Broke.address)))
+    let is : turn (context_of_item a n) p.steps (record { registers = r; next = next }) (65536 - left) m ≡ broke c.in-Broke.rule (Some c.in-Broke.address) =
+    flat_turn (surroundings c.context_of_item-own.result) (context_of_item a n) flats p.steps r next m c.in-Some.flat.now (broke c.in-Broke.rule (Some c.in-Broke.address))
     c.context_of_item-own.ensures.surroundings c.flat_steps-flat_steps.ensures.value found c.in-Broke.ensures (65536 - left) spent_less in
     subst (λ (f : RunFault). ItemFails a p n first before f) (sym c.fault.ensures)
-    (reached_breaks a p n first before (record { registers = r; next = next }) left m c.turns.invariant.1 c.in-Broke.rule (Some (segment.Global c.in-Broke.address)) is)
+    (reached_breaks a p n first before (record { registers = r; next = next }) left m c.turns.invariant.1 c.in-Broke.rule (Some c.in-Broke.address) is)
+
+pub turns-preserved-in-Onward : goal.turns-preserved-in-Onward
+turns-preserved-in-Onward c =
+    let a = surroundings c.args.context.now in
+    let p = c.args.program.now in
+    let n = c.args.number in
+    let r = c.turns.stopped.item.registers in
+    let next = c.turns.next in
+    let left = c.turns.left in
+    let m = contents c.turns.memory in
+    let first = ready c.args.stopped.now.item c.args.stopped.now.executed in
+    let before = contents c.args.memory.now in
+    let few : left ≤ 65536 = c.turns.invariant.0 in
+    let some : 0 < left = omega arith in
+    let spent_less : 65536 - left < 65536 = omega (arith, few, some) in
+    let flats = c.flat_steps-flat_steps.result.now in
+    let found : slice_get flats next ≡ Some c.in-Some.flat.now = get_read flats next c.in-Some.flat.now c.in-Some.ensures.lookup.1 c.in-Some.ensures.lookup.3.0 in
+    let there : Item = record { registers = c.go.new.r; next = next + 1 } in
+    let is : turn (context_of_item a n) p.steps (record { registers = r; next = next }) (65536 - left) m ≡ goes_on there (contents c.go.new.memory) =
+    flat_turn (surroundings c.context_of_item-own.result) (context_of_item a n) flats p.steps r next m c.in-Some.flat.now (goes_on there (contents c.go.new.memory))
+    c.context_of_item-own.ensures.surroundings c.flat_steps-flat_steps.ensures.value found c.in-Onward.ensures (65536 - left) spent_less in (
+      omega (arith, few),
+      reached_more a p n first before (record { registers = r; next = next }) left m c.turns.invariant.1 there (contents c.go.new.memory) few some is,
+    )
+
+pub returns-in-Arrived-clause-ok : goal.returns-in-Arrived-clause-ok
+returns-in-Arrived-clause-ok c =
+    let a = surroundings c.args.context.now in
+    let p = c.args.program.now in
+    let n = c.args.number in
+    let r = c.turns.stopped.item.registers in
+    let next = c.turns.next in
+    let left = c.turns.left in
+    let m = contents c.turns.memory in
+    let first = ready c.args.stopped.now.item c.args.stopped.now.executed in
+    let before = contents c.args.memory.now in
+    let few : left ≤ 65536 = c.turns.invariant.0 in
+    let some : 0 < left = omega arith in
+    let spent_less : 65536 - left < 65536 = omega (arith, few, some) in
+    let flats = c.flat_steps-flat_steps.result.now in
+    let found : slice_get flats next ≡ Some c.in-Some.flat.now = get_read flats next c.in-Some.flat.now c.in-Some.ensures.lookup.1 c.in-Some.ensures.lookup.3.0 in
+    let there : Item = record { registers = c.go.new.r; next = next + 1 } in
+    let is : turn (context_of_item a n) p.steps (record { registers = r; next = next }) (65536 - left) m ≡ arrives there (contents c.go.new.memory) =
+    flat_turn (surroundings c.context_of_item-own.result) (context_of_item a n) flats p.steps r next m c.in-Some.flat.now (arrives there (contents c.go.new.memory))
+    c.context_of_item-own.ensures.surroundings c.flat_steps-flat_steps.ensures.value found c.in-Arrived.ensures (65536 - left) spent_less in
+    reached_arrives a p n first before (record { registers = r; next = next }) left m c.turns.invariant.1 there (contents c.go.new.memory) few some is
+
+pub returns-in-Ended-clause-ok : goal.returns-in-Ended-clause-ok
+returns-in-Ended-clause-ok c =
+    let a = surroundings c.args.context.now in
+    let p = c.args.program.now in
+    let n = c.args.number in
+    let r = c.turns.stopped.item.registers in
+    let next = c.turns.next in
+    let left = c.turns.left in
+    let m = contents c.turns.memory in
+    let first = ready c.args.stopped.now.item c.args.stopped.now.executed in
+    let before = contents c.args.memory.now in
+    let few : left ≤ 65536 = c.turns.invariant.0 in
+    let some : 0 < left = omega arith in
+    let spent_less : 65536 - left < 65536 = omega (arith, few, some) in
+    let flats = c.flat_steps-flat_steps.result.now in
+    let found : slice_get flats next ≡ Some c.in-Some.flat.now = get_read flats next c.in-Some.flat.now c.in-Some.ensures.lookup.1 c.in-Some.ensures.lookup.3.0 in
+    let is : turn (context_of_item a n) p.steps (record { registers = r; next = next }) (65536 - left) m ≡ ends (contents c.go.new.memory) =
+    flat_turn (surroundings c.context_of_item-own.result) (context_of_item a n) flats p.steps r next m c.in-Some.flat.now (ends (contents c.go.new.memory))
+    c.context_of_item-own.ensures.surroundings c.flat_steps-flat_steps.ensures.value found c.in-Ended.ensures (65536 - left) spent_less in
+    reached_ends a p n first before (record { registers = r; next = next }) left m c.turns.invariant.1 (contents c.go.new.memory) is
 
 pub turns-preserved : goal.turns-preserved
 turns-preserved c =
@@ -94,8 +161,8 @@ turns-preserved c =
     (c.in-GoesOn.ensures (65536 - left) spent_less) in
     (omega (arith, few), reached_more a p n first before (record { registers = r; next = next }) left m c.turns.invariant.1 c.turn.new.item (contents c.turn.new.memory) few some is)
 
-pub returns-in-Arrived-clause-ok : goal.returns-in-Arrived-clause-ok
-returns-in-Arrived-clause-ok c =
+pub returns-in-Arrived-turn-clause-ok : goal.returns-in-Arrived-turn-clause-ok
+returns-in-Arrived-turn-clause-ok c =
     let a = surroundings c.args.context.now in
     let p = c.args.program.now in
     let n = c.args.number in
@@ -111,11 +178,11 @@ returns-in-Arrived-clause-ok c =
     let is : turn (context_of_item a n) p.steps (record { registers = r; next = next }) (65536 - left) m ≡ arrives c.turn.new.item (contents c.turn.new.memory) =
     turn_alike (surroundings c.context_of_item-own.result) (context_of_item a n) p.steps c.go.new.r r next (65536 - left) (contents c.go.new.memory) m (arrives c.turn.new.item (contents c.turn.new.memory))
     c.context_of_item-own.ensures.surroundings c.in-Other.ensures.0 c.in-Other.ensures.1
-    (c.in-Arrived.ensures (65536 - left) spent_less) in
+    (c.in-Arrived-turn.ensures (65536 - left) spent_less) in
     reached_arrives a p n first before (record { registers = r; next = next }) left m c.turns.invariant.1 c.turn.new.item (contents c.turn.new.memory) few some is
 
-pub returns-in-Ended-clause-ok : goal.returns-in-Ended-clause-ok
-returns-in-Ended-clause-ok c =
+pub returns-in-Ended-turn-clause-ok : goal.returns-in-Ended-turn-clause-ok
+returns-in-Ended-turn-clause-ok c =
     let a = surroundings c.args.context.now in
     let p = c.args.program.now in
     let n = c.args.number in
@@ -131,7 +198,7 @@ returns-in-Ended-clause-ok c =
     let is : turn (context_of_item a n) p.steps (record { registers = r; next = next }) (65536 - left) m ≡ ends (contents c.turn.new.memory) =
     turn_alike (surroundings c.context_of_item-own.result) (context_of_item a n) p.steps c.go.new.r r next (65536 - left) (contents c.go.new.memory) m (ends (contents c.turn.new.memory))
     c.context_of_item-own.ensures.surroundings c.in-Other.ensures.0 c.in-Other.ensures.1
-    (c.in-Ended.ensures (65536 - left) spent_less) in
+    (c.in-Ended-turn.ensures (65536 - left) spent_less) in
     reached_ends a p n first before (record { registers = r; next = next }) left m c.turns.invariant.1 (contents c.turn.new.memory) is
 
 pub returns-in-Broke-turn-clause-err : goal.returns-in-Broke-turn-clause-err

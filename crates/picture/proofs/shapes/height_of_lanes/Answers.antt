@@ -11,6 +11,6 @@ lanes-init c = (refl, omega arith)
 pub lanes-preserved : goal.lanes-preserved
 lanes-preserved c =
     let few : c.height_at.result < 8192 = c.height_at.ensures.bound in (
-      height_step c.args.depths.now c.lanes.place c.lanes.height c.height_at.result c.lanes.invariant.0 c.height_at.ensures.exact,
+      height_step c.args.lanes.now c.lanes.place c.lanes.height c.height_at.result c.lanes.invariant.0 c.height_at.ensures.exact,
       omega (arith, few, c.lanes.invariant.1),
     )

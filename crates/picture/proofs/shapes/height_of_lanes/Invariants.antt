@@ -4,4 +4,4 @@ use Rattle.picture.specs.Shapes.{height_of_lanes}
 use Rattle.picture.proofs.shapes.height_of_lanes.Given as goal
 
 abbrev pub invariant-lanes : goal.invariant-lanes
-invariant-lanes l = (l.height ≡ height_of_lanes l.depths l.place) × (l.height ≤ 8200 * l.place)
+invariant-lanes l = (l.height ≡ height_of_lanes l.lanes l.place) × (l.height ≤ 8200 * l.place)

@@ -17,10 +17,10 @@ pub put_queue-requires-clause-lane : goal.put_queue-requires-clause-lane
 put_queue-requires-clause-lane g c = new_lane g.B.Room.board _ _ _ _ _ _ _ _ c.in-Ok.ensures.opened c.in-Ok.ensures.front
 
 pub returns-in-Ok-put_queue-clause-queues : goal.returns-in-Ok-put_queue-clause-queues
-returns-in-Ok-put_queue-clause-queues g c = λ before w are.
+returns-in-Ok-put_queue-clause-queues g c = λ before are.
     let number : c.in-Ok.opened.0.0 ≡ length c.args.lanes.now.items + 1 = search rules in
-    opened_next g.B.Room.opened c.args.front.now.left c.open_queue.new.front.left c.args.planned _ c.args.producers c.in-Ok.opened.0 before c.args.lanes.now.items c.put_queue.new.lanes.items c.in-Ok.opened.2
-    c.in-Ok.ensures.section number (ap (λ (l : LaneSeen). l.queue) c.in-Ok.ensures.opened.lane_is) c.in-Ok-put_queue.ensures.put w are
+    opened_next c.args.planned c.in-Ok.opened.0 before c.args.lanes.now.items c.put_queue.new.lanes.items c.in-Ok.opened.2
+    number (ap (λ (l : LaneSeen). l.queue) c.in-Ok.ensures.opened.lane_is) c.in-Ok-put_queue.ensures.put are
 
 pub returns-in-Ok-put_queue-clause-keeps : goal.returns-in-Ok-put_queue-clause-keeps
 returns-in-Ok-put_queue-clause-keeps g c = all_keep _ _ _ _ _ _ _ _ c.args.lanes.now.items c.put_queue.new.lanes.items c.in-Ok.ensures.opened c.in-Ok-put_queue.ensures.put

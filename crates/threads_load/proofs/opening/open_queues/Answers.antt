@@ -2,7 +2,7 @@ use Rattle.std.proofs.Common.{◌≡◌, ◌<◌, List, arith, length, subst, ta
 use Rattle.std.proofs.lemmas.List.{take_all}
 use Rattle.client_threads.proofs.Fronts.{prefix_trans}
 use Rattle.threads_load.specs.declared.plan.PlannedQueue.{PlannedQueue}
-use Rattle.threads_load.specs.Stages.{AreOf, HasQueues, WasLeft}
+use Rattle.threads_load.specs.Stages.{AreOf}
 use Rattle.threads_load.proofs.Planned.{next_too}
 use Rattle.threads_load.proofs.opening.open_queues.Goals as goal
 
@@ -12,17 +12,15 @@ loop-planned-preserved g c = (
   c.in_ok-open_next.ensures.ends,
   c.in_ok-open_next.ensures.lanes,
   prefix_trans c.args.front.now.left c.loop-planned.front.left c.open_next.new.front.left c.loop-planned.invariant.3 c.open_next.ensures.begins,
-  λ queues lanes.
-      let so_far = c.loop-planned.invariant.4 queues lanes in
+  λ lanes.
       let within : c.loop-planned.planned-index < length c.args.plan.now = omega arith in
-      next_too (λ (ps : List PlannedQueue). WasLeft c.open_next.new.front.left (λ left. HasQueues left ps) × AreOf (length ps) c.open_next.new.lanes.items)
+      next_too (λ (ps : List PlannedQueue). AreOf (length ps) c.open_next.new.lanes.items)
       c.args.plan.now c.loop-planned.planned-index _ within
-      (c.in_ok-open_next.ensures.queues (take c.loop-planned.planned-index c.args.plan.now) so_far.0 so_far.1),
+      (c.in_ok-open_next.ensures.queues (take c.loop-planned.planned-index c.args.plan.now) (c.loop-planned.invariant.4 lanes)),
   λ keep. c.in_ok-open_next.ensures.keeps (c.loop-planned.invariant.5 keep),
 )
 
 pub returns-clause-queues : goal.returns-clause-queues
-returns-clause-queues g c = λ queues lanes.
+returns-clause-queues g c = λ lanes.
     let whole : take c.loop-planned.planned-index c.args.plan.now ≡ c.args.plan.now = take_all c.loop-planned.planned-index c.args.plan.now (omega arith) in
-    subst (λ (ps : List PlannedQueue). WasLeft c.loop-planned.front.left (λ left. HasQueues left ps) × AreOf (length ps) c.loop-planned.lanes.items) whole
-    (c.loop-planned.invariant.4 queues lanes)
+    subst (λ (ps : List PlannedQueue). AreOf (length ps) c.loop-planned.lanes.items) whole (c.loop-planned.invariant.4 lanes)

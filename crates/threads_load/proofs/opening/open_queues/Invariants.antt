@@ -4,13 +4,12 @@ use Rattle.std.specs.Prelude.{All}
 use mathlib.Core.List.{IsPrefix}
 use Rattle.client_threads.specs.HandedOver.{KeepsAll}
 use Rattle.client_threads.specs.Running.{IsEndOf, IsLaneOf}
-use Rattle.threads_load.specs.Stages.{AreOf, HasQueues, WasLeft}
+use Rattle.threads_load.specs.Stages.{AreOf}
 use Rattle.threads_load.proofs.opening.open_queues.Given as goal
 
 abbrev pub invariant-loop-planned : goal.invariant-loop-planned
 invariant-loop-planned g l =
     (l.front.board ≡ g.B.Room.board) × All (λ end. IsEndOf l.broker end) l.ends.items × All (λ lane. IsLaneOf g.B.Room.board l.broker lane) l.lanes.items
     × IsPrefix l.initial.front.left l.front.left
-    × (WasLeft l.initial.front.left (λ left. HasQueues left []) → AreOf 0 l.initial.lanes.items
-    → WasLeft l.front.left (λ left. HasQueues left (take l.planned-index l.plan)) × AreOf (length (take l.planned-index l.plan)) l.lanes.items)
+    × (AreOf 0 l.initial.lanes.items → AreOf (length (take l.planned-index l.plan)) l.lanes.items)
     × (All KeepsAll l.initial.lanes.items → All KeepsAll l.lanes.items)

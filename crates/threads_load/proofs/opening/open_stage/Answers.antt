@@ -1,4 +1,7 @@
-use Rattle.std.proofs.Common.{◌≡◌, [], rules}
+use Rattle.std.proofs.Common.{◌≡◌, [], List, rules, subst, sym}
+use Rattle.std.specs.Prelude.{All}
+use Rattle.client_threads.specs.Rings.{QueueRing}
+use Rattle.client_threads.specs.Running.{IsEndOf, IsLaneOf}
 use Rattle.client_threads.proofs.HandingOver.{keeps_all_settled}
 use Rattle.threads_load.proofs.Belonging.{none_keep}
 use Rattle.threads_load.proofs.Planned.{is_ready}
@@ -8,13 +11,13 @@ pub returns-clause-stage : goal.returns-clause-stage
 returns-clause-stage g c =
     let none : c.new-lanes.result.items ≡ [] = search rules in
     record {
-      front = c.open_queues.ensures.front;
-      ends = c.in_ok-open_queues.ensures.ends;
-      lanes = c.in_ok-open_queues.ensures.lanes;
+      front = c.look_alone.ensures.front;
+      ends = subst (λ (rings : List QueueRing). All (λ end. IsEndOf rings end) c.open_queues.new.ends.items) (sym c.look_alone.ensures.rings) c.in_ok-open_queues.ensures.ends;
+      lanes = subst (λ (rings : List QueueRing). All (λ lane. IsLaneOf g.B.Room.board rings lane) c.open_queues.new.lanes.items) (sym c.look_alone.ensures.rings) c.in_ok-open_queues.ensures.lanes;
       settled = keeps_all_settled _ (c.in_ok-open_queues.ensures.keeps (none_keep c.new-lanes.result.items none));
     }
 
 pub returns-clause-ready : goal.returns-clause-ready
 returns-clause-ready g c = λ granted.
     let none : c.new-lanes.result.items ≡ [] = search rules in
-    is_ready c.args.plan.now c.args.front.left _ granted c.open_queues.ensures.begins c.new-lanes.result.items none c.in_ok-open_queues.ensures.queues
+    is_ready g.B.Room.opened c.args.plan.now c.args.front.left c.open_queues.new.front.left _ granted c.open_queues.ensures.begins c.in_ok-look_alone.ensures.section c.new-lanes.result.items none c.in_ok-open_queues.ensures.queues

@@ -16,20 +16,27 @@ pub invariant_of-world : goal.invariant_of-world
 invariant_of-world c =
     let s = c.world.inside in
     let h = c.world.invariant.0 in
+    let core = s.core.history in
+    let old = s.rings.items in
+    let new = c.reserve.new.rings.items in
     let asked = request.Step c.args.queue (step_by c.args.producer Reserve) in
-    let obeys = reserving s.core.history c.args.queue c.args.producer s.rings.items c.reserve.result c.reserve.new.rings.items c.reserve.ensures in
+    let obeys = reserving core s.closed c.args.queue c.args.producer old c.reserve.result new c.reserve.ensures in
     let told = as_step c.reserve.result in
-    let new : Joined = World s.core.history c.reserve.new.rings.items in
-    let served = obeyed_served s.core.history s.core.history s.rings.items c.reserve.new.rings.items c.world.invariant.1 told asked obeys in (
-      record { first = h.first; prior = h.prior ++ handed told; behind = served_kept h.first h.prior (World s.core.history s.rings.items) h.behind asked told new served },
-      obeyed_decided s.core.history s.core.history s.rings.items c.reserve.new.rings.items h.first h.prior h.behind c.world.invariant.1 told asked obeys,
+    let after : Joined = World core new s.closed in
+    let served = obeyed_served core core old s.closed new s.closed c.world.invariant.1 told asked obeys in (
+      record { first = h.first; prior = h.prior ++ handed told; behind = served_kept h.first h.prior (World core old s.closed) h.behind asked told after served },
+      obeyed_decided core core old s.closed new s.closed h.first h.prior h.behind c.world.invariant.1 told asked obeys,
     )
 
 pub returns : goal.returns
 returns c =
     let s = c.world.inside in
+    let h = c.world.invariant.0 in
+    let core = s.core.history in
+    let old = s.rings.items in
+    let new = c.reserve.new.rings.items in
     let asked = request.Step c.args.queue (step_by c.args.producer Reserve) in
-    let obeys = reserving s.core.history c.args.queue c.args.producer s.rings.items c.reserve.result c.reserve.new.rings.items c.reserve.ensures in
-    let served = obeyed_served s.core.history s.core.history s.rings.items c.reserve.new.rings.items c.world.invariant.1 (as_step c.reserve.result) asked obeys in
-    subst (λ (w : Joined). reads c.args.queue c.args.producer Reserve w c.reserve.result (World s.core.history c.reserve.new.rings.items)) c.world.view_is
-    (reserved c.args.queue c.args.producer (World s.core.history s.rings.items) c.reserve.result (World s.core.history c.reserve.new.rings.items) served)
+    let obeys = reserving core s.closed c.args.queue c.args.producer old c.reserve.result new c.reserve.ensures in
+    let served = obeyed_served core core old s.closed new s.closed c.world.invariant.1 (as_step c.reserve.result) asked obeys in
+    subst (λ (w : Joined). reads c.args.queue c.args.producer Reserve w c.reserve.result (World core new s.closed)) c.world.view_is
+    (reserved c.args.queue c.args.producer (World core old s.closed) c.reserve.result (World core new s.closed) served)

@@ -5,7 +5,9 @@ use Rattle.policy.specs.Policy.{region_lengths}
 use Rattle.core_model.specs.Queues.{error_of}
 use Rattle.core_model.specs.declared.entry.Entry.{Entry}
 use Rattle.core_model.specs.Legal.{IsWhole}
-use Rattle.world.specs.InStep.{Stands}
+use Rattle.world.specs.States.{closed_ring_of, ring_of}
+use Rattle.world.proofs.Closed.{closed_are, rings_are, stood_so}
+use Rattle.world.proofs.Joining.{stands_so}
 use Rattle.world.proofs.laws.headline_of.Goals as goal
 use Rattle.core_model.specs.History.{Start, beginning, opening_state}
 
@@ -41,7 +43,10 @@ returns c = λ first prior world over h.
         load = λ client signal known none. c.law_calls_without_their_right_are_denied.ensures.load (beginning world.core) world.core.entries client signal known none;
         test = λ client signal condition value known none. c.law_calls_without_their_right_are_denied.ensures.test (beginning world.core) world.core.entries client signal condition value known none;
       };
-      ring_count = h.count;
-      ring_sizes = h.sizes;
-      in_step = λ queue ring found. (subst (Stands world.core all queue) found (h.each queue)).1;
+      rings = λ queue. rings_are world.core all queue (ring_of world queue) (closed_ring_of world queue) (h.each queue);
+      ring_sizes = λ queue ring found. (stands_so first prior world h queue ring found).0.size;
+      in_step = λ queue ring found. (stands_so first prior world h queue ring found).0.in_step;
+      closed = λ queue. closed_are world.core all queue (ring_of world queue) (closed_ring_of world queue) (h.each queue);
+      closed_sizes = λ queue ring found. (stood_so first prior world h queue ring found).0.size;
+      closed_in_step = λ queue ring found. (stood_so first prior world h queue ring found).0.in_step;
     }

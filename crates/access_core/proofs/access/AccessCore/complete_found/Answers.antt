@@ -20,7 +20,7 @@ pub leave_flight-requires-clause-there : goal.leave_flight-requires-clause-there
 leave_flight-requires-clause-there c =
     let a = c.self.inside in
     let at = open-of a c.self.invariant _ (seen c.self.view_is) c.args.queue c.args.found.packet c.requires.finished.place c.requires.finished.found in
-    (at.q, at.found)
+    (at.q, at.found, at.ascending)
 
 pub leave_flight-requires-clause-found : goal.leave_flight-requires-clause-found
 leave_flight-requires-clause-found c = found-of c.self.inside c.self.invariant _ (seen c.self.view_is) c.args.queue c.args.found c.requires.at
@@ -51,8 +51,8 @@ invariant_of-self c =
       memory = memory-still a.memory _ (λ x byte. memory-completed a.signals (completion_signal p) c.args.queue c.args.found.packet x byte);
       values = rw completed at c.complete-effects.ensures.values;
       queues = rw (c.leave_flight.ensures.queues, c.leave_flight.ensures.in_flight_count)
-          (queues-released a c.self.invariant c.args.queue c.args.found.packet _ _ _ is refl at (with_leaving (Some c.args.found.packet) leaving.Completed) (λ v. record v { places = without_packet c.args.found.packet v.places })
-          refl (sound-released at.q c.args.found.packet at.sound) refl (λ m v. grind arith));
+          (queues-released a c.self.invariant c.args.queue c.args.found.packet _ _ _ is (λ all. refl) at (with_leaving (Some c.args.found.packet) leaving.Completed) (λ v. record v { places = without_packet c.args.found.packet v.places })
+          (λ q. refl) (sound-released at.q c.args.found.packet at.sound) refl (λ m v. grind arith));
       block_room = rw (c.leave_flight.ensures.queues, c.leave_flight.ensures.in_flight_count)
           (room-left a c.self.invariant c.args.queue at (Some c.args.found.packet) leaving.Completed _ c.leave_flight.ensures.places (freed-below a c.self.invariant c.args.queue c.args.found.packet at));
     })
@@ -63,5 +63,5 @@ returns-clause-places c =
     let a = c.self.inside in
     let at = open-of a c.self.invariant _ (seen c.self.view_is) c.args.queue c.args.found.packet c.requires.finished.place c.requires.finished.found in
     places-kept a _ c.self.view_is c.leave_flight.new.queues a.grants c.leave_flight.new.blocks c.enter.new.audit _ c.leave_flight.ensures.capacity
-    (ap (map error_places) c.leave_flight.ensures.queues ∙ errors-changed a.queues.items c.args.queue (with_leaving (Some c.args.found.packet) leaving.Completed) at.q at.found refl)
+    (ap (map error_places) c.leave_flight.ensures.queues ∙ errors-changed a.queues.items c.args.queue (with_leaving (Some c.args.found.packet) leaving.Completed) at.q at.found at.ascending refl)
     refl c.leave_flight.ensures.places c.enter.ensures

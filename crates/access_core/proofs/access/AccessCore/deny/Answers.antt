@@ -41,5 +41,5 @@ returns-clause-places c =
     let can = can-deny a c.self.invariant c.args.queue c.args.packet c.args.bytes.now
     (can-take a c.self.invariant c.args.queue (subst (λ h. TakesNext h c.args.queue) (sym (seen c.self.view_is)) c.requires.1)) in
     places-kept a _ c.self.view_is c.fail_next.new.queues c.self.inside.grants c.self.inside.blocks c.enter.new.audit _ c.fail_next.ensures.capacity
-    (ap (map error_places) c.fail_next.ensures.queues ∙ errors-changed a.queues.items c.args.queue (with_denied error) can.0 can.1 (denied-places can.0 error can.2))
+    (ap (map error_places) c.fail_next.ensures.queues ∙ errors-changed a.queues.items c.args.queue (with_denied error) can.0 can.1 can.4 (denied-places can.0 error can.2))
     refl refl c.enter.ensures

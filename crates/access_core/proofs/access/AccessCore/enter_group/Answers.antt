@@ -47,7 +47,7 @@ lay_changes-requires c =
 pub advance-requires-clause-there : goal.advance-requires-clause-there
 advance-requires-clause-there c =
     let at = open-of c.self.inside c.self.invariant _ (seen c.self.view_is) c.args.queue c.args.found.packet c.args.place c.requires.found in
-    (at.q, at.found)
+    (at.q, at.found, at.ascending)
 
 pub advance-requires-clause-found : goal.advance-requires-clause-found
 advance-requires-clause-found c = found-of c.self.inside c.self.invariant _ (seen c.self.view_is) c.args.queue c.args.found c.requires.at
@@ -71,7 +71,7 @@ invariant_of-self c =
             (c.as_slice.ensures.value ∙ c.in_ok-changes.ensures) c.lay_changes.ensures.changed;
       };
       values = sym ((runs-write c.args.runs).signals a.signals);
-      queues = rw c.advance.ensures.queues (queues-advanced a c.self.invariant c.args.queue at c.args.found.packet one_group _ _ _ is refl _
+      queues = rw c.advance.ensures.queues (queues-advanced a c.self.invariant c.args.queue at c.args.found.packet one_group _ _ _ is (λ all. refl) _
           (c.one_more.ensures ∙ ap one_group (sym found.progress_is)));
       block_room = rw c.advance.ensures.queues (room-advanced a c.self.invariant c.args.queue at c.args.found.packet _);
     })
@@ -89,5 +89,5 @@ returns-clause-places c =
     let a = c.self.inside in
     let at = open-of a c.self.invariant _ (seen c.self.view_is) c.args.queue c.args.found.packet c.args.place c.requires.found in
     places-kept a _ c.self.view_is c.advance.new.queues c.self.inside.grants c.self.inside.blocks c.enter.new.audit _ c.advance.ensures.capacity
-    (ap (map error_places) c.advance.ensures.queues ∙ errors-changed a.queues.items c.args.queue (with_advance c.args.found.packet _) at.q at.found refl)
+    (ap (map error_places) c.advance.ensures.queues ∙ errors-changed a.queues.items c.args.queue (with_advance c.args.found.packet _) at.q at.found at.ascending refl)
     refl refl c.enter.ensures

@@ -52,8 +52,8 @@ invariant_of-self c =
       memory = memory-still a.memory _ (λ x byte. refl);
       values = refl;
       queues = rw (c.leave_flight.ensures.queues, c.leave_flight.ensures.in_flight_count)
-          (queues-released a c.self.invariant c.args.queue c.args.found.packet _ _ _ is refl at (with_leaving (Some c.args.found.packet) (leaving.Failed error)) (failed error c.args.found.packet)
-          refl (sound-failed a c.self.invariant c.args.queue c.args.found.packet at error found.flying found.found) refl (λ m v. grind arith));
+          (queues-released a c.self.invariant c.args.queue c.args.found.packet _ _ _ is (λ all. refl) at (with_leaving (Some c.args.found.packet) (leaving.Failed error)) (failed error c.args.found.packet)
+          (λ q. refl) (sound-failed a c.self.invariant c.args.queue c.args.found.packet at error found.flying found.found) refl (λ m v. grind arith));
       block_room = rw (c.leave_flight.ensures.queues, c.leave_flight.ensures.in_flight_count)
           (room-left a c.self.invariant c.args.queue at (Some c.args.found.packet) (leaving.Failed error) _ c.leave_flight.ensures.places (freed-below a c.self.invariant c.args.queue c.args.found.packet at));
     })
@@ -73,6 +73,6 @@ returns-clause-places c =
     let found = place-inside a _ (seen c.self.view_is) c.args.queue c.args.found.packet c.args.place c.requires.found in
     let can = can-fail a c.self.invariant c.args.queue c.args.found.packet (is-open a c.self.invariant c.args.queue found.opening found.owner_is) found.flying found.found in
     places-kept a _ c.self.view_is c.leave_flight.new.queues a.grants c.leave_flight.new.blocks c.enter.new.audit _ c.leave_flight.ensures.capacity
-    (ap (map error_places) c.leave_flight.ensures.queues ∙ errors-changed a.queues.items c.args.queue (with_leaving (Some c.args.found.packet) (leaving.Failed error)) can.0 can.1
+    (ap (map error_places) c.leave_flight.ensures.queues ∙ errors-changed a.queues.items c.args.queue (with_leaving (Some c.args.found.packet) (leaving.Failed error)) can.0 can.1 can.4
     (failed-places can.0 c.args.found.packet error can.2))
     refl c.leave_flight.ensures.places c.enter.ensures

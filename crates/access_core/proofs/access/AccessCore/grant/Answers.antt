@@ -41,7 +41,7 @@ invariant_of-self c =
       };
       memory = memory-still a.memory [] (λ x byte. refl);
       values = refl;
-      queues = queues-still a c.self.invariant _ _ _ calm refl;
+      queues = queues-still a c.self.invariant _ _ _ calm (λ all. refl);
       block_room = c.self.invariant.block_room;
     })
     _ (seen c.self.view_is) (grant-due a c.self.invariant c.args.client c.args.object c.args.rights _ (seen c.self.view_is) (sym c.in_default.is ∙ c.may_grant.ensures) false

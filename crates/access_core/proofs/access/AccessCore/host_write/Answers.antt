@@ -26,7 +26,7 @@ invariant_of-self c =
         memory = λ x byte before. byte_at-written _ _ c.args.address c.args.bytes x byte (rw c.as_slice-2.ensures at c.lay.ensures.bytes) before;
       };
       values = refl;
-      queues = queues-still a c.self.invariant _ _ _ calm refl;
+      queues = queues-still a c.self.invariant _ _ _ calm (λ all. refl);
       block_room = c.self.invariant.block_room;
     })
     _ (seen c.self.view_is) c.in_ok-may_write.ensures.may

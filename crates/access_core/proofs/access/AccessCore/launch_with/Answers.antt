@@ -21,7 +21,7 @@ pub place_next-requires-clause-free : goal.place_next-requires-clause-free
 place_next-requires-clause-free c =
     let a = c.self.inside in
     let can = can-take a c.self.invariant c.args.queue (subst (λ h. TakesNext h c.args.queue) (sym (seen c.self.view_is)) c.requires.decided.3) in
-    (can.opened.q, can.opened.found, can.few, can.opened.small)
+    (can.opened.q, can.opened.found, can.few, can.opened.small, can.opened.ascending)
 
 pub place_next-requires-clause-above : goal.place_next-requires-clause-above
 place_next-requires-clause-above c =
@@ -97,5 +97,5 @@ returns-clause-places c =
     let a = c.self.inside in
     let can = can-take a c.self.invariant c.args.queue (subst (λ h. TakesNext h c.args.queue) (sym (seen c.self.view_is)) c.requires.decided.3) in
     places-kept a _ c.self.view_is c.place_next.new.queues a.grants c.push.new.self c.enter.new.audit _ c.place_next.ensures.capacity
-    (ap (map error_places) c.place_next.ensures.queues ∙ errors-changed a.queues.items c.args.queue (with_launched c.args.packet _) can.opened.q can.opened.found refl)
+    (ap (map error_places) c.place_next.ensures.queues ∙ errors-changed a.queues.items c.args.queue (with_launched c.args.packet _) can.opened.q can.opened.found can.opened.ascending refl)
     refl c.push.ensures.places c.enter.ensures

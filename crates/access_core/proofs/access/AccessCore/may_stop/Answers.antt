@@ -4,7 +4,7 @@ use Rattle.access_core.proofs.Seen.{seen}
 use Rattle.access_core.proofs.Calls.{due-by}
 use Rattle.access_core.proofs.StopLemmas.{may-stop, stop-full, stop-known, stop-unknown}
 use Rattle.access_core.proofs.access.AccessCore.may_stop.Goals.{else-is_none-via-then-is_none+else-is_full, else-is_none-via-else-is_none}
-use Rattle.access_core.proofs.Terms.{Call, FoundPacket, Stop, due, numbered, packet_in, refuses}
+use Rattle.access_core.proofs.Terms.{Call, FoundPacket, Stop, due, queue_in, packet_in, refuses}
 use Rattle.core_model.proofs.Room.{stop-finds}
 use Rattle.access_core.proofs.Rooms.{never-due, roomy-seen}
 use Rattle.core_model.specs.declared.refusal.Refusal.TheVariants as refusal
@@ -20,7 +20,7 @@ returns-in-None-clause-why = grind (arith, stop-unknown)
 
 pub returns-then-kept-clause-why : goal.returns-then-kept-clause-why
 returns-then-kept-clause-why c =
-    let some : numbered c.self.inside.queues.items c.args.queue.0 ≡ Some c.in-Some.kept.now = cc c.in-Some.ensures in
+    let some : queue_in c.self.inside.queues.items c.args.queue ≡ Some c.in-Some.kept.now = cc c.in-Some.ensures in
     due-by c.self.inside _ (seen c.self.view_is) (Call (Stop c.args.queue)) (refuses refusal.QueueDown)
     (stop-known c.self.inside c.self.invariant c.args.queue _ some ∙ (rw c.if-kept.true refl))
 
@@ -34,7 +34,7 @@ returns-then-is_full-clause-room c = λ id some is.
 
 pub returns-clause-may : goal.returns-clause-may
 returns-clause-may c =
-    let some : numbered c.self.inside.queues.items c.args.queue.0 ≡ Some c.in-Some.kept.now = cc c.in-Some.ensures in
+    let some : queue_in c.self.inside.queues.items c.args.queue ≡ Some c.in-Some.kept.now = cc c.in-Some.ensures in
     elim c.else-is_none.branch [
       | else-is_none-via-then-is_none+else-is_full w ↦
           may-stop c.self.inside c.self.invariant c.args.queue _ _ true _ (seen c.self.view_is) some c.if-kept.false c.barrier-barrier.ensures.first

@@ -6,7 +6,7 @@ use Rattle.access_core.proofs.Seen.{seen}
 use Rattle.access_core.proofs.Calls.{due-by}
 use Rattle.access_core.proofs.TakeLemmas.{judged-inside, owner-kept, room-launched, take-unknown, take-known, within-launched, takes-next}
 use Rattle.access_core.proofs.Terms.{Denied, History, Launched, Place, Take, TakesNext, Waiting, answers, barrier_bit, cached_opening, enters}
-use Rattle.access_core.proofs.Terms.{error_without_place, start_of, lies_in_regions, cause_to_wait, numbered, owner, refuses, region_lengths}
+use Rattle.access_core.proofs.Terms.{error_without_place, start_of, lies_in_regions, cause_to_wait, queue_in, owner, refuses, region_lengths}
 use Rattle.core_model.specs.declared.outcome.Outcome.TheVariants as outcome
 use Rattle.core_model.specs.declared.refusal.Refusal.TheVariants as refusal
 use Rattle.access_core.proofs.access.AccessCore.may_take.Goals as goal
@@ -16,14 +16,14 @@ returns-in-None-clause-why = grind (arith, take-unknown)
 
 pub returns-then-is_down-clause-why : goal.returns-then-is_down-clause-why
 returns-then-is_down-clause-why c =
-    let some : numbered c.self.inside.queues.items c.args.queue.0 ≡ Some c.in-Some.kept.now = cc c.in-Some.ensures in
+    let some : queue_in c.self.inside.queues.items c.args.queue ≡ Some c.in-Some.kept.now = cc c.in-Some.ensures in
     let down : (nat_lt 0 (length c.in-Some.kept.now.errors.items) || c.in-Some.kept.now.stopped) ≡ true = cc in
     due-by c.self.inside _ (seen c.self.view_is) (Take c.args.queue c.args.packet c.args.bytes.now) (refuses refusal.QueueDown)
     (take-known c.self.inside c.self.invariant _ _ _ _ some ∙ (rw down refl))
 
 pub returns-then-packet-kept-clause-why : goal.returns-then-packet-kept-clause-why
 returns-then-packet-kept-clause-why c =
-    let some : numbered c.self.inside.queues.items c.args.queue.0 ≡ Some c.in-Some.kept.now = cc c.in-Some.ensures in
+    let some : queue_in c.self.inside.queues.items c.args.queue ≡ Some c.in-Some.kept.now = cc c.in-Some.ensures in
     let down : (nat_lt 0 (length c.in-Some.kept.now.errors.items) || c.in-Some.kept.now.stopped) ≡ false = cc in
     let other : (c.args.packet.0 == c.in-Some.kept.now.next) ≡ false = search rules in
     due-by c.self.inside _ (seen c.self.view_is) (Take c.args.queue c.args.packet c.args.bytes.now) (refuses (refusal.OutOfStep c.in-Some.kept.now.next))
@@ -31,7 +31,7 @@ returns-then-packet-kept-clause-why c =
 
 pub returns-in-Waiting-clause-may : goal.returns-in-Waiting-clause-may
 returns-in-Waiting-clause-may c =
-    let some : numbered c.self.inside.queues.items c.args.queue.0 ≡ Some c.in-Some.kept.now = cc c.in-Some.ensures in
+    let some : queue_in c.self.inside.queues.items c.args.queue ≡ Some c.in-Some.kept.now = cc c.in-Some.ensures in
     let down : (nat_lt 0 (length c.in-Some.kept.now.errors.items) || c.in-Some.kept.now.stopped) ≡ false = cc in
     let next : (c.args.packet.0 == c.in-Some.kept.now.next) ≡ true = search rules in
     let told : cause_to_wait (map (λ (p : Place). p.packet) c.in-Some.kept.now.places) c.header.result.barrier ≡ Some c.in-Waiting.cause =
@@ -43,7 +43,7 @@ returns-in-Waiting-clause-may c =
 
 pub returns-then-is_full_for_launch-clause-why : goal.returns-then-is_full_for_launch-clause-why
 returns-then-is_full_for_launch-clause-why c =
-    let some : numbered c.self.inside.queues.items c.args.queue.0 ≡ Some c.in-Some.kept.now = cc c.in-Some.ensures in
+    let some : queue_in c.self.inside.queues.items c.args.queue ≡ Some c.in-Some.kept.now = cc c.in-Some.ensures in
     let down : (nat_lt 0 (length c.in-Some.kept.now.errors.items) || c.in-Some.kept.now.stopped) ≡ false = cc in
     let next : (c.args.packet.0 == c.in-Some.kept.now.next) ≡ true = search rules in
     let waits : cause_to_wait (map (λ (p : Place). p.packet) c.in-Some.kept.now.places) (barrier_bit c.args.bytes.now) ≡ None =
@@ -55,7 +55,7 @@ returns-then-is_full_for_launch-clause-why c =
 
 pub returns-then-is_full-clause-why : goal.returns-then-is_full-clause-why
 returns-then-is_full-clause-why c =
-    let some : numbered c.self.inside.queues.items c.args.queue.0 ≡ Some c.in-Some.kept.now = cc c.in-Some.ensures in
+    let some : queue_in c.self.inside.queues.items c.args.queue ≡ Some c.in-Some.kept.now = cc c.in-Some.ensures in
     let down : (nat_lt 0 (length c.in-Some.kept.now.errors.items) || c.in-Some.kept.now.stopped) ≡ false = cc in
     let next : (c.args.packet.0 == c.in-Some.kept.now.next) ≡ true = search rules in
     let waits : cause_to_wait (map (λ (p : Place). p.packet) c.in-Some.kept.now.places) (barrier_bit c.args.bytes.now) ≡ None =
@@ -68,7 +68,7 @@ returns-then-is_full-clause-why c =
 
 pub returns-else-is_full_for_launch-clause-may : goal.returns-else-is_full_for_launch-clause-may
 returns-else-is_full_for_launch-clause-may c =
-    let some : numbered c.self.inside.queues.items c.args.queue.0 ≡ Some c.in-Some.kept.now = cc c.in-Some.ensures in
+    let some : queue_in c.self.inside.queues.items c.args.queue ≡ Some c.in-Some.kept.now = cc c.in-Some.ensures in
     let down : (nat_lt 0 (length c.in-Some.kept.now.errors.items) || c.in-Some.kept.now.stopped) ≡ false = cc in
     let next : (c.args.packet.0 == c.in-Some.kept.now.next) ≡ true = search rules in
     let waits : cause_to_wait (map (λ (p : Place). p.packet) c.in-Some.kept.now.places) (barrier_bit c.args.bytes.now) ≡ None =
@@ -90,7 +90,7 @@ returns-else-is_full_for_launch-clause-may c =
 
 pub returns-else-is_full-clause-may : goal.returns-else-is_full-clause-may
 returns-else-is_full-clause-may c =
-    let some : numbered c.self.inside.queues.items c.args.queue.0 ≡ Some c.in-Some.kept.now = cc c.in-Some.ensures in
+    let some : queue_in c.self.inside.queues.items c.args.queue ≡ Some c.in-Some.kept.now = cc c.in-Some.ensures in
     let down : (nat_lt 0 (length c.in-Some.kept.now.errors.items) || c.in-Some.kept.now.stopped) ≡ false = cc in
     let next : (c.args.packet.0 == c.in-Some.kept.now.next) ≡ true = search rules in
     let waits : cause_to_wait (map (λ (p : Place). p.packet) c.in-Some.kept.now.places) (barrier_bit c.args.bytes.now) ≡ None =

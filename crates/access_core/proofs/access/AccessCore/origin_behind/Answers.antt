@@ -1,5 +1,5 @@
 -- Copies of the fields give the answers of the state behind the audit.
-use Rattle.std.proofs.Common.{◌≡◌, ◌+◌, ◌∙◌, List, All, map, sym, ap, subst, true}
+use Rattle.std.proofs.Common.{◌≡◌, ◌+◌, ◌∙◌, List, All, map, refl, sym, ap, subst, true}
 use Rattle.std.specs.List.{filter_map}
 use Rattle.core_model.specs.declared.origin.Origin.{Origin}
 use Rattle.core_model.specs.History.{History, begin, beginning}
@@ -24,6 +24,7 @@ returns-clause-begins c =
       grants = c.in_ok-grants_holding.field-0;
       memory = c.in_ok-copy-2.field-0;
       signals = c.in_ok-copy-3.field-0;
+      opened = c.self.inside.opened;
       queues = c.in_ok-queue_origins.field-0;
       packets = c.in_ok-packet_origins.field-0;
       before = c.entries_before.result + c.len.result;
@@ -35,7 +36,7 @@ returns-clause-begins c =
     subst (λ (h : History). begin h.kernels o ≡ state_after (beginning h) h.entries) (seen c.self.view_is)
     (copied-behind a c.self.invariant o policy_is
     (subst (λ (blocks : List ArgumentBlock). IsHolding a.grants blocks c.in_ok-grants_holding.field-0) c.as_slice.ensures c.in_ok-grants_holding.ensures)
-    c.in_ok-copy-2.ensures c.in_ok-copy-3.ensures
+    c.in_ok-copy-2.ensures c.in_ok-copy-3.ensures refl
     (c.in_ok-queue_origins.ensures ∙ ap (map queue_origin) c.as_slice-2.ensures.value)
     (c.in_ok-packet_origins.ensures ∙ (λ i. filter_map (packet_origin (c.as_slice-3.ensures.value i)) (c.as_slice-4.ensures i)))
     (λ i. before_is i + c.len.ensures i) fit)

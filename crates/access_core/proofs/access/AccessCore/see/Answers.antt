@@ -18,7 +18,7 @@ pub advance-requires-clause-there : goal.advance-requires-clause-there
 advance-requires-clause-there c =
     let a = c.self.inside in
     let at = open-of a c.self.invariant _ (seen c.self.view_is) c.args.queue c.args.found.packet c.args.place c.requires.found in
-    (at.q, at.found)
+    (at.q, at.found, at.ascending)
 
 pub advance-requires-clause-found : goal.advance-requires-clause-found
 advance-requires-clause-found c = found-of c.self.inside c.self.invariant _ (seen c.self.view_is) c.args.queue c.args.found c.requires.at
@@ -36,7 +36,7 @@ invariant_of-self c =
       grants = grants-still a c.self.invariant _ _ _ refl is.stays (λ client on right b. refl) (λ rows. refl) (flight-advanced (start_of a) a.audit.items _ _ _ c.args.queue c.args.found.packet _ is);
       memory = memory-still a.memory _ (λ x byte. refl);
       values = refl;
-      queues = rw c.advance.ensures.queues (queues-advanced a c.self.invariant c.args.queue at c.args.found.packet (seen_further c.args.new) _ _ _ is refl _
+      queues = rw c.advance.ensures.queues (queues-advanced a c.self.invariant c.args.queue at c.args.found.packet (seen_further c.args.new) _ _ _ is (λ all. refl) _
           ((λ i. record { groups_run = c.args.place.progress.groups_run; satisfied = c.satisfied_by_either.ensures i }) ∙ ap (seen_further c.args.new) (sym found.progress_is)));
       block_room = rw c.advance.ensures.queues (room-advanced a c.self.invariant c.args.queue at c.args.found.packet _);
     })
@@ -47,5 +47,5 @@ returns-clause-places c =
     let a = c.self.inside in
     let at = open-of a c.self.invariant _ (seen c.self.view_is) c.args.queue c.args.found.packet c.args.place c.requires.found in
     places-kept a _ c.self.view_is c.advance.new.queues c.self.inside.grants c.self.inside.blocks c.enter.new.audit _ c.advance.ensures.capacity
-    (ap (map error_places) c.advance.ensures.queues ∙ errors-changed a.queues.items c.args.queue (with_advance c.args.found.packet _) at.q at.found refl)
+    (ap (map error_places) c.advance.ensures.queues ∙ errors-changed a.queues.items c.args.queue (with_advance c.args.found.packet _) at.q at.found at.ascending refl)
     refl refl c.enter.ensures

@@ -32,7 +32,7 @@ invariant_of-self c =
       grants = grants-still c.self.inside c.self.invariant _ _ _ refl calm.stays (λ client on right b. refl) (λ rows. refl) (flight-quiet (start_of c.self.inside) c.self.inside.audit.items _ _ _ calm);
       memory = memory-still c.self.inside.memory _ (λ x byte. refl);
       values = values;
-      queues = queues-still c.self.inside c.self.invariant _ _ _ calm refl;
+      queues = queues-still c.self.inside c.self.invariant _ _ _ calm (λ all. refl);
       block_room = c.self.invariant.block_room;
     })
     _ (seen c.self.view_is) c.in_ok-old.ensures.may

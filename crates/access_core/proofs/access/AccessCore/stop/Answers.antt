@@ -52,5 +52,5 @@ returns-clause-places c =
     let barrier = packet_in c.in_ok-barrier.barrier in
     let at = stop-open a c.self.invariant c.args.queue _ _ (owed-inside a c.self.invariant _ (seen c.self.view_is) _ _ _ c.in_ok-barrier.ensures.may) in
     places-kept a _ c.self.view_is c.leave_flight.new.queues a.grants c.leave_flight.new.blocks c.enter.new.audit _ c.leave_flight.ensures.capacity
-    (ap (map error_places) c.leave_flight.ensures.queues ∙ errors-changed a.queues.items c.args.queue (with_leaving barrier leaving.Stopped) at.q at.found refl)
+    (ap (map error_places) c.leave_flight.ensures.queues ∙ errors-changed a.queues.items c.args.queue (with_leaving barrier leaving.Stopped) at.q at.found at.ascending refl)
     refl c.leave_flight.ensures.places c.enter.ensures

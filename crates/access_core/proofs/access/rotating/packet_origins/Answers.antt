@@ -4,10 +4,9 @@ use Rattle.std.specs.List.{cons_option, filter_map}
 use Rattle.std.specs.Option.{option_copied}
 use Rattle.std.proofs.lemmas.List.{append-nil, take_more}
 use Rattle.std.proofs.lemmas.List.Elements.{filter_map-append}
-use Rattle.policy.specs.Policy.{numbered}
 use Rattle.core_model.specs.declared.origin.PacketOrigin.{PacketOrigin}
 use Rattle.access_core.specs.inner.Origins.{packet_origin, sought_in, told_origin}
-use Rattle.access_core.proofs.Terms.{ArgumentBlock, Place, Queue}
+use Rattle.access_core.proofs.Terms.{ArgumentBlock, Place, Queue, queue_in}
 use Rattle.access_core.proofs.access.rotating.packet_origins.Goals as goal
 use Rattle.access_core.proofs.access.rotating.packet_origins.Goals.{in-Some+in_ok-packet_origin+in_ok-push, in_default}
 
@@ -32,13 +31,13 @@ loop-block-preserved c =
     ∙ ap (λ (told : List PacketOrigin). told ++ option_to_list (packet_origin queues block)) (sym c.loop-block.invariant) in
     elim c.match-place_in.branch [
       | in-Some+in_ok-packet_origin+in_ok-push w ↦
-          let there : sought_in (numbered queues block.queue.0) block.packet ≡ Some w.in-Some.place.now = sym c.place_in.ensures ∙ ap option_copied w.in-Some.is in
+          let there : sought_in (queue_in queues block.queue) block.packet ≡ Some w.in-Some.place.now = sym c.place_in.ensures ∙ ap option_copied w.in-Some.is in
           let one : option_to_list (packet_origin queues block) ≡ told_origin block w.in-Some.place.now ∷ [] = ap (λ (o : Option Place). option_to_list (option_map (told_origin block) o)) there in
           w.origins-is ∙ w.in_ok-push.ensures.items
           ∙ ap (λ (p : PacketOrigin). so_far ++ p ∷ []) w.in_ok-packet_origin.ensures
           ∙ ap (λ (more : List PacketOrigin). so_far ++ more) (sym one) ∙ sym told
       | in_default w ↦
-          let none : sought_in (numbered queues block.queue.0) block.packet ≡ None = sym c.place_in.ensures ∙ ap option_copied w.in_default.is in
+          let none : sought_in (queue_in queues block.queue) block.packet ≡ None = sym c.place_in.ensures ∙ ap option_copied w.in_default.is in
           let nothing : option_to_list (packet_origin queues block) ≡ [] = ap (λ (o : Option Place). option_to_list (option_map (told_origin block) o)) none in
           w.origins-is ∙ sym (append-nil so_far) ∙ ap (λ (more : List PacketOrigin). so_far ++ more) (sym nothing) ∙ sym told
     ]

@@ -7,9 +7,8 @@ use Rattle.client_threads.specs.Desks.{seen}
 use Rattle.client_threads.specs.Opening.{AreOpened, IsOpened}
 use Rattle.client_threads.specs.Sections.{AllFollow, Follows, IsNext, last_of}
 use Rattle.client_threads.proofs.Fronts.{prefix_trans}
-use Rattle.client_threads.proofs.Opened.{grow_opened, next_is_fresh, opened_behind}
+use Rattle.client_threads.proofs.Opened.{grow_opened, next_is_fresh, opened_behind, opening_appends}
 use Rattle.client_threads.proofs.Sections.{all_snoc, appends_follow, last_snoc, section_of}
-use Rattle.client_threads.proofs.Turning.{call_appends}
 use Rattle.client_threads.proofs.room.Held.open_queue.Goals as goal
 
 pub invariant_of-self : goal.invariant_of-self
@@ -19,7 +18,7 @@ invariant_of-self g c =
     let new = c.open_beside-opened.new.core in
     let full = c.leave.ensures.keeper ∙ ap (λ (p : PassSeen). record { board = p.board; left = p.left ++ new ∷ [] }) (c.check-2.ensures.kept ∙ c.check.ensures.kept) in
     let inv = c.self.invariant in
-    let follows : Follows c.self.inside.core.history new.history = appends_follow _ _ (call_appends _ _ _ _ c.open_beside-opened.ensures.due) in
+    let follows : Follows c.self.inside.core.history new.history = appends_follow _ _ (opening_appends _ _ _ _ c.open_beside-opened.ensures.due) in
     let next : IsNext c.self.inside.core new = record { follows = follows; legal = c.audit-2.ensures.legal } in (
       ap (λ p. p.board) full ∙ inv.0,
       subst (AllFollow opened) (sym (ap (λ p. p.left) full)) (all_snoc opened left new inv.1 (subst (λ (k : Core). IsNext k new) (sym inv.2) next)),
@@ -34,7 +33,7 @@ returns-clause-section g c =
     let inv = c.self.invariant in
     let full = c.leave.ensures.keeper ∙ ap (λ (p : PassSeen). record { board = p.board; left = p.left ++ new ∷ [] }) (c.check-2.ensures.kept ∙ c.check.ensures.kept) in
     let begins : IsPrefix c.args.front.now.left left = subst (λ (t : PassSeen). IsPrefix t.left left) c.copy-begun.ensures.1 c.check.ensures.begins in
-    let follows : Follows c.self.inside.core.history new.history = appends_follow _ _ (call_appends _ _ _ _ c.open_beside-opened.ensures.due) in
+    let follows : Follows c.self.inside.core.history new.history = appends_follow _ _ (opening_appends _ _ _ _ c.open_beside-opened.ensures.due) in
     section_of g.B.Room.opened c.args.front.now.left c.copy-last.new.front.left left c.self.inside.core new inv.3 inv.1 inv.2 begins c.audit.ensures.legal
     (record { follows = follows; legal = c.audit-2.ensures.legal }) (rw c.with_front.ensures.number c.open_beside-opened.ensures.due)
     (ap (λ (p : PassSeen). p.left) (c.copy-last.ensures.0 ∙ (c.copy.ensures.0 ∙ (c.leave.ensures.front ∙ full))))
@@ -65,7 +64,7 @@ returns-clause-openings g c =
     let inv = c.self.invariant in
     let full = c.leave.ensures.keeper ∙ ap (λ (p : PassSeen). record { board = p.board; left = p.left ++ new ∷ [] }) (c.check-2.ensures.kept ∙ c.check.ensures.kept) in
     let begins : IsPrefix c.args.openings.now.left left = subst (λ (t : PassSeen). IsPrefix t.left left) c.copy-before.ensures.1 (subst (λ (t : PassSeen). IsPrefix c.copy-before.result.left t.left) c.check.ensures.kept c.check-2.ensures.begins) in
-    let follows : Follows c.self.inside.core.history new.history = appends_follow _ _ (call_appends _ _ _ _ c.open_beside-opened.ensures.due) in
+    let follows : Follows c.self.inside.core.history new.history = appends_follow _ _ (opening_appends _ _ _ _ c.open_beside-opened.ensures.due) in
     let next : IsNext c.self.inside.core new = record { follows = follows; legal = c.audit-2.ensures.legal } in
     let all : AllFollow opened (left ++ new ∷ []) = all_snoc opened left new inv.1 (subst (λ (k : Core). IsNext k new) (sym inv.2) next) in
     let more : IsPrefix left (left ++ new ∷ []) = (new ∷ [], refl) in

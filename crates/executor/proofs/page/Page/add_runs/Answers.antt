@@ -1,9 +1,17 @@
-use Rattle.std.proofs.Common.{◌+◌, ◌∙◌, sym, ap, subst, arith}
+use Rattle.std.proofs.Common.{◌≡◌, ◌==◌, true, ◌+◌, ◌∙◌, sym, ap, subst, arith}
+use Rattle.std.proofs.lemmas.Bool.Decides.{nat_tests}
 use Rattle.executor.specs.inner.Pages.{page_byte}
 use Rattle.executor.specs.inner.Told.{Gathers}
-use Rattle.executor.proofs.RunLemmas.{gathers_byte, gathers_gap}
+use Rattle.executor.proofs.RunLemmas.{gathers_byte, gathers_gap, gathers_nothing, untouched}
 use Rattle.executor.proofs.page.Page.add_runs.Goals as goal
 use Rattle.executor.proofs.page.Page.add_runs.Goals.{in-Some+in_ok-note, in_default}
+
+pub returns-then-is_untouched : goal.returns-then-is_untouched
+returns-then-is_untouched c =
+    let page = c.args.self.now in
+    let found : (page.mask == 0) ≡ true = sym c.is_untouched.ensures ∙ c.if-is_untouched.true in
+    let is : page.mask ≡ 0 = grind (arith, nat_tests) in
+    gathers_nothing c.args.base 64 (page_byte page) c.args.runs.now.items (untouched page is)
 
 pub loop-place-preserved : goal.loop-place-preserved
 loop-place-preserved c =

@@ -10,7 +10,7 @@ pub put-requires : goal.put-requires
 put-requires c =
     let at : place_of c.self.inside.rules c.args.client c.args.object ≡ Some c.in-Some.place = sym c.place_of.ensures ∙ c.in-Some.is in
     let within = place-within c.self.inside.rules c.args.client c.args.object c.in-Some.place at in
-    let long = c.self.invariant in
+    let long = c.self.invariant.0 in
     omega arith
 
 pub returns-in-Some-clause-cells : goal.returns-in-Some-clause-cells
@@ -20,4 +20,4 @@ returns-in-Some-clause-cells c = λ client object.
     ≡ (if same_pair client object c.args.client c.args.object then replacement c.args.cell (cell_of t client object) else cell_of t client object))
     c.self.view_is
     (ap (λ cells. item_at cells (place_of c.self.inside.rules client object)) c.put.ensures
-    ∙ cell-set c.self.inside.rules (boxed_slice_items c.self.inside.cells) c.self.invariant c.args.client c.args.object c.args.cell c.in-Some.place at client object)
+    ∙ cell-set c.self.inside.rules (boxed_slice_items c.self.inside.cells) c.self.invariant.0 c.args.client c.args.object c.args.cell c.in-Some.place at client object)

@@ -18,4 +18,4 @@ returns-clause-headline c =
     (λ first prior behind.
     let lengths : region_lengths first ≡ region_lengths c.policy.result.now =
     sym (ap (λ (now : Start). region_lengths now.policy) behind.start_is) ∙ sym (ap region_lengths c.policy.ensures) in
-    c.headline_of.ensures first prior (World c.self.inside.core.history c.self.inside.rings.items) lengths behind)
+    c.headline_of.ensures first prior (World c.self.inside.core.history c.self.inside.rings.items c.self.inside.closed) lengths behind)

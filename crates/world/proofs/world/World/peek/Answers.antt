@@ -10,11 +10,11 @@ use Rattle.world.proofs.world.World.peek.Goals as goal
 pub invariant_of-self : goal.invariant_of-self
 invariant_of-self c =
     let s = c.self.inside in
-    let did = collect_did s.core.history s.rings.items c.self.invariant.0 c.self.invariant.1 c.args.queue c.collect.result c.collect.new.rings.items c.collect.ensures in
-    (done_joined (peek c.args.queue) (keeps_peek c.args.queue) (World s.core.history s.rings.items) c.collect.result (World s.core.history c.collect.new.rings.items) c.self.invariant.0 did.0, did.1)
+    let did = collect_did s.core.history s.rings.items s.closed c.self.invariant.0 c.self.invariant.1 c.args.queue c.collect.result c.collect.new.rings.items c.collect.ensures in
+    (done_joined (peek c.args.queue) (keeps_peek c.args.queue) (World s.core.history s.rings.items s.closed) c.collect.result (World s.core.history c.collect.new.rings.items s.closed) c.self.invariant.0 did.0, did.1)
 
 pub returns : goal.returns
 returns c =
     let s = c.self.inside in
-    let did = collect_did s.core.history s.rings.items c.self.invariant.0 c.self.invariant.1 c.args.queue c.collect.result c.collect.new.rings.items c.collect.ensures in
-    subst (λ (w : Joined). peek c.args.queue w c.collect.result (World s.core.history c.collect.new.rings.items)) c.self.view_is did.0
+    let did = collect_did s.core.history s.rings.items s.closed c.self.invariant.0 c.self.invariant.1 c.args.queue c.collect.result c.collect.new.rings.items c.collect.ensures in
+    subst (λ (w : Joined). peek c.args.queue w c.collect.result (World s.core.history c.collect.new.rings.items s.closed)) c.self.view_is did.0

@@ -9,25 +9,34 @@ use Rattle.world.proofs.world.World.serve.Goals as goal
 
 pub invariant_of-self : goal.invariant_of-self
 invariant_of-self c =
-    let old = c.self.inside in
+    let s = c.self.inside in
     let h = c.self.invariant.0 in
-    let new : Joined = World c.serve_request.new.core.history c.serve_request.new.rings.items in
-    let served : IsServed (World old.core.history old.rings.items) c.args.request c.serve_request.result new =
-    obeyed_served old.core.history c.serve_request.new.core.history old.rings.items c.serve_request.new.rings.items c.self.invariant.1 c.serve_request.result c.args.request c.serve_request.ensures in (
-      record { first = h.first; prior = h.prior ++ handed c.serve_request.result; behind = served_kept h.first h.prior (World old.core.history old.rings.items) h.behind c.args.request c.serve_request.result new served },
-      obeyed_decided old.core.history c.serve_request.new.core.history old.rings.items c.serve_request.new.rings.items h.first h.prior h.behind c.self.invariant.1 c.serve_request.result c.args.request c.serve_request.ensures,
+    let core = s.core.history in
+    let core' = c.serve_request.new.core.history in
+    let old = s.rings.items in
+    let new = c.serve_request.new.rings.items in
+    let gone = s.closed in
+    let gone' = c.serve_request.new.closed in
+    let after : Joined = World core' new gone' in
+    let served : IsServed (World core old gone) c.args.request c.serve_request.result after =
+    obeyed_served core core' old gone new gone' c.self.invariant.1 c.serve_request.result c.args.request c.serve_request.ensures in (
+      record { first = h.first; prior = h.prior ++ handed c.serve_request.result; behind = served_kept h.first h.prior (World core old gone) h.behind c.args.request c.serve_request.result after served },
+      obeyed_decided core core' old gone new gone' h.first h.prior h.behind c.self.invariant.1 c.serve_request.result c.args.request c.serve_request.ensures,
     )
 
 pub returns-clause-served : goal.returns-clause-served
 returns-clause-served c =
-    subst (λ (w : Joined). IsServed w c.args.request c.serve_request.result (World c.serve_request.new.core.history c.serve_request.new.rings.items)) c.self.view_is
-    (obeyed_served c.self.inside.core.history c.serve_request.new.core.history c.self.inside.rings.items c.serve_request.new.rings.items c.self.invariant.1 c.serve_request.result c.args.request c.serve_request.ensures)
+    let s = c.self.inside in
+    let h = c.self.invariant.0 in
+    subst (λ (w : Joined). IsServed w c.args.request c.serve_request.result (World c.serve_request.new.core.history c.serve_request.new.rings.items c.serve_request.new.closed)) c.self.view_is
+    (obeyed_served s.core.history c.serve_request.new.core.history s.rings.items s.closed c.serve_request.new.rings.items c.serve_request.new.closed c.self.invariant.1 c.serve_request.result c.args.request c.serve_request.ensures)
 
 pub returns-clause-joined : goal.returns-clause-joined
 returns-clause-joined c =
-    let old = c.self.inside in
+    let s = c.self.inside in
     let h = c.self.invariant.0 in
-    let new : Joined = World c.serve_request.new.core.history c.serve_request.new.rings.items in
-    let served : IsServed (World old.core.history old.rings.items) c.args.request c.serve_request.result new =
-    obeyed_served old.core.history c.serve_request.new.core.history old.rings.items c.serve_request.new.rings.items c.self.invariant.1 c.serve_request.result c.args.request c.serve_request.ensures in
-    record { first = h.first; prior = h.prior ++ handed c.serve_request.result; behind = served_kept h.first h.prior (World old.core.history old.rings.items) h.behind c.args.request c.serve_request.result new served }
+    let old : Joined = World s.core.history s.rings.items s.closed in
+    let new : Joined = World c.serve_request.new.core.history c.serve_request.new.rings.items c.serve_request.new.closed in
+    let served : IsServed old c.args.request c.serve_request.result new =
+    obeyed_served s.core.history c.serve_request.new.core.history s.rings.items s.closed c.serve_request.new.rings.items c.serve_request.new.closed c.self.invariant.1 c.serve_request.result c.args.request c.serve_request.ensures in
+    record { first = h.first; prior = h.prior ++ handed c.serve_request.result; behind = served_kept h.first h.prior old h.behind c.args.request c.serve_request.result new served }

@@ -1,0 +1,237 @@
+//! The sources of flat steps, and the types that they name.
+ghost use Rattle.std.specs.Prelude.{◌≡◌};
+ghost use Rattle.kernel_check.specs.Flat.{both, both_compared, both_shift, choice, compared_with_constant, constant_and, constant_compared, constant_shift, group_pointer, kind8, kind16, kind32, kind64, maybe, register_and, shift_with_constant, source_of, with_constant};
+
+use hsail_reader::Comparison;
+use kernel_check::{
+    Bit, Choice, Compare, GroupPointer, MaybeRegister, NumberType, Operand, Pair, Pointer,
+    RegisterNumber, Shift64, Signedness, Source, Triple,
+};
+
+/// Two registers as sources.
+#[inline(always)]
+pub fn both<N>(left: RegisterNumber, right: RegisterNumber) -> Pair<Source<N>>
+    ensures { result ≡ both left right }
+{
+    Pair {
+        left: Source::Register(left),
+        right: Source::Register(right),
+    }
+}
+
+/// A register, with a constant behind.
+#[inline(always)]
+pub fn with_constant<N>(left: RegisterNumber, constant: N) -> Pair<Source<N>>
+    ensures { result ≡ with_constant left constant }
+{
+    Pair {
+        left: Source::Register(left),
+        right: Source::Constant(constant),
+    }
+}
+
+/// A constant in front of a register.
+#[inline(always)]
+pub fn constant_and<N>(constant: N, right: RegisterNumber) -> Pair<Source<N>>
+    ensures { result ≡ constant_and constant right }
+{
+    Pair {
+        left: Source::Constant(constant),
+        right: Source::Register(right),
+    }
+}
+
+/// Two registers as the sources of a shift of 64 bits.
+#[inline(always)]
+pub fn both_shift(left: RegisterNumber, right: RegisterNumber) -> Shift64
+    ensures { result ≡ both_shift left right }
+{
+    Shift64 {
+        value: Source::Register(left),
+        count: Source::Register(right),
+    }
+}
+
+/// A register that a shift of 64 bits moves by a constant.
+#[inline(always)]
+pub fn shift_with_constant(left: RegisterNumber, constant: u32) -> Shift64
+    ensures { result ≡ shift_with_constant left constant }
+{
+    Shift64 {
+        value: Source::Register(left),
+        count: Source::Constant(constant),
+    }
+}
+
+/// A constant that a shift of 64 bits moves by a register.
+#[inline(always)]
+pub fn constant_shift(constant: u64, right: RegisterNumber) -> Shift64
+    ensures { result ≡ constant_shift constant right }
+{
+    Shift64 {
+        value: Source::Constant(constant),
+        count: Source::Register(right),
+    }
+}
+
+/// Two registers that are compared.
+#[inline(always)]
+pub fn both_compared<N>(
+    comparison: Comparison,
+    left: RegisterNumber,
+    right: RegisterNumber,
+) -> Compare<Source<N>>
+    ensures { result ≡ both_compared comparison left right }
+{
+    Compare {
+        comparison,
+        left: Source::Register(left),
+        right: Source::Register(right),
+    }
+}
+
+/// A register that is compared with a constant.
+#[inline(always)]
+pub fn compared_with_constant<N>(
+    comparison: Comparison,
+    left: RegisterNumber,
+    constant: N,
+) -> Compare<Source<N>>
+    ensures { result ≡ compared_with_constant comparison left constant }
+{
+    Compare {
+        comparison,
+        left: Source::Register(left),
+        right: Source::Constant(constant),
+    }
+}
+
+/// A constant that is compared with a register.
+#[inline(always)]
+pub fn constant_compared<N>(
+    comparison: Comparison,
+    constant: N,
+    right: RegisterNumber,
+) -> Compare<Source<N>>
+    ensures { result ≡ constant_compared comparison constant right }
+{
+    Compare {
+        comparison,
+        left: Source::Constant(constant),
+        right: Source::Register(right),
+    }
+}
+
+/// The three sources of `mad`.
+#[inline(always)]
+pub fn triple<N>(first: Source<N>, second: Source<N>, third: Source<N>) -> Triple<Source<N>>
+    ensures { result ≡ record { first = first; second = second; third = third } }
+{
+    Triple {
+        first,
+        second,
+        third,
+    }
+}
+
+/// The source that an operand is, beside the step's constant.
+#[inline(always)]
+pub fn source_of<N: Copy>(operand: Operand, constant: N) -> Source<N>
+    ensures { result ≡ source_of operand constant }
+{
+    if operand.is_register {
+        Source::Register(operand.number)
+    } else {
+        Source::Constant(constant)
+    }
+}
+
+/// The sources of `cmov` on a register.
+#[inline(always)]
+pub fn choice<N>(condition: RegisterNumber, one: Source<N>, zero: Source<N>) -> Choice<Source<N>>
+    ensures { result ≡ choice condition one zero }
+{
+    Choice {
+        condition: Source::Register(condition),
+        one,
+        zero,
+    }
+}
+
+/// A register, or none.
+#[inline(always)]
+pub fn maybe(register: MaybeRegister) -> Option<RegisterNumber>
+    ensures { result ≡ maybe register }
+{
+    if register.is_register {
+        Some(register.number)
+    } else {
+        None
+    }
+}
+
+/// The place of an access to global memory: what a register has, and a number behind.
+#[inline(always)]
+pub fn register_and(base: RegisterNumber, offset: u64) -> Pointer
+    ensures { result ≡ register_and base offset }
+{
+    Pointer {
+        base: Some(base),
+        offset,
+    }
+}
+
+/// The place of an access to group memory.
+#[inline(always)]
+pub fn group_pointer(base: MaybeRegister, offset: u32) -> GroupPointer
+    ensures { result ≡ group_pointer base offset }
+{
+    GroupPointer {
+        base: maybe(base),
+        offset,
+    }
+}
+
+/// The type of 8 bits.
+#[inline(always)]
+pub fn kind8(sign: Signedness) -> NumberType
+    ensures { result ≡ kind8 sign }
+{
+    match sign {
+        Signedness::Unsigned => NumberType::U8,
+        Signedness::Signed => NumberType::S8,
+    }
+}
+
+/// The type of 16 bits.
+#[inline(always)]
+pub fn kind16(sign: Signedness) -> NumberType
+    ensures { result ≡ kind16 sign }
+{
+    match sign {
+        Signedness::Unsigned => NumberType::U16,
+        Signedness::Signed => NumberType::S16,
+    }
+}
+
+/// The type of 32 bits.
+#[inline(always)]
+pub fn kind32(sign: Signedness) -> NumberType
+    ensures { result ≡ kind32 sign }
+{
+    match sign {
+        Signedness::Unsigned => NumberType::U32,
+        Signedness::Signed => NumberType::S32,
+    }
+}
+
+/// The type of 64 bits.
+#[inline(always)]
+pub fn kind64(sign: Signedness) -> NumberType
+    ensures { result ≡ kind64 sign }
+{
+    match sign {
+        Signedness::Unsigned => NumberType::U64,
+        Signedness::Signed => NumberType::S64,
+    }
+}

@@ -1,4 +1,0 @@
-use Rattle.wants.proofs.broker.open_queues.Given as goal
-
-abbrev pub ghosts-open_two : goal.ghosts-open_two
-ghosts-open_two a = record { board = a.unnamed.board; opened = a.unnamed.core }

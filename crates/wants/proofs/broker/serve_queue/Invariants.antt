@@ -1,4 +1,0 @@
-use Rattle.wants.proofs.broker.serve_queue.Given as goal
-
-abbrev pub ghosts-serve_named : goal.ghosts-serve_named
-ghosts-serve_named g a = record { board = a.unnamed.board; opened = a.unnamed.core }
