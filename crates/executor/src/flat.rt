@@ -4,26 +4,19 @@ ghost use Rattle.kernel_check.specs.Flat.{plain};
 ghost use Rattle.executor.specs.inner.Flat.{Goes};
 ghost use Rattle.executor.specs.inner.Held.{contents, surroundings};
 
-use crate::flat_accesses::{
-    answer, group_load_double, group_load_single, load_double, load_single, store,
-};
-use crate::flat_bits::{and1, choose1, compare1, or1, xor1};
-use crate::flat_reach::reach;
-use crate::flat_sources::{
-    both, both_compared, both_shift, compared_with_constant, kind8, kind16, kind32, kind64,
-    register_and, shift_with_constant, triple, with_constant,
-};
-use crate::flat_values::{
-    branch, calculate32, calculate64, choose32, choose64, convert_step, mad32_of, mad64_of, run1,
-    run32, run64, widen,
-};
+use crate::flat_bits::*;
+use crate::flat_comparisons::*;
+use crate::flat_conversions::*;
+use crate::flat_doubles::*;
+use crate::flat_global::*;
+use crate::flat_group::*;
+use crate::flat_questions::*;
+use crate::flat_singles::*;
+use crate::flat_values::{branch, choose32, choose64, mad32_of, mad64_of, widen};
 use crate::item::ItemContext;
 use crate::memory::Memory;
 use crate::registers::Registers;
-use kernel_check::{
-    AnyRegister, AnySource, ControlOperation, ConvertStep, DoubleOperation, FlatStep, NumberType,
-    SingleOperation, Source, StoreStep,
-};
+use kernel_check::FlatStep;
 use queue_error::{Rule, SegmentAddress};
 use std::alloc::Global;
 
@@ -44,84 +37,6 @@ pub enum Gone {
     Other,
 }
 
-/// A flat step of 32 bits with two registers, by what puts them together.
-macro_rules! single {
-    ($context:ident, $r:ident, $next:ident, $memory:ident, $p:ident => $operation:ident, $sources:ident) => {
-        run32($context, $r, $next, $memory, $p.to, SingleOperation::$operation($sources($p.left, $p.right)))
-    };
-}
-
-/// One with a constant of 32 bits behind.
-macro_rules! single_constant {
-    ($context:ident, $r:ident, $next:ident, $memory:ident, $p:ident => $operation:ident, $sources:ident) => {
-        run32($context, $r, $next, $memory, $p.to, SingleOperation::$operation($sources($p.left, $p.constant)))
-    };
-}
-
-/// `mad` of 32 bits.
-macro_rules! single_mad {
-    ($context:ident, $r:ident, $next:ident, $memory:ident, $to:expr => $first:expr, $second:expr, $third:expr) => {
-        run32($context, $r, $next, $memory, $to, SingleOperation::MultiplyAdd(triple($first, $second, $third)))
-    };
-}
-
-/// A flat step of 64 bits with two registers, by what puts them together.
-macro_rules! double {
-    ($context:ident, $r:ident, $next:ident, $memory:ident, $p:ident => $operation:ident, $sources:ident) => {
-        run64($context, $r, $next, $memory, $p.to, DoubleOperation::$operation($sources($p.left, $p.right)))
-    };
-}
-
-/// One with a constant of 32 bits behind.
-macro_rules! double_constant {
-    ($context:ident, $r:ident, $next:ident, $memory:ident, $p:ident => $operation:ident, $sources:ident) => {
-        run64($context, $r, $next, $memory, $p.to, DoubleOperation::$operation($sources($p.left, $p.constant)))
-    };
-}
-
-/// `mad` of 64 bits.
-macro_rules! double_mad {
-    ($context:ident, $r:ident, $next:ident, $memory:ident, $to:expr => $first:expr, $second:expr, $third:expr) => {
-        run64($context, $r, $next, $memory, $to, DoubleOperation::MultiplyAdd(triple($first, $second, $third)))
-    };
-}
-
-/// `cvt`, by its types and the classes of its registers.
-macro_rules! conversion {
-    ($context:ident, $r:ident, $next:ident, $memory:ident, $to:expr, $source:expr => $from:expr, $kind:expr, $from_class:ident, $to_class:ident) => {
-        convert_step(
-            $context,
-            $r,
-            $next,
-            $memory,
-            &ConvertStep {
-                from: $from,
-                to: $kind,
-                target: AnyRegister::$to_class($to),
-                source: AnySource::$from_class(Source::Register($source)),
-            },
-        )
-    };
-}
-
-/// A store to global memory, by its type and its source.
-macro_rules! store {
-    ($alloc:ident, $context:ident, $r:ident, $next:ident, $memory:ident => $kind:expr, $source:expr, $base:ident, $offset:expr) => {
-        store(
-            $alloc,
-            $context,
-            $r,
-            $next,
-            $memory,
-            &StoreStep {
-                kind: $kind,
-                source: $source,
-                pointer: register_and(*$base, $offset),
-            },
-        )
-    };
-}
-
 /// What comes of a flat step.
 #[inline(always)]
 pub fn go(
@@ -136,83 +51,57 @@ pub fn go(
     ensures { Goes (plain flat.now) (surroundings context.now) r.old next (contents memory.old) result r.new (contents memory.new) }
 {
     match flat {
-        FlatStep::Move32(p) => run32(
-            context,
-            r,
-            next,
-            memory,
-            p.to,
-            SingleOperation::Move(Source::Register(p.source)),
+        FlatStep::Move32(p) => move32(context, r, next, memory, p),
+        FlatStep::Set32 { to, constant } => set32(context, r, next, memory, *to, *constant),
+        FlatStep::Not32(p) => not32(context, r, next, memory, p),
+        FlatStep::Add32(p) => add32(context, r, next, memory, p),
+        FlatStep::Add32Constant(p) => add32_constant(context, r, next, memory, p),
+        FlatStep::Subtract32(p) => subtract32(context, r, next, memory, p),
+        FlatStep::Subtract32Constant(p) => subtract32_constant(context, r, next, memory, p),
+        FlatStep::Multiply32(p) => multiply32(context, r, next, memory, p),
+        FlatStep::Multiply32Constant(p) => multiply32_constant(context, r, next, memory, p),
+        FlatStep::And32(p) => and32(context, r, next, memory, p),
+        FlatStep::And32Constant(p) => and32_constant(context, r, next, memory, p),
+        FlatStep::Or32(p) => or32(context, r, next, memory, p),
+        FlatStep::Or32Constant(p) => or32_constant(context, r, next, memory, p),
+        FlatStep::Xor32(p) => xor32(context, r, next, memory, p),
+        FlatStep::Xor32Constant(p) => xor32_constant(context, r, next, memory, p),
+        FlatStep::ShiftLeft32(p) => shift_left32(context, r, next, memory, p),
+        FlatStep::ShiftLeft32Constant(p) => shift_left32_constant(context, r, next, memory, p),
+        FlatStep::ShiftRightUnsigned32(p) => shift_right_unsigned32(context, r, next, memory, p),
+        FlatStep::ShiftRightUnsigned32Constant(p) => shift_right_unsigned32_constant(
+            context, r, next, memory, p,
         ),
-        FlatStep::Set32 { to, constant } => run32(
-            context,
-            r,
-            next,
-            memory,
-            *to,
-            SingleOperation::Move(Source::Constant(*constant)),
+        FlatStep::ShiftRightSigned32(p) => shift_right_signed32(context, r, next, memory, p),
+        FlatStep::ShiftRightSigned32Constant(p) => shift_right_signed32_constant(
+            context, r, next, memory, p,
         ),
-        FlatStep::Add32(p) => single!(context, r, next, memory, p => Add, both),
-        FlatStep::Add32Constant(p) =>
-            single_constant!(context, r, next, memory, p => Add, with_constant),
-        FlatStep::Subtract32(p) => single!(context, r, next, memory, p => Subtract, both),
-        FlatStep::Subtract32Constant(p) =>
-            single_constant!(context, r, next, memory, p => Subtract, with_constant),
-        FlatStep::Multiply32(p) => single!(context, r, next, memory, p => Multiply, both),
-        FlatStep::Multiply32Constant(p) =>
-            single_constant!(context, r, next, memory, p => Multiply, with_constant),
-        FlatStep::And32(p) => single!(context, r, next, memory, p => And, both),
-        FlatStep::And32Constant(p) =>
-            single_constant!(context, r, next, memory, p => And, with_constant),
-        FlatStep::Or32(p) => single!(context, r, next, memory, p => Or, both),
-        FlatStep::Or32Constant(p) =>
-            single_constant!(context, r, next, memory, p => Or, with_constant),
-        FlatStep::Xor32(p) => single!(context, r, next, memory, p => Xor, both),
-        FlatStep::Xor32Constant(p) =>
-            single_constant!(context, r, next, memory, p => Xor, with_constant),
-        FlatStep::ShiftLeft32(p) => single!(context, r, next, memory, p => ShiftLeft, both),
-        FlatStep::ShiftLeft32Constant(p) =>
-            single_constant!(context, r, next, memory, p => ShiftLeft, with_constant),
-        FlatStep::ShiftRightUnsigned32(p) =>
-            single!(context, r, next, memory, p => ShiftRightUnsigned, both),
-        FlatStep::ShiftRightUnsigned32Constant(p) =>
-            single_constant!(context, r, next, memory, p => ShiftRightUnsigned, with_constant),
-        FlatStep::ShiftRightSigned32(p) =>
-            single!(context, r, next, memory, p => ShiftRightSigned, both),
-        FlatStep::ShiftRightSigned32Constant(p) =>
-            single_constant!(context, r, next, memory, p => ShiftRightSigned, with_constant),
-        FlatStep::Calculate32(p) => calculate32(
-            context,
-            r,
-            next,
-            memory,
-            p.to,
-            p.operation,
-            both(p.left, p.right),
-        ),
+        FlatStep::Calculate32(p) => calculate32_both(context, r, next, memory, p),
         FlatStep::Calculate32Constant {
             operation,
             to,
             left,
             constant,
-        } => calculate32(
-            context,
-            r,
-            next,
-            memory,
-            *to,
-            *operation,
-            with_constant(*left, *constant),
-        ),
-        FlatStep::MultiplyAdd32(p) =>
-            single_mad!(context, r, next, memory, p.to => Source::Register(p.first), Source::Register(p.second), Source::Register(p.third)),
+        } => calculate32_constant(context, r, next, memory, *operation, *to, *left, *constant),
+        FlatStep::ConstantCalculate32 {
+            operation,
+            to,
+            right,
+            constant,
+        } => constant_calculate32(context, r, next, memory, *operation, *to, *right, *constant),
+        FlatStep::ConstantShift32 {
+            operation,
+            to,
+            right,
+            constant,
+        } => constant_shift32(context, r, next, memory, *operation, *to, *right, *constant),
+        FlatStep::MultiplyAdd32(p) => multiply_add32(context, r, next, memory, p),
         FlatStep::MultiplyAdd32Constants {
             to,
             first,
             second,
             third,
-        } =>
-            single_mad!(context, r, next, memory, *to => Source::Register(*first), Source::Constant(*second), Source::Constant(*third)),
+        } => multiply_add32_constants(context, r, next, memory, *to, *first, *second, *third),
         FlatStep::MultiplyAdd32Of {
             to,
             first,
@@ -231,119 +120,70 @@ pub fn go(
         } => choose32(
             context, r, next, memory, *to, *condition, *one, *zero, *constant,
         ),
-        FlatStep::Move64(p) => run64(
-            context,
-            r,
-            next,
-            memory,
-            p.to,
-            DoubleOperation::Move(Source::Register(p.source)),
+        FlatStep::Choose32Constants(p) => choose32_constants(context, r, next, memory, p),
+        FlatStep::Move64(p) => move64(context, r, next, memory, p),
+        FlatStep::Set64 { to, constant } => set64(context, r, next, memory, *to, *constant),
+        FlatStep::Not64(p) => not64(context, r, next, memory, p),
+        FlatStep::Add64(p) => add64(context, r, next, memory, p),
+        FlatStep::Add64Constant { to, left, constant } => add64_constant(
+            context, r, next, memory, *to, *left, *constant,
         ),
-        FlatStep::Set64 { to, constant } => run64(
-            context,
-            r,
-            next,
-            memory,
-            *to,
-            DoubleOperation::Move(Source::Constant(*constant)),
+        FlatStep::Subtract64(p) => subtract64(context, r, next, memory, p),
+        FlatStep::Subtract64Constant { to, left, constant } => subtract64_constant(
+            context, r, next, memory, *to, *left, *constant,
         ),
-        FlatStep::Add64(p) => double!(context, r, next, memory, p => Add, both),
-        FlatStep::Add64Constant { to, left, constant } => run64(
-            context,
-            r,
-            next,
-            memory,
-            *to,
-            DoubleOperation::Add(with_constant(*left, *constant)),
+        FlatStep::Multiply64(p) => multiply64(context, r, next, memory, p),
+        FlatStep::Multiply64Constant { to, left, constant } => multiply64_constant(
+            context, r, next, memory, *to, *left, *constant,
         ),
-        FlatStep::Subtract64(p) => double!(context, r, next, memory, p => Subtract, both),
-        FlatStep::Subtract64Constant { to, left, constant } => run64(
-            context,
-            r,
-            next,
-            memory,
-            *to,
-            DoubleOperation::Subtract(with_constant(*left, *constant)),
+        FlatStep::And64(p) => and64(context, r, next, memory, p),
+        FlatStep::And64Constant { to, left, constant } => and64_constant(
+            context, r, next, memory, *to, *left, *constant,
         ),
-        FlatStep::Multiply64(p) => double!(context, r, next, memory, p => Multiply, both),
-        FlatStep::Multiply64Constant { to, left, constant } => run64(
-            context,
-            r,
-            next,
-            memory,
-            *to,
-            DoubleOperation::Multiply(with_constant(*left, *constant)),
+        FlatStep::Or64(p) => or64(context, r, next, memory, p),
+        FlatStep::Or64Constant { to, left, constant } => or64_constant(
+            context, r, next, memory, *to, *left, *constant,
         ),
-        FlatStep::And64(p) => double!(context, r, next, memory, p => And, both),
-        FlatStep::And64Constant { to, left, constant } => run64(
-            context,
-            r,
-            next,
-            memory,
-            *to,
-            DoubleOperation::And(with_constant(*left, *constant)),
+        FlatStep::Xor64(p) => xor64(context, r, next, memory, p),
+        FlatStep::Xor64Constant { to, left, constant } => xor64_constant(
+            context, r, next, memory, *to, *left, *constant,
         ),
-        FlatStep::Or64(p) => double!(context, r, next, memory, p => Or, both),
-        FlatStep::Or64Constant { to, left, constant } => run64(
-            context,
-            r,
-            next,
-            memory,
-            *to,
-            DoubleOperation::Or(with_constant(*left, *constant)),
+        FlatStep::ShiftLeft64(p) => shift_left64(context, r, next, memory, p),
+        FlatStep::ShiftLeft64Constant(p) => shift_left64_constant(context, r, next, memory, p),
+        FlatStep::ShiftRightUnsigned64(p) => shift_right_unsigned64(context, r, next, memory, p),
+        FlatStep::ShiftRightUnsigned64Constant(p) => shift_right_unsigned64_constant(
+            context, r, next, memory, p,
         ),
-        FlatStep::Xor64(p) => double!(context, r, next, memory, p => Xor, both),
-        FlatStep::Xor64Constant { to, left, constant } => run64(
-            context,
-            r,
-            next,
-            memory,
-            *to,
-            DoubleOperation::Xor(with_constant(*left, *constant)),
+        FlatStep::ShiftRightSigned64(p) => shift_right_signed64(context, r, next, memory, p),
+        FlatStep::ShiftRightSigned64Constant(p) => shift_right_signed64_constant(
+            context, r, next, memory, p,
         ),
-        FlatStep::ShiftLeft64(p) => double!(context, r, next, memory, p => ShiftLeft, both_shift),
-        FlatStep::ShiftLeft64Constant(p) =>
-            double_constant!(context, r, next, memory, p => ShiftLeft, shift_with_constant),
-        FlatStep::ShiftRightUnsigned64(p) =>
-            double!(context, r, next, memory, p => ShiftRightUnsigned, both_shift),
-        FlatStep::ShiftRightUnsigned64Constant(p) =>
-            double_constant!(context, r, next, memory, p => ShiftRightUnsigned, shift_with_constant),
-        FlatStep::ShiftRightSigned64(p) =>
-            double!(context, r, next, memory, p => ShiftRightSigned, both_shift),
-        FlatStep::ShiftRightSigned64Constant(p) =>
-            double_constant!(context, r, next, memory, p => ShiftRightSigned, shift_with_constant),
-        FlatStep::Calculate64(p) => calculate64(
-            context,
-            r,
-            next,
-            memory,
-            p.to,
-            p.operation,
-            both(p.left, p.right),
-        ),
+        FlatStep::Calculate64(p) => calculate64_both(context, r, next, memory, p),
         FlatStep::Calculate64Constant {
             operation,
             to,
             left,
             constant,
-        } => calculate64(
-            context,
-            r,
-            next,
-            memory,
-            *to,
-            *operation,
-            with_constant(*left, *constant),
-        ),
-        FlatStep::MultiplyAdd64(p) =>
-            double_mad!(context, r, next, memory, p.to => Source::Register(p.first), Source::Register(p.second), Source::Register(p.third)),
+        } => calculate64_constant(context, r, next, memory, *operation, *to, *left, *constant),
+        FlatStep::ConstantCalculate64 {
+            operation,
+            to,
+            right,
+            constant,
+        } => constant_calculate64(context, r, next, memory, *operation, *to, *right, *constant),
+        FlatStep::ConstantShift64 {
+            operation,
+            to,
+            right,
+            constant,
+        } => constant_shift64(context, r, next, memory, *operation, *to, *right, *constant),
+        FlatStep::MultiplyAdd64(p) => multiply_add64(context, r, next, memory, p),
         FlatStep::MultiplyAdd64Constant {
             to,
             first,
             third,
             second,
-        } =>
-            double_mad!(context, r, next, memory, *to => Source::Register(*first), Source::Constant(*second), Source::Register(*third)),
+        } => multiply_add64_constant(context, r, next, memory, *to, *first, *third, *second),
         FlatStep::MultiplyAdd64Of {
             to,
             first,
@@ -362,96 +202,83 @@ pub fn go(
         } => choose64(
             context, r, next, memory, *to, *condition, *one, *zero, *constant,
         ),
-        FlatStep::CompareUnsigned32(p) => run1(
+        FlatStep::Choose64Constants(p) => choose64_constants(context, r, next, memory, p),
+        FlatStep::CompareUnsigned32(p) => compare_unsigned32(context, r, next, memory, p),
+        FlatStep::CompareUnsigned32Constant(p) => compare_unsigned32_constant(
+            context, r, next, memory, p,
+        ),
+        FlatStep::CompareSigned32(p) => compare_signed32(context, r, next, memory, p),
+        FlatStep::CompareSigned32Constant(p) => compare_signed32_constant(
+            context, r, next, memory, p,
+        ),
+        FlatStep::ConstantCompare32 {
+            sign,
+            comparison,
+            to,
+            right,
+            constant,
+        } => constant_compare32(
             context,
             r,
             next,
             memory,
-            p.to,
-            ControlOperation::CompareUnsigned32(both_compared(p.comparison, p.left, p.right)),
+            *sign,
+            *comparison,
+            *to,
+            *right,
+            *constant,
         ),
-        FlatStep::CompareUnsigned32Constant(p) => run1(
-            context,
-            r,
-            next,
-            memory,
-            p.to,
-            ControlOperation::CompareUnsigned32(compared_with_constant(
-                p.comparison,
-                p.left,
-                p.constant,
-            )),
-        ),
-        FlatStep::CompareSigned32(p) => run1(
-            context,
-            r,
-            next,
-            memory,
-            p.to,
-            ControlOperation::CompareSigned32(both_compared(p.comparison, p.left, p.right)),
-        ),
-        FlatStep::CompareSigned32Constant(p) => run1(
-            context,
-            r,
-            next,
-            memory,
-            p.to,
-            ControlOperation::CompareSigned32(compared_with_constant(
-                p.comparison,
-                p.left,
-                p.constant,
-            )),
-        ),
-        FlatStep::CompareUnsigned64(p) => run1(
-            context,
-            r,
-            next,
-            memory,
-            p.to,
-            ControlOperation::CompareUnsigned64(both_compared(p.comparison, p.left, p.right)),
-        ),
+        FlatStep::CompareUnsigned64(p) => compare_unsigned64(context, r, next, memory, p),
         FlatStep::CompareUnsigned64Constant {
             comparison,
             to,
             left,
             constant,
-        } => run1(
+        } => compare_unsigned64_constant(
             context,
             r,
             next,
             memory,
+            *comparison,
             *to,
-            ControlOperation::CompareUnsigned64(compared_with_constant(
-                *comparison,
-                *left,
-                *constant,
-            )),
+            *left,
+            *constant,
         ),
-        FlatStep::CompareSigned64(p) => run1(
-            context,
-            r,
-            next,
-            memory,
-            p.to,
-            ControlOperation::CompareSigned64(both_compared(p.comparison, p.left, p.right)),
-        ),
+        FlatStep::CompareSigned64(p) => compare_signed64(context, r, next, memory, p),
         FlatStep::CompareSigned64Constant {
             comparison,
             to,
             left,
             constant,
-        } => run1(
+        } => compare_signed64_constant(
             context,
             r,
             next,
             memory,
+            *comparison,
             *to,
-            ControlOperation::CompareSigned64(compared_with_constant(
-                *comparison,
-                *left,
-                *constant,
-            )),
+            *left,
+            *constant,
         ),
+        FlatStep::ConstantCompare64 {
+            sign,
+            comparison,
+            to,
+            right,
+            constant,
+        } => constant_compare64(
+            context,
+            r,
+            next,
+            memory,
+            *sign,
+            *comparison,
+            *to,
+            *right,
+            *constant,
+        ),
+        FlatStep::Move1 { to, source } => move1(context, r, next, memory, *to, *source),
+        FlatStep::Not1 { to, source } => not1(context, r, next, memory, *to, *source),
         FlatStep::And1 { to, left, right } => and1(context, r, next, memory, *to, *left, *right),
         FlatStep::Or1 { to, left, right } => or1(context, r, next, memory, *to, *left, *right),
         FlatStep::Xor1 { to, left, right } => xor1(context, r, next, memory, *to, *left, *right),
@@ -468,112 +295,180 @@ pub fn go(
             right,
         } => compare1(context, r, next, memory, *to, *comparison, *left, *right),
         FlatStep::Widen(p) => widen(context, r, next, memory, p),
-        FlatStep::ConvertSingleToControl(p) =>
-            conversion!(context, r, next, memory, p.to, p.source => p.from, p.kind, Single, Control),
-        FlatStep::ConvertSingleToSingle(p) =>
-            conversion!(context, r, next, memory, p.to, p.source => p.from, p.kind, Single, Single),
-        FlatStep::ConvertSingleToDouble(p) =>
-            conversion!(context, r, next, memory, p.to, p.source => p.from, p.kind, Single, Double),
-        FlatStep::ConvertDoubleToControl(p) =>
-            conversion!(context, r, next, memory, p.to, p.source => p.from, p.kind, Double, Control),
-        FlatStep::ConvertDoubleToSingle(p) =>
-            conversion!(context, r, next, memory, p.to, p.source => p.from, p.kind, Double, Single),
-        FlatStep::ConvertDoubleToDouble(p) =>
-            conversion!(context, r, next, memory, p.to, p.source => p.from, p.kind, Double, Double),
-        FlatStep::Answer32(p) => answer(
-            context,
-            r,
-            next,
-            memory,
-            p.query,
-            AnyRegister::Single(p.to),
-            p.dimension,
+        FlatStep::WidenSigned(p) => widen_signed(context, r, next, memory, p),
+        FlatStep::Narrow(p) => narrow(context, r, next, memory, p),
+        FlatStep::ConvertControlToSingle(p) => convert_control_to_single(
+            context, r, next, memory, p,
         ),
-        FlatStep::Answer64(p) => answer(
-            context,
-            r,
-            next,
-            memory,
-            p.query,
-            AnyRegister::Double(p.to),
-            p.dimension,
+        FlatStep::ConvertControlToDouble(p) => convert_control_to_double(
+            context, r, next, memory, p,
         ),
+        FlatStep::ConvertSingleToControl(p) => convert_single_to_control(
+            context, r, next, memory, p,
+        ),
+        FlatStep::ConvertSingleToSingle(p) => convert_single_to_single(context, r, next, memory, p),
+        FlatStep::ConvertSingleToDouble(p) => convert_single_to_double(context, r, next, memory, p),
+        FlatStep::ConvertDoubleToControl(p) => convert_double_to_control(
+            context, r, next, memory, p,
+        ),
+        FlatStep::ConvertDoubleToSingle(p) => convert_double_to_single(context, r, next, memory, p),
+        FlatStep::ConvertDoubleToDouble(p) => convert_double_to_double(context, r, next, memory, p),
+        FlatStep::Argument8(p) => argument8(context, r, next, memory, p),
+        FlatStep::Argument16(p) => argument16(context, r, next, memory, p),
+        FlatStep::Argument32(p) => argument32(context, r, next, memory, p),
+        FlatStep::Argument64(p) => argument64(context, r, next, memory, p),
+        FlatStep::Answer32(p) => answer32(context, r, next, memory, p),
+        FlatStep::Absolute32(p) => absolute32(context, r, next, memory, p),
+        FlatStep::Answer64(p) => answer64(context, r, next, memory, p),
+        FlatStep::Absolute64(p) => absolute64(context, r, next, memory, p),
         FlatStep::Load8 {
             sign,
             to,
             base,
             offset,
-        } => load_single(context, r, next, memory, kind8(*sign), *to, *base, *offset),
+        } => load8(context, r, next, memory, *sign, *to, *base, *offset),
         FlatStep::Load16 {
             sign,
             to,
             base,
             offset,
-        } => load_single(context, r, next, memory, kind16(*sign), *to, *base, *offset),
+        } => load16(context, r, next, memory, *sign, *to, *base, *offset),
         FlatStep::Load32 {
             sign,
             to,
             base,
             offset,
-        } => load_single(context, r, next, memory, kind32(*sign), *to, *base, *offset),
+        } => load32(context, r, next, memory, *sign, *to, *base, *offset),
         FlatStep::Load64 {
             sign,
             to,
             base,
             offset,
-        } => load_double(context, r, next, memory, kind64(*sign), *to, *base, *offset),
+        } => load64(context, r, next, memory, *sign, *to, *base, *offset),
         FlatStep::Store8 {
             sign,
             source,
             base,
             offset,
-        } =>
-            store!(alloc, context, r, next, memory => kind8(*sign), AnySource::Single(Source::Register(*source)), base, *offset),
+        } => store8(
+            alloc, context, r, next, memory, *sign, *source, *base, *offset,
+        ),
         FlatStep::Store16 {
             sign,
             source,
             base,
             offset,
-        } =>
-            store!(alloc, context, r, next, memory => kind16(*sign), AnySource::Single(Source::Register(*source)), base, *offset),
+        } => store16(
+            alloc, context, r, next, memory, *sign, *source, *base, *offset,
+        ),
         FlatStep::Store32 {
             sign,
             source,
             base,
             offset,
-        } =>
-            store!(alloc, context, r, next, memory => kind32(*sign), AnySource::Single(Source::Register(*source)), base, *offset),
+        } => store32(
+            alloc, context, r, next, memory, *sign, *source, *base, *offset,
+        ),
         FlatStep::Store64 {
             sign,
             source,
             base,
             offset,
-        } =>
-            store!(alloc, context, r, next, memory => kind64(*sign), AnySource::Double(Source::Register(*source)), base, *offset),
+        } => store64(
+            alloc, context, r, next, memory, *sign, *source, *base, *offset,
+        ),
+        FlatStep::StoreConstant8 {
+            sign,
+            base,
+            constant,
+            offset,
+        } => store_constant8(
+            alloc, context, r, next, memory, *sign, *base, *constant, *offset,
+        ),
+        FlatStep::StoreConstant16 {
+            sign,
+            base,
+            constant,
+            offset,
+        } => store_constant16(
+            alloc, context, r, next, memory, *sign, *base, *constant, *offset,
+        ),
+        FlatStep::StoreConstant32 {
+            sign,
+            base,
+            constant,
+            offset,
+        } => store_constant32(
+            alloc, context, r, next, memory, *sign, *base, *constant, *offset,
+        ),
+        FlatStep::StoreConstant64 {
+            sign,
+            base,
+            offset,
+            constant,
+        } => store_constant64(
+            alloc, context, r, next, memory, *sign, *base, *offset, *constant,
+        ),
         FlatStep::LoadGroup8 {
             sign,
             to,
             base,
             offset,
-        } => group_load_single(context, r, next, memory, kind8(*sign), *to, *base, *offset),
+        } => load_group8(context, r, next, memory, *sign, *to, *base, *offset),
         FlatStep::LoadGroup16 {
             sign,
             to,
             base,
             offset,
-        } => group_load_single(context, r, next, memory, kind16(*sign), *to, *base, *offset),
+        } => load_group16(context, r, next, memory, *sign, *to, *base, *offset),
         FlatStep::LoadGroup32 {
             sign,
             to,
             base,
             offset,
-        } => group_load_single(context, r, next, memory, kind32(*sign), *to, *base, *offset),
+        } => load_group32(context, r, next, memory, *sign, *to, *base, *offset),
         FlatStep::LoadGroup64 {
             sign,
             to,
             base,
             offset,
-        } => group_load_double(context, r, next, memory, kind64(*sign), *to, *base, *offset),
+        } => load_group64(context, r, next, memory, *sign, *to, *base, *offset),
+        FlatStep::StoreGroup8 {
+            sign,
+            source,
+            base,
+            offset,
+        } => store_group8(context, r, next, memory, *sign, *source, *base, *offset),
+        FlatStep::StoreGroup16 {
+            sign,
+            source,
+            base,
+            offset,
+        } => store_group16(context, r, next, memory, *sign, *source, *base, *offset),
+        FlatStep::StoreGroup32 {
+            sign,
+            source,
+            base,
+            offset,
+        } => store_group32(context, r, next, memory, *sign, *source, *base, *offset),
+        FlatStep::StoreGroup64 {
+            sign,
+            source,
+            base,
+            offset,
+        } => store_group64(context, r, next, memory, *sign, *source, *base, *offset),
+        FlatStep::StoreGroupConstant32 {
+            kind,
+            base,
+            offset,
+            constant,
+        } => store_group_constant32(context, r, next, memory, *kind, *base, *offset, *constant),
+        FlatStep::StoreGroupConstant64 {
+            sign,
+            base,
+            offset,
+            constant,
+        } => store_group_constant64(context, r, next, memory, *sign, *base, *offset, *constant),
         FlatStep::Branch { next } => Gone::Next(*next),
         FlatStep::ConditionalBranch {
             condition,
@@ -581,6 +476,6 @@ pub fn go(
         } => Gone::Next(branch(r, next, *condition, *other)),
         FlatStep::Barrier => Gone::Arrived,
         FlatStep::Return => Gone::Ended,
-        _ => reach(alloc, context, r, next, memory, flat),
+        _ => Gone::Other,
     }
 }

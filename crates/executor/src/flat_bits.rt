@@ -29,7 +29,7 @@ fn read(r: &Registers, bit: Bit) -> bool
 }
 
 /// `mov_b1`.
-#[inline(always)]
+#[inline]
 pub fn move1(
     context: &ItemContext<'_>,
     r: &mut Registers,
@@ -47,7 +47,7 @@ pub fn move1(
 }
 
 /// `not_b1`.
-#[inline(always)]
+#[inline]
 pub fn not1(
     context: &ItemContext<'_>,
     r: &mut Registers,
@@ -65,7 +65,7 @@ pub fn not1(
 }
 
 /// `and_b1`.
-#[inline(always)]
+#[inline]
 pub fn and1(
     context: &ItemContext<'_>,
     r: &mut Registers,
@@ -84,7 +84,7 @@ pub fn and1(
 }
 
 /// `or_b1`.
-#[inline(always)]
+#[inline]
 pub fn or1(
     context: &ItemContext<'_>,
     r: &mut Registers,
@@ -103,7 +103,7 @@ pub fn or1(
 }
 
 /// `xor_b1`.
-#[inline(always)]
+#[inline]
 pub fn xor1(
     context: &ItemContext<'_>,
     r: &mut Registers,
@@ -122,7 +122,7 @@ pub fn xor1(
 }
 
 /// `cmov_b1`.
-#[inline(always)]
+#[inline]
 pub fn choose1(
     context: &ItemContext<'_>,
     r: &mut Registers,
@@ -146,7 +146,7 @@ pub fn choose1(
 }
 
 /// `cmp_OP_b1_b1`.
-#[inline(always)]
+#[inline]
 pub fn compare1(
     context: &ItemContext<'_>,
     r: &mut Registers,

@@ -426,7 +426,7 @@ fn product32(r: &Registers, first: Operand, second: Operand, third: Operand, con
 }
 
 /// `mad` of operands of 32 bits.
-#[inline(always)]
+#[inline]
 pub fn mad32_of(
     context: &ItemContext<'_>,
     r: &mut Registers,
@@ -467,7 +467,7 @@ fn product64(r: &Registers, first: Operand, second: Operand, third: Operand, con
 }
 
 /// `mad` of operands of 64 bits.
-#[inline(always)]
+#[inline]
 pub fn mad64_of(
     context: &ItemContext<'_>,
     r: &mut Registers,
@@ -496,7 +496,7 @@ fn chosen(condition: bool, one: Operand, zero: Operand) -> Operand
 }
 
 /// `cmov` of 32 bits on a register: its condition is looked at before its operands.
-#[inline(always)]
+#[inline]
 pub fn choose32(
     context: &ItemContext<'_>,
     r: &mut Registers,
@@ -518,7 +518,7 @@ pub fn choose32(
 }
 
 /// `cmov` of 64 bits on a register: its condition is looked at before its operands.
-#[inline(always)]
+#[inline]
 pub fn choose64(
     context: &ItemContext<'_>,
     r: &mut Registers,
@@ -557,7 +557,7 @@ pub fn convert_step(
 }
 
 /// `cvt_u64_u32`.
-#[inline(always)]
+#[inline]
 pub fn widen(
     context: &ItemContext<'_>,
     r: &mut Registers,

@@ -1,0 +1,257 @@
+//! Flat steps that load from global memory or store to it.
+ghost use Rattle.std.specs.Prelude.{◌<◌, ◌^◌};
+ghost use Rattle.kernel_check.specs.Flat.{plain};
+ghost use Rattle.kernel_check.specs.declared.flat.FlatStep.TheVariants as flat;
+ghost use Rattle.executor.specs.inner.Flat.{Goes};
+ghost use Rattle.executor.specs.inner.Held.{contents, surroundings};
+
+use crate::flat::Gone;
+use crate::flat_accesses::{load_double, load_single, store};
+use crate::flat_sources::{kind8, kind16, kind32, kind64, register_and};
+use crate::item::ItemContext;
+use crate::memory::Memory;
+use crate::registers::Registers;
+use kernel_check::{AnySource, RegisterNumber, Signedness, Source, StoreStep};
+use std::alloc::Global;
+
+/// A store to global memory, by its type and its source.
+macro_rules! store {
+    ($alloc:ident, $context:ident, $r:ident, $next:ident, $memory:ident => $kind:expr, $source:expr, $base:ident, $offset:expr) => {
+        store(
+            $alloc,
+            $context,
+            $r,
+            $next,
+            $memory,
+            &StoreStep {
+                kind: $kind,
+                source: $source,
+                pointer: register_and($base, $offset),
+            },
+        )
+    };
+}
+
+/// `ld_global` of 8 bits from a register's address and an offset.
+#[inline]
+pub fn load8(
+    context: &ItemContext<'_>,
+    r: &mut Registers,
+    next: usize,
+    memory: &Memory,
+    sign: Signedness,
+    to: RegisterNumber,
+    base: RegisterNumber,
+    offset: u64,
+) -> Gone
+    requires { next < 2 ^ 32 }
+    ensures { Goes (plain (flat.Load8 sign to base offset)) (surroundings context.now) r.old next (contents memory.now) result r.new (contents memory.now) }
+{
+    load_single(context, r, next, memory, kind8(sign), to, base, offset)
+}
+
+/// `ld_global` of 16 bits from a register's address and an offset.
+#[inline]
+pub fn load16(
+    context: &ItemContext<'_>,
+    r: &mut Registers,
+    next: usize,
+    memory: &Memory,
+    sign: Signedness,
+    to: RegisterNumber,
+    base: RegisterNumber,
+    offset: u64,
+) -> Gone
+    requires { next < 2 ^ 32 }
+    ensures { Goes (plain (flat.Load16 sign to base offset)) (surroundings context.now) r.old next (contents memory.now) result r.new (contents memory.now) }
+{
+    load_single(context, r, next, memory, kind16(sign), to, base, offset)
+}
+
+/// `ld_global` of 32 bits from a register's address and an offset.
+#[inline]
+pub fn load32(
+    context: &ItemContext<'_>,
+    r: &mut Registers,
+    next: usize,
+    memory: &Memory,
+    sign: Signedness,
+    to: RegisterNumber,
+    base: RegisterNumber,
+    offset: u64,
+) -> Gone
+    requires { next < 2 ^ 32 }
+    ensures { Goes (plain (flat.Load32 sign to base offset)) (surroundings context.now) r.old next (contents memory.now) result r.new (contents memory.now) }
+{
+    load_single(context, r, next, memory, kind32(sign), to, base, offset)
+}
+
+/// `ld_global` of 64 bits from a register's address and an offset.
+#[inline]
+pub fn load64(
+    context: &ItemContext<'_>,
+    r: &mut Registers,
+    next: usize,
+    memory: &Memory,
+    sign: Signedness,
+    to: RegisterNumber,
+    base: RegisterNumber,
+    offset: u64,
+) -> Gone
+    requires { next < 2 ^ 32 }
+    ensures { Goes (plain (flat.Load64 sign to base offset)) (surroundings context.now) r.old next (contents memory.now) result r.new (contents memory.now) }
+{
+    load_double(context, r, next, memory, kind64(sign), to, base, offset)
+}
+
+/// `st_global` of 8 bits of a register to a register's address and an offset.
+#[inline]
+pub fn store8(
+    alloc: Global,
+    context: &ItemContext<'_>,
+    r: &Registers,
+    next: usize,
+    memory: &mut Memory,
+    sign: Signedness,
+    source: RegisterNumber,
+    base: RegisterNumber,
+    offset: u64,
+) -> Gone
+    requires { next < 2 ^ 32 }
+    ensures { Goes (plain (flat.Store8 sign source base offset)) (surroundings context.now) r.now next (contents memory.old) result r.now (contents memory.new) }
+{
+    store!(alloc, context, r, next, memory => kind8(sign), AnySource::Single(Source::Register(source)), base, offset)
+}
+
+/// `st_global` of 16 bits of a register to a register's address and an offset.
+#[inline]
+pub fn store16(
+    alloc: Global,
+    context: &ItemContext<'_>,
+    r: &Registers,
+    next: usize,
+    memory: &mut Memory,
+    sign: Signedness,
+    source: RegisterNumber,
+    base: RegisterNumber,
+    offset: u64,
+) -> Gone
+    requires { next < 2 ^ 32 }
+    ensures { Goes (plain (flat.Store16 sign source base offset)) (surroundings context.now) r.now next (contents memory.old) result r.now (contents memory.new) }
+{
+    store!(alloc, context, r, next, memory => kind16(sign), AnySource::Single(Source::Register(source)), base, offset)
+}
+
+/// `st_global` of 32 bits of a register to a register's address and an offset.
+#[inline]
+pub fn store32(
+    alloc: Global,
+    context: &ItemContext<'_>,
+    r: &Registers,
+    next: usize,
+    memory: &mut Memory,
+    sign: Signedness,
+    source: RegisterNumber,
+    base: RegisterNumber,
+    offset: u64,
+) -> Gone
+    requires { next < 2 ^ 32 }
+    ensures { Goes (plain (flat.Store32 sign source base offset)) (surroundings context.now) r.now next (contents memory.old) result r.now (contents memory.new) }
+{
+    store!(alloc, context, r, next, memory => kind32(sign), AnySource::Single(Source::Register(source)), base, offset)
+}
+
+/// `st_global` of 64 bits of a register to a register's address and an offset.
+#[inline]
+pub fn store64(
+    alloc: Global,
+    context: &ItemContext<'_>,
+    r: &Registers,
+    next: usize,
+    memory: &mut Memory,
+    sign: Signedness,
+    source: RegisterNumber,
+    base: RegisterNumber,
+    offset: u64,
+) -> Gone
+    requires { next < 2 ^ 32 }
+    ensures { Goes (plain (flat.Store64 sign source base offset)) (surroundings context.now) r.now next (contents memory.old) result r.now (contents memory.new) }
+{
+    store!(alloc, context, r, next, memory => kind64(sign), AnySource::Double(Source::Register(source)), base, offset)
+}
+
+/// `st_global` of 8 bits of a constant.
+#[inline]
+pub fn store_constant8(
+    alloc: Global,
+    context: &ItemContext<'_>,
+    r: &Registers,
+    next: usize,
+    memory: &mut Memory,
+    sign: Signedness,
+    base: RegisterNumber,
+    constant: u32,
+    offset: u64,
+) -> Gone
+    requires { next < 2 ^ 32 }
+    ensures { Goes (plain (flat.StoreConstant8 sign base constant offset)) (surroundings context.now) r.now next (contents memory.old) result r.now (contents memory.new) }
+{
+    store!(alloc, context, r, next, memory => kind8(sign), AnySource::Single(Source::Constant(constant)), base, offset)
+}
+
+/// `st_global` of 16 bits of a constant.
+#[inline]
+pub fn store_constant16(
+    alloc: Global,
+    context: &ItemContext<'_>,
+    r: &Registers,
+    next: usize,
+    memory: &mut Memory,
+    sign: Signedness,
+    base: RegisterNumber,
+    constant: u32,
+    offset: u64,
+) -> Gone
+    requires { next < 2 ^ 32 }
+    ensures { Goes (plain (flat.StoreConstant16 sign base constant offset)) (surroundings context.now) r.now next (contents memory.old) result r.now (contents memory.new) }
+{
+    store!(alloc, context, r, next, memory => kind16(sign), AnySource::Single(Source::Constant(constant)), base, offset)
+}
+
+/// `st_global` of 32 bits of a constant.
+#[inline]
+pub fn store_constant32(
+    alloc: Global,
+    context: &ItemContext<'_>,
+    r: &Registers,
+    next: usize,
+    memory: &mut Memory,
+    sign: Signedness,
+    base: RegisterNumber,
+    constant: u32,
+    offset: u64,
+) -> Gone
+    requires { next < 2 ^ 32 }
+    ensures { Goes (plain (flat.StoreConstant32 sign base constant offset)) (surroundings context.now) r.now next (contents memory.old) result r.now (contents memory.new) }
+{
+    store!(alloc, context, r, next, memory => kind32(sign), AnySource::Single(Source::Constant(constant)), base, offset)
+}
+
+/// `st_global` of 64 bits of a constant.
+#[inline]
+pub fn store_constant64(
+    alloc: Global,
+    context: &ItemContext<'_>,
+    r: &Registers,
+    next: usize,
+    memory: &mut Memory,
+    sign: Signedness,
+    base: RegisterNumber,
+    offset: u32,
+    constant: u64,
+) -> Gone
+    requires { next < 2 ^ 32 }
+    ensures { Goes (plain (flat.StoreConstant64 sign base offset constant)) (surroundings context.now) r.now next (contents memory.old) result r.now (contents memory.new) }
+{
+    store!(alloc, context, r, next, memory => kind64(sign), AnySource::Double(Source::Constant(constant)), base, offset as u64)
+}
