@@ -4,7 +4,6 @@
 
 mod broker;
 mod rings;
-mod serving;
 mod telling;
 
 use crate::fault::Fault;

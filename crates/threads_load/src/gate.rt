@@ -87,6 +87,8 @@ pub struct LoadGate {
     // Whether a lane met its turns, and whether all are to end: 1 then.
     unsettled: AtomicU64,
     stopped: AtomicU64,
+    // Whether a call of a turn was refused for want of memory: 1 then.
+    wanting: AtomicU64,
 }
 
 impl LoadGate {
@@ -131,12 +133,18 @@ impl LoadGate {
             over: AtomicU64::new(0),
             unsettled: AtomicU64::new(0),
             stopped: AtomicU64::new(0),
+            wanting: AtomicU64::new(0),
         })
     }
 
     /// Whether a lane met its turns.
     pub fn is_unsettled(&self) -> bool {
         self.unsettled.load(Ordering::SeqCst) != 0
+    }
+
+    /// Whether a call of a turn was refused for want of memory.
+    pub fn has_want(&self) -> bool {
+        self.wanting.load(Ordering::SeqCst) != 0
     }
 
     /// Ends all lanes, and has the producers give up.
@@ -269,6 +277,9 @@ impl LoadGate {
         let Some(tally) = self.tally(lane) else {
             return false;
         };
+        if has_want(done) {
+            self.wanting.store(1, Ordering::SeqCst);
+        }
         if is_idle(done) {
             let is_ended = is_full(done) && self.end_round();
             tally.rest(done);
@@ -332,6 +343,12 @@ fn is_idle(done: LaneAnswer) -> bool {
 // Whether a lane had nothing to do in a turn: its ring was empty, and none of its packets pending.
 fn has_nothing(done: LaneAnswer) -> bool {
     matches!(done.served, ServeAnswer::Empty) && matches!(done.advanced, Advanced::Idle)
+}
+
+// Whether a call of the turn was refused for want of memory.
+fn has_want(done: LaneAnswer) -> bool {
+    matches!(done.served, ServeAnswer::Refused(_, Refusal::OutOfMemory))
+        || matches!(done.advanced, Advanced::Refused(_, Refusal::OutOfMemory))
 }
 
 // Whether the audit is full: a call of the turn was refused for that.

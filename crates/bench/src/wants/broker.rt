@@ -4,13 +4,12 @@ ghost use Rattle.std.specs.Prelude.{◌≡◌, IfErr, IfOk};
 ghost use Rattle.threads_load.specs.Stages.{IsStage};
 
 use crate::fault::Fault;
-use crate::wants::serving::Counts;
 use crate::wants::telling::{tell_one, tell_two, tell_want};
 use access_core::Kernel;
 use aql_packet::{AgentHandle, ClientId, QueueId, RegionHandle};
 use client_threads::{
     Broker, Front, Opened, Room, SettleAllFault, SettledParts, SettledQueue, Settlement,
-    UnnamedBroker, run_lanes, settle_all,
+    UnnamedBroker, settle_all,
 };
 use core_model::Refusal;
 use policy::{Policy, ReadPolicyError, read_policy};
@@ -49,6 +48,16 @@ const PLACES: usize = 64;
 
 /// How many packets are published.
 const PACKETS: u64 = 2;
+
+/// How many turns a lane makes: more than its two packets take, each of which is launched, run and finished.
+const TURNS: u64 = 8;
+
+/// The gates of a lane: one that lets it make no turn, while packets are published, and one that lets it serve them.
+#[derive(Drop)]
+struct Gates {
+    publishing: LoadGate,
+    serving: LoadGate,
+}
 
 // (it has no contract, so that its callers don't carry that of `read_policy`)
 fn policy(alloc: Global) -> Result<Policy, ReadPolicyError> {
@@ -228,42 +237,15 @@ fn settle<B: Room>(rt: &HostRuntime, stage: Stage<B>) -> Result<(), Fault>
     }
 }
 
-// Says what a lane's gate counted: that memory was wanted, if it was, and how many packets were launched.
-fn tell_counts(rt: &HostRuntime, counts: &Counts) -> Result<(), Fault> {
-    if counts.has_want() {
+// Says what a lane's gate tells: that memory was wanted, if it was, and how many packets are finished.
+fn tell_served(rt: &HostRuntime, gate: &LoadGate) -> Result<(), Fault> {
+    if gate.has_want() {
         tell_want(rt, "serve")?;
     }
-    if counts.finishes() < PACKETS {
+    if gate.finished() < PACKETS {
         return Err(Fault::OutOfMemory);
     }
-    tell_two(rt, "serve", counts.launches(), counts.others())
-}
-
-// Runs the lanes of a stage, and says what their gate counted.
-fn run<B: Room + Send + Sync, R: Threads + Wait + Sync>(
-    rt: &R,
-    host: &HostRuntime,
-    stage: Stage<B>,
-) -> (Stage<B>, Result<(), Fault>)
-    requires { IsStage B.board stage }
-    ensures { IsStage B.board result.0 }
-{
-    let Stage {
-        broker,
-        front,
-        ends,
-        lanes,
-    } = stage;
-    let counts = Counts::new();
-    let lanes = run_lanes(rt, host.alloc(), &broker, lanes, &counts);
-    let said = tell_counts(host, &counts);
-    let stage = Stage {
-        broker,
-        front,
-        ends,
-        lanes,
-    };
-    (stage, said)
+    tell_one(rt, "serve", gate.finished())
 }
 
 // Serves what was published on a stage, and settles its broker.
@@ -271,11 +253,12 @@ fn serve<B: Room + Send + Sync, R: Threads + Wait + Sync>(
     rt: &R,
     host: &HostRuntime,
     stage: Stage<B>,
+    gate: &LoadGate,
 ) -> Result<(), Fault>
     requires { IsStage B.board stage }
 {
-    let (stage, ran) = run(rt, host, stage);
-    match ran {
+    let stage = run_stage(rt, host.alloc(), stage, &PLAN, 0, gate);
+    match tell_served(host, gate) {
         Ok(()) => settle(host, stage),
         Err(fault) => Err(give_up(stage, fault)),
     }
@@ -286,12 +269,12 @@ fn publish<B: Room + Send + Sync, R: Threads + Wait + Sync>(
     rt: &R,
     host: &HostRuntime,
     stage: Stage<B>,
-    gate: &LoadGate,
+    gates: &Gates,
 ) -> Result<(), Fault>
     requires { IsStage B.board stage }
 {
-    let stage = run_stage(rt, host.alloc(), stage, &PLAN, PACKETS, gate);
-    serve(rt, host, stage)
+    let stage = run_stage(rt, host.alloc(), stage, &PLAN, PACKETS, &gates.publishing);
+    serve(rt, host, stage, &gates.serving)
 }
 
 // Opens the stage of the plan over a broker that gets its name.
@@ -311,19 +294,22 @@ fn serve_named<B: Room + Send + Sync, R: Threads + Wait + Sync>(
     rt: &R,
     host: &HostRuntime,
     unnamed: UnnamedBroker,
-    gate: &LoadGate,
+    gates: &Gates,
 ) -> Result<(), Fault>
     requires { (unnamed.board ≡ B.board) × (unnamed.core ≡ B.opened) }
 {
     match open_planned::<B>(host.alloc(), unnamed) {
-        Ok(stage) => publish(rt, host, stage, gate),
+        Ok(stage) => publish(rt, host, stage, gates),
         Err(fault) => Err(fault),
     }
 }
 
 /// Serves the packets of a queue, each once more where that wants memory, and settles the broker.
 pub fn serve_queue<R: Threads + Wait + Sync>(rt: &R, host: &HostRuntime) -> Result<(), Fault> {
-    let gate = LoadGate::with_turns(host.alloc(), 1, PACKETS, 0)?;
+    let gates = Gates {
+        publishing: LoadGate::with_turns(host.alloc(), 1, PACKETS, 0)?,
+        serving: LoadGate::with_turns(host.alloc(), 1, PACKETS, TURNS)?,
+    };
     let unnamed = open(host.alloc())?;
-    serve_named::<Brand, R>(rt, host, unnamed, &gate)
+    serve_named::<Brand, R>(rt, host, unnamed, &gates)
 }
