@@ -295,7 +295,10 @@ class Counter:
         driver = f"{self.room}/counted_driver"
         if not os.path.exists(driver):
             words = ["gcc", "-std=c11", "-O2", "-Wall", "-Wextra", "-Wpedantic", "-Werror", INCLUDE, "-o", driver, f"{HERE}/c_counted.c", ARCHIVE, library_of_c()]
-            subprocess.run(words, check=True)
+            built = subprocess.run(words, capture_output=True, text=True)
+            if built.returncode:
+                self.wrong.append(f"{HERE}/c_counted.c: {built.stderr[-300:]}")
+                return 0
         few, many = (self.instructions([driver, str(count), str(others), told]) for count in (500, 1500))
         return (many - few) / 1000
 
