@@ -10,8 +10,9 @@ import os
 import subprocess
 import sys
 import tempfile
+import threading
 
-from trial import FILL, PRELUDE, SAMPLE, program_given
+from trial import DEADLINE, FILL, PRELUDE, SAMPLE, program_given
 
 QUEUES, EARLY = 100_000, 10_000
 # how many queues are asked for at once (that lines and replies fit into a pipe), and how many between two rotations
@@ -32,6 +33,9 @@ class Session:
         words = [program, "run", SAMPLE, "--audit", str(4 * TURN)]
         self.process = subprocess.Popen(words, stdin=subprocess.PIPE, stdout=subprocess.PIPE, stderr=self.errors)
         self.wrong, self.entries = [], 0
+        # (a run that doesn't go on in time is ended, and replies no more)
+        self.watch = threading.Timer(DEADLINE, self.process.kill)
+        self.watch.start()
 
     def ask(self, lines):
         try:
@@ -72,6 +76,7 @@ class Session:
 
     def end(self):
         """The program's status, and its processor time."""
+        self.watch.cancel()
         try:
             self.process.stdin.close()
         except BrokenPipeError:
