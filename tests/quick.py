@@ -17,7 +17,7 @@ from trial import HERE, is_unproved
 # the scripts that are tried, those that take longest first
 TRIED = (
     "memory.py", "journals.py", "instructions.py", "cases.py", "texts.py", "picture.py", "streams.py", "docs.py", "words.py", "explain.py",
-    "decode.py", "terminal.py", "pages.py", "forms.py", "readable.py", "listing.py", "rotation.py", "wrong_bodies.py", "needs.py",
+    "decode.py", "terminal.py", "pages.py", "forms.py", "readable.py", "listing.py", "rotation.py", "long.py", "wrong_bodies.py", "needs.py",
 )
 # those that want no program
 ALONE = {"wrong_bodies.py", "needs.py"}
