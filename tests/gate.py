@@ -10,9 +10,11 @@ import importlib.machinery
 import importlib.util
 import os
 import re
+import resource
 import shutil
 import subprocess
 import sys
+import time
 
 from proof_minutes import Watch
 from trial import HERE, TOP, is_unproved, version
@@ -77,10 +79,19 @@ def try_versions(proved):
     return counts
 
 
+def tell_cost(watch, since):
+    """Says what the proofs of each crate took, and all of this."""
+    dearest = sorted(watch.minutes().items(), key=lambda row: -row[1])
+    print("minutes of processor a proof: " + ", ".join(f"{crate} {taken:.1f}" for crate, taken in dearest))
+    used, clock = resource.getrusage(resource.RUSAGE_CHILDREN), (time.monotonic() - since) / 60
+    processor, memory = (used.ru_utime + used.ru_stime) / 60, used.ru_maxrss / 2**20
+    print(f"the gate took {clock:.0f} minutes of the clock and {processor:.0f} of processor on {os.cpu_count()} cores; one process took {memory:.1f} GB at the most")
+
+
 def main(program=None):
-    counts = []
+    counts, watch, since = [], None, time.monotonic()
     if not program:
-        with Watch():
+        with Watch() as watch:
             counts.append(told(["rt", "ci"]))
         build_archive()
         program = f"{TOP}/crates/brokerd/out/brokerd"
@@ -89,6 +100,8 @@ def main(program=None):
     for script in "joins.py", "wants.py":
         print(f"== {script}", flush=True)
         counts.append(told([sys.executable, "-B", f"{HERE}/{script}", BENCH]))
+    if watch:
+        tell_cost(watch, since)
     passed, failed = (sum(column) for column in zip(*counts))
     print(f"{passed} passed, {failed} failed")
     sys.exit(1 if failed else 0)
