@@ -91,9 +91,10 @@ FAMILIES = {
     "atomic on group memory, each operation": (
         *(f"atomic_{it}_group_rlx_wg_u{of} {to}1, [%here], {to}2;" for it in ("add", "sub", "min", "max") for of, to in BOTH),
         *(f"atomic_{it}_group_rlx_wg_b{of} {to}1, [%here], {to}2;" for it in ("and", "or", "xor", "exch") for of, to in BOTH),
-        *(f"atomicnoret_{it}_group_rlx_wg_u{of} [%here], {to}2;" for it in ("add", "sub", "min", "max") for of, to in BOTH),
-        *(f"atomicnoret_{it}_group_rlx_wg_b{of} [%here], {to}2;" for it in ("and", "or", "xor") for of, to in BOTH),
         *(f"atomic_cas_group_rlx_wg_b{of} {to}1, [%here], {to}2, {to}3;" for of, to in BOTH)),
+    "atomic without a result on group memory, each operation": (
+        *(f"atomicnoret_{it}_group_rlx_wg_u{of} [%here], {to}2;" for it in ("add", "sub", "min", "max") for of, to in BOTH),
+        *(f"atomicnoret_{it}_group_rlx_wg_b{of} [%here], {to}2;" for it in ("and", "or", "xor") for of, to in BOTH)),
     "load from global memory": (
         "ld_global_u32 $s1, [$d0];", "ld_global_s8 $s1, [$d0+9];", "ld_global_u64 $d1, [$d0+16];", "ld_global_u16 $s1, [$d0+4];"),
     "store to global memory": (
@@ -103,9 +104,10 @@ FAMILIES = {
     "atomic on global memory, each operation": (
         *(f"atomic_{it}_global_rlx_wg_u{of} {to}1, [$d0], {to}2;" for it in ("add", "sub", "min", "max") for of, to in BOTH),
         *(f"atomic_{it}_global_rlx_wg_b{of} {to}1, [$d0], {to}2;" for it in ("and", "or", "xor", "exch") for of, to in BOTH),
-        *(f"atomicnoret_{it}_global_rlx_wg_u{of} [$d0], {to}2;" for it in ("add", "sub", "min", "max") for of, to in BOTH),
-        *(f"atomicnoret_{it}_global_rlx_wg_b{of} [$d0], {to}2;" for it in ("and", "or", "xor") for of, to in BOTH),
         *(f"atomic_cas_global_rlx_wg_b{of} {to}1, [$d0], {to}2, {to}3;" for of, to in BOTH)),
+    "atomic without a result on global memory, each operation": (
+        *(f"atomicnoret_{it}_global_rlx_wg_u{of} [$d0], {to}2;" for it in ("add", "sub", "min", "max") for of, to in BOTH),
+        *(f"atomicnoret_{it}_global_rlx_wg_b{of} [$d0], {to}2;" for it in ("and", "or", "xor") for of, to in BOTH)),
     "barrier of a group": ("barrier;",),
 }
 
