@@ -92,7 +92,7 @@ class Batch:
     def __init__(self, kernels):
         self.kernels, self.came = kernels, b""
         self.policy = random_kernels.policy(kernels)
-        parts = [random_kernels.rights(kernels), *(random_kernels.launch(it, number) for number, it in enumerate(kernels, 1))]
+        parts = [random_kernels.rights(kernels), *(it.launch(number) for number, it in enumerate(kernels, 1))]
         self.script = text([*itertools.chain(*parts), "audit"])
         self.ends = list(itertools.accumulate(len(it) for it in parts))
 
@@ -155,7 +155,7 @@ def shapes_wanted():
 
 def try_kernels(trials, program, room):
     """Kernels at random: the program and the reading leave the same."""
-    kernels = [random_kernels.made(seed) for seed in range(COUNT)]
+    kernels = [random_kernels.Made(seed) for seed in range(COUNT)]
     batches = [Batch(kernels[at : at + TOGETHER]) for at in range(0, COUNT, TOGETHER)]
     trials.every("kernels made at random leave what the reading says", lambda it: it.asked_of(program, room) or it.difference(it.read()), batches, lambda: f" of {TOGETHER} kernels")
     words, places = shapes_met(kernels)
