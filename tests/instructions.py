@@ -16,6 +16,7 @@ import tempfile
 import tomllib
 
 from c import INCLUDE, library_of_c
+from counted_kernels import ARGUMENTS, COUNTING, FAMILIES, IN_TURN, INC, MEETING, RETURNING, STORING, WORDS, family, in_turn, storing
 from trial import FILL, HERE, PRELUDE, SAMPLE, TOP, is_unproved, program_given, text
 
 BENCH = f"{TOP}/crates/bench/out/bench"
@@ -23,94 +24,10 @@ ARCHIVE = f"{TOP}/crates/hobbydresser_c/out/libhobbydresser_c.a"
 # counts only what lies in the settling of a broker that has run, and in letting it go
 SETTLING = "--toggle-collect=bench::lane_speed::is_settled*"
 
-# kernels that count in registers, that load and store once in twelve steps at random places, and that meet at barriers,
-# with how many steps an item takes
-COUNTING = ("""
-  mov_u32 $s0, 0;
-  mov_u32 $s1, 13106;
-@again:
-  add_u32 $s0, $s0, 3;
-  xor_b32 $s2, $s0, $s1;
-  sub_u32 $s1, $s1, 1;
-  cmp_ne_b1_u32 $c0, $s1, 0;
-  cbr_b1 $c0, @again;
-  ret;
-""", 65_533)
-STORING = ("""
-  ld_kernarg_u64 $d0, [%words];
-  workitemabsid_u32 $s0, 0;
-  mov_u32 $s1, 5000;
-@turn:
-  mad_u32 $s0, $s0, 1664525, 1013904223;
-  shr_u32 $s2, $s0, 21;
-  cvt_u64_u32 $d1, $s2;
-  mad_u64 $d1, $d1, 4, $d0;
-  ld_global_u32 $s3, [$d1];
-  add_u32 $s3, $s3, 1;
-  st_global_u32 $s3, [$d1];
-  xor_b32 $s4, $s4, $s3;
-  add_u32 $s5, $s5, $s4;
-  sub_u32 $s1, $s1, 1;
-  cmp_ne_b1_u32 $c0, $s1, 0;
-  cbr_b1 $c0, @turn;
-  ret;
-""", 60_004)
-MEETING = ("""
-  group_u32 %sum;
-  ld_kernarg_u64 $d0, [%words];
-  mov_u32 $s1, 13106;
-@round:
-  atomicnoret_add_group_rlx_wg_u32 [%sum], 1;
-  barrier;
-  sub_u32 $s1, $s1, 1;
-  cmp_ne_b1_u32 $c0, $s1, 0;
-  cbr_b1 $c0, @round;
-  ld_group_u32 $s2, [%sum];
-  st_global_u32 $s2, [$d0];
-  ret;
-""", 65_535)
-
-# families of instructions, of which each stands fifty times in a row in one kernel
-FAMILIES = {
-    "step of least, greatest, quotient or remainder": (
-        "min_u32 $s0, $s1, $s2;", "max_s64 $d1, $d2, 5;", "div_u32 $s0, $s1, $s2;", "div_s64 $d1, $d1, $d2;", "rem_u32 $s0, $s1, 7;", "rem_s64 $d1, $d1, 7;"),
-    "step of cmov, not or mad with constants": (
-        "cmov_b32 $s0, $c0, $s1, $s2;", "cmov_b32 $s0, $c0, 1, 2;", "cmov_b64 $d1, $c0, $d2, 7;", "not_b32 $s0, $s1;", "not_b64 $d1, $d2;",
-        "mad_u32 $s1, $s1, 5, $s2;", "mad_u64 $d1, $d1, $d2, 5;", "mad_u32 $s1, $s1, 5, 6;"),
-    "step of a conversion": (
-        "cvt_u64_u32 $d1, $s1;", "cvt_u32_u64 $s1, $d1;", "cvt_s64_s32 $d1, $s2;", "cvt_u32_u8 $s1, $s2;", "cvt_s64_s8 $d1, $s2;",
-        "cvt_s64_u64 $d1, $d2;", "cvt_b1_u32 $c1, $s2;", "cvt_u32_b1 $s1, $c2;"),
-    "step of one bit": (
-        "and_b1 $c0, $c1, $c2;", "or_b1 $c0, $c1, 1;", "not_b1 $c0, $c1;", "mov_b1 $c0, 1;", "cmov_b1 $c0, $c1, $c2, $c3;", "cmp_eq_b1_b1 $c0, $c1, $c2;"),
-    "step with a constant in front": (
-        "sub_s32 $s0, 0, $s1;", "add_u32 $s0, 7, $s2;", "mul_u64 $d1, 7, $d2;", "shl_u64 $d1, 1, $s1;", "shr_s32 $s1, 9, $s2;",
-        "cmp_lt_b1_u32 $c0, 7, $s1;", "cmp_gt_b1_s64 $c0, 7, $d1;"),
-    "step that asks for its place or an argument": (
-        "workitemabsid_u32 $s1, 0;", "workitemid_u32 $s1, 0;", "workgroupid_u32 $s1, 1;", "gridsize_u64 $d1, 0;", "ld_kernarg_u64 $d1, [%words];"),
-    "load from group memory, or a store to it": (
-        "ld_group_u32 $s1, [%word];", "ld_group_s8 $s1, [%word];", "st_group_u32 $s1, [%word];", "st_group_u16 5, [%word];"),
-    "atomic on group memory": (
-        "atomicnoret_add_group_rlx_wg_u32 [%word], 1;", "atomic_max_group_rlx_wg_s32 $s1, [%word], $s2;", "atomic_cas_group_rlx_wg_b32 $s1, [%word], 1, 2;"),
-    "load from global memory": (
-        "ld_global_u32 $s1, [$d0];", "ld_global_s8 $s1, [$d0+9];", "ld_global_u64 $d1, [$d0+16];"),
-    "store to global memory": (
-        "st_global_u32 $s1, [$d0];", "st_global_u8 5, [$d0+9];", "st_global_u64 $d1, [$d0+16];"),
-    "atomic on global memory": (
-        "atomic_add_global_rlx_wg_u32 $s1, [$d0], 1;", "atomic_cas_global_rlx_wg_b64 $d1, [$d0+16], 1, 2;"),
-    "barrier of a group": ("barrier;",),
-}
-
-
-def family(lines):
-    """A kernel that has each instruction of a family fifty times in a row, with how many steps an item takes."""
-    rows = "".join(f"  {line}\n" * 50 for line in lines)
-    return f"\n  group_u32 %word;\n  ld_kernarg_u64 $d0, [%words];\n{rows}  ret;\n", 50 * len(lines) + 2
-
-
-def policy(regions, body, header="kernarg_u64 %words"):
-    """A policy of one client, one agent, so many regions and one kernel, that allows the client all of it."""
+def policy(regions, body, header=WORDS, length=8192):
+    """A policy of one client, one agent, so many regions, the last of some length, and one kernel, that allows the client all of it."""
     rows = ['[[client]]\nname = "nora"', '[[agent]]\nname = "mixer"\ntakes = ["kernel", "agent"]']
-    rows += [f'[[region]]\nname = "r{number}"\nlength = 8192' for number in range(1, regions + 1)]
+    rows += [f'[[region]]\nname = "r{number}"\nlength = {length if number == regions else 8192}' for number in range(1, regions + 1)]
     rows.append(f'[[kernel]]\nname = "k"\nentry = "&k"\ntext = """\nmodule &m:1:0:$full:$large:$default;\nprog kernel &k({header})\n{{{body}}};\n"""')
     kinds = (("agent", '"USE"'), ("region", '"READ", "WRITE"'), ("kernel", '"LAUNCH"'))
     rows += [f'[[allow]]\nclient = "nora"\nkind = "{kind}"\nobject = "*"\nrights = [{rights}]' for kind, rights in kinds]
@@ -119,7 +36,7 @@ def policy(regions, body, header="kernarg_u64 %words"):
 
 def dispatch(items, groups):
     """A kernel dispatch of so many items a work-group and so many groups, with its argument block at the first region's begin."""
-    words = [0x1402 | 1 << 16 | items << 32 | 1 << 48, 1 | items * groups << 32, 1 | 1 << 32, 4 << 32, 1, 1 << 32, 0, 0]
+    words = [0x1402 | 1 << 16 | items << 32 | 1 << 48, 1 | items * groups << 32, 1 | 1 << 32, 8 << 32, 1, 1 << 32, 0, 0]
     return "".join(word.to_bytes(8, "little").hex() for word in words)
 
 
@@ -178,9 +95,10 @@ def refused(count, lines):
     return packets(count) + ["rotate"] + ["finish 1 0", "read bob 0000000100000000 8"] * (lines // 2)
 
 
-def group(items):
-    """One work-group of so many items, whose kernel's argument is the second region."""
-    return rights(2) + ["write nora 0000000100000000 0000000002000000", "queue nora mixer 8 1", f"submit 1 1 {dispatch(items, 1)}", "serve 1", "run 1 0"]
+def group(items, groups=1, runs=1):
+    """Work-groups of so many items, of which so many run; their kernel's argument is the second region."""
+    lines = rights(2) + ["write nora 0000000100000000 0000000002000000", "queue nora mixer 8 1"]
+    return lines + [f"submit 1 1 {dispatch(items, groups)}", "serve 1"] + ["run 1 0"] * runs
 
 
 def run_lines(regions, queues, count):
@@ -216,6 +134,7 @@ class Counter:
     def __init__(self, brokerd, room):
         self.brokerd, self.room, self.wrong, self.is_unproved = brokerd, room, [], is_unproved(brokerd)
         self.has_library = os.path.exists(ARCHIVE) and not self.is_unproved
+        self.counted = {}
 
     def policy(self, written):
         path = f"{self.room}/policy.toml"
@@ -238,9 +157,23 @@ class Counter:
         few, many = (self.instructions(words, text(lines)) for lines in (less, more))
         return (many - few) / units
 
-    def kernel(self, kernel):
+    def kernel(self, kernel, header=WORDS, length=8192):
         body, steps = kernel
-        return self.script(policy(2, body), group(8), group(24), 16 * steps)
+        return self.script(policy(2, body, header, length), group(8), group(24), 16 * steps)
+
+    def item(self, body):
+        """A further item of a work-group."""
+        return self.script(policy(2, body), group(64), group(256), 192)
+
+    def groups(self, body, items, length=8192):
+        """A further work-group of so many items."""
+        return self.script(policy(2, body, length=length), group(items, 12, 2), group(items, 12, 10), 8)
+
+    def far(self, offset):
+        """A work-group of one item that writes four bytes so far behind the begin of 16 MB."""
+        if offset not in self.counted:
+            self.counted[offset] = self.groups(storing(0, offset), 1, 1 << 24)
+        return self.counted[offset]
 
     def explained(self, written):
         """A run of 100,000 entries, a rotation and 10,000 refused lines with `--explain`, in hundredths of the run without it."""
@@ -315,7 +248,16 @@ class Counter:
         yield "step with a load and a store in twelve", lambda: self.kernel(STORING)
         yield "step with atomics and barriers", lambda: self.kernel(MEETING)
         for name, lines in FAMILIES.items():
-            yield name, lambda lines=lines: self.kernel(family(lines))
+            yield name, lambda lines=lines: self.kernel(family(lines), ARGUMENTS)
+        for name, lines in IN_TURN.items():
+            yield name, lambda lines=lines: self.kernel(in_turn(lines), length=1 << 15)
+        yield "further item of a group that loads an argument and returns", lambda: self.item(RETURNING)
+        yield "further item of a group that runs inc", lambda: self.item(INC)
+        yield "empty group of one item", lambda: self.groups(RETURNING, 1)
+        yield "4 bytes written at the start of 16 MB", lambda: self.far(0)
+        yield "4 bytes written 64 KB before the end of 16 MB", lambda: self.far((1 << 24) - 65536)
+        yield "those before the end, in hundredths of those at the start", lambda: 100 * self.far((1 << 24) - 65536) / max(self.far(0), 1)
+        yield "item that stores 1 KB behind the last", lambda: self.groups(storing(1024), 64, 1 << 20) / 64
         yield "run line, 2 regions, 8 in flight", lambda: self.script(policy(2, "\n  ret;\n"), run_lines(2, 1, 100), run_lines(2, 1, 300), 200)
         yield "run line, 64 regions, 512 in flight", lambda: self.script(policy(64, "\n  ret;\n"), run_lines(64, 64, 10), run_lines(64, 64, 30), 20)
         yield "checked instruction", self.check

@@ -16,7 +16,7 @@ from trial import HERE, is_unproved
 
 # the scripts that are tried, those that take longest first
 TRIED = (
-    "memory.py", "journals.py", "instructions.py", "cases.py", "texts.py", "picture.py", "streams.py", "docs.py", "words.py", "explain.py",
+    "memory.py", "journals.py", "instructions.py", "kernels.py", "cases.py", "texts.py", "picture.py", "streams.py", "docs.py", "words.py", "explain.py",
     "decode.py", "terminal.py", "pages.py", "forms.py", "readable.py", "listing.py", "rotation.py", "long.py", "wrong_bodies.py", "needs.py",
 )
 # those that want no program
@@ -28,8 +28,9 @@ OTHERS = {
 }
 # what the scripts share, what writes cases, and what runs them all
 SHARED = {
-    "against.py", "beginnings.py", "by_rules.py", "commands.py", "gate.py", "hsa_by_hand.py", "hsa_functions.py", "hsa_kernels.py", "leaks_changes.py",
-    "leaks_scripts.py", "policy_model.py", "proof_minutes.py", "quick.py", "trial.py", "turned_bits.py",
+    "against.py", "beginnings.py", "by_rules.py", "commands.py", "counted_kernels.py", "gate.py", "hsa_by_hand.py", "hsa_functions.py", "hsa_kernels.py",
+    "instruction_rows.py", "leaks_changes.py", "leaks_scripts.py", "policy_model.py", "proof_minutes.py", "quick.py", "random_kernels.py", "trial.py",
+    "turned_bits.py",
 }
 
 
