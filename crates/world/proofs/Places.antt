@@ -1,15 +1,15 @@
 -- Rings by their queues: with another in the place of one, with one more, and without one.
-use Rattle.std.proofs.Common.{◌≡◌, ◌≢◌, ℕ, zero, suc, ◌+◌, ◌<◌, ◌≤◌, List, [], ◌∷◌, ◌++◌, length, refl, sym, ap, ◌∙◌, subst, Bool, true, false, Option, Some, None, inl, inr, arith}
+use Rattle.std.proofs.Common.{◌≡◌, ◌≢◌, ℕ, zero, suc, ◌+◌, ◌<◌, ◌≤◌, List, [], ◌∷◌, ◌++◌, get_or, length, refl, sym, ap, ◌∙◌, subst, Bool, true, false, Option, Some, None, inl, inr, arith}
 use Rattle.std.specs.Prelude.{◌==◌, drop, option_map, slice_get, slice_index_or, slice_set, if◌then◌else◌}
 use Rattle.std.specs.List.{remove}
 use Rattle.std.proofs.lemmas.Bool.{eq-eqb}
 use Rattle.std.proofs.lemmas.Bool.Decides.{eqb_tells}
-use Rattle.std.proofs.lemmas.Option.{slice_get_past}
+use Rattle.std.proofs.lemmas.Option.{slice_get-get_or, slice_get_past}
 use Rattle.aql_packet.specs.declared.ids.QueueId.{QueueId}
 use Rattle.ring_core.specs.Machine.{Machine}
 use Rattle.world.specs.declared.queue_ring.QueueRing.{QueueRing}
 use Rattle.world.specs.InStep.{AreApart}
-use Rattle.world.specs.Making.{place_in, ring_in, rings_of, with_queue_ring}
+use Rattle.world.specs.Making.{IsOpenPlace, place_in, ring_in, rings_of, with_queue_ring}
 use Rattle.world.specs.Obeying.{with_gone, without}
 use Rattle.world.specs.States.{among, leave_out, put, queue_machine, with_one}
 use Rattle.world.proofs.Among.{differs, out_found, put_its_own, same_queue, some_is}
@@ -174,6 +174,36 @@ found_without rings queue other x apart found =
 -- no ring before a place is the queue's
 abbrev pub IsLookedThrough : List QueueRing → QueueId → ℕ → Type 0
 IsLookedThrough rings queue place = place_in rings queue ≡ place + place_in (drop place rings) queue
+
+-- no two rings are of one queue, so a ring of the queue that stands at a place has its place there
+pub place_found : (rings : List QueueRing) (queue : QueueId) (place : ℕ) (r : QueueRing) → AreApart (rings_of rings) → slice_get rings place ≡ Some r → r.queue.0 ≡ queue.0 → place_in rings queue ≡ place
+place_found [] queue place r apart there is = absurd (cc)
+place_found (x ∷ xs) queue zero r apart there is =
+    let same : x.queue.0 ≡ queue.0 = ap (λ (y : QueueRing). y.queue.0) (some_is x r there) ∙ is in
+    ap (λ b. if b then 0 else suc (place_in xs queue)) (eq-eqb x.queue.0 queue.0 same)
+place_found (x ∷ xs) queue (suc place) r apart there is =
+    let behind : place_in xs queue ≡ place = place_found xs queue place r apart.1 there is in
+    elim (eqb_tells x.queue.0 queue.0) [
+      | inl same ↦
+          let some : among (rings_of xs) queue ≡ Some r.ring = ring_among xs queue ∙ ap (λ i. option_map (λ (y : QueueRing). y.ring) (slice_get xs i)) behind ∙ ap (option_map (λ (y : QueueRing). y.ring)) there in
+          let none : among (rings_of xs) queue ≡ None = ap (among (rings_of xs)) (same_queue queue x.queue (sym same.1)) ∙ apart.0 in
+          absurd (let never : None ≡ Some r.ring = sym none ∙ some in cc)
+      | inr away ↦ ap (λ b. if b then 0 else suc (place_in xs queue)) away.0 ∙ ap suc behind
+    ]
+
+pub place_at : (rings : List QueueRing) (queue : QueueId) (place : ℕ) (r : QueueRing) → AreApart (rings_of rings) → place < length rings → r ≡ get_or rings place r → r.queue.0 ≡ queue.0 → place ≡ place_in rings queue
+place_at rings queue place r apart lt there is = sym (place_found rings queue place r apart (slice_get-get_or rings place r lt ∙ ap Some (sym there)) is)
+
+-- a place inside is that of an open queue
+pub open_at : (rings : List QueueRing) (queue : QueueId) (place : ℕ) → place < length rings → place ≡ place_in rings queue → IsOpenPlace rings queue (Some place)
+open_at rings queue place lt is =
+    let there = inside rings place lt in
+    (lt, is, there.0, ap (slice_get rings) (sym is) ∙ there.1)
+  where
+    inside : (xs : List QueueRing) (i : ℕ) → i < length xs → (r : QueueRing) × (slice_get xs i ≡ Some r)
+    inside [] i lt = absurd (omega (arith, lt))
+    inside (x ∷ xs) zero lt = (x, refl)
+    inside (x ∷ xs) (suc i) lt = inside xs i (omega (arith, lt))
 
 -- a queue without a ring has its place behind the last
 pub none_inside : (rings : List QueueRing) (queue : QueueId) → length rings ≤ place_in rings queue → ring_in rings queue ≡ None

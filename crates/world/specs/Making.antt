@@ -1,5 +1,5 @@
 -- The steps on a queue's ring, as the code takes them.
-use Rattle.std.specs.Prelude.{ℕ, suc, ◌≡◌, ◌==◌, ◌||◌, nat_le, ◌⊎◌, Bool, true, false, List, [], ◌∷◌, fold, map, slice_get, slice_set, Option, Some, None, Ok, Err, if◌then◌else◌}
+use Rattle.std.specs.Prelude.{ℕ, suc, ◌≡◌, ◌==◌, ◌||◌, ◌<◌, nat_le, ◌⊎◌, Bool, true, false, List, [], ◌∷◌, fold, length, map, slice_get, slice_set, Option, Some, None, Ok, Err, if◌then◌else◌}
 use Rattle.aql_packet.specs.declared.ids.QueueId.{QueueId}
 use Rattle.core_model.specs.declared.refusal.Refusal.TheVariants as why
 use Rattle.core_model.specs.History.{History}
@@ -21,6 +21,11 @@ place_in (r ∷ rings) queue = if r.queue.0 == queue.0 then 0 else suc (place_in
 -- the ring of a queue among rings, if it has one
 abbrev pub ring_in : List QueueRing → QueueId → Option QueueRing
 ring_in rings queue = slice_get rings (place_in rings queue)
+
+-- the place of a queue's ring, if it has one
+abbrev pub IsOpenPlace : List QueueRing → QueueId → Option ℕ → Type 0
+IsOpenPlace rings queue None = ring_in rings queue ≡ None
+IsOpenPlace rings queue (Some place) = (place < length rings) × (place ≡ place_in rings queue) × (ring : QueueRing) × (ring_in rings queue ≡ Some ring)
 
 -- the rings alone, with their queues
 abbrev pub rings_of : List QueueRing → Rings

@@ -8,7 +8,8 @@ ghost use Rattle.aql_packet.specs.Ring.{is_ring_size};
 ghost use Rattle.ring_core.specs.Machine.{is_producer_count, opened};
 ghost use Rattle.world.specs.declared.reply.Answer.TheVariants as answer;
 ghost use Rattle.world.specs.Dues.{closed_by};
-ghost use Rattle.world.specs.Making.{ring_in};
+ghost use Rattle.world.specs.InStep.{AreApart};
+ghost use Rattle.world.specs.Making.{ring_in, rings_of};
 ghost use Rattle.world.specs.Obeying.{Asks, HandsOut, IsNext, Leaves, MayOpen, Obeys, Opens, TakesAt};
 
 use crate::queue_ring::{Next, QueueRing};
@@ -38,6 +39,7 @@ pub(crate) fn serve_request(
     closed: &mut Log<QueueRing>,
     request: Request,
 ) -> Reply
+    requires { AreApart (rings_of rings.old.items) }
     ensures { Obeys request core.old.history rings.old.items closed.old result core.new.history rings.new.items closed.new }
 {
     match request {
@@ -92,6 +94,7 @@ fn make_call(
     closed: &mut Log<QueueRing>,
     call: Call,
 ) -> Reply
+    requires { AreApart (rings_of rings.old.items) }
     ensures asks { Asks (asked.Call call) core.old.history result core.new.history }
     ensures leaves { Leaves (closed_by call) result rings.old.items closed.old rings.new.items closed.new }
 {
@@ -118,6 +121,7 @@ fn leave(
     closing: Option<QueueId>,
     reply: &Reply,
 )
+    requires { AreApart (rings_of rings.old.items) }
     ensures { Leaves closing reply.now rings.old.items closed.old rings.new.items closed.new }
 {
     match (closing, reply) {
@@ -133,6 +137,7 @@ pub(crate) fn take(
     rings: &mut Vec<QueueRing>,
     queue: QueueId,
 ) -> Reply
+    requires { AreApart (rings_of rings.old.items) }
     ensures { TakesAt (ring_in rings.old.items queue) queue core.old.history rings.old.items result core.new.history rings.new.items }
 {
     match next_packet(rings, queue) {
@@ -150,7 +155,8 @@ fn hand_over(
     queue: QueueId,
     next: Next,
 ) -> Reply
-    requires { IsNext rings.old.items queue next }
+    requires next { IsNext rings.old.items queue next }
+    requires apart { AreApart (rings_of rings.old.items) }
     ensures { TakesAt (ring_in rings.old.items queue) queue core.old.history rings.old.items result core.new.history rings.new.items }
 {
     let packet = next.packet;

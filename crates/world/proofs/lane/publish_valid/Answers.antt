@@ -7,6 +7,9 @@ use Rattle.world.proofs.Obeyed.{World}
 use Rattle.world.proofs.Requesting.{keeps_where}
 use Rattle.world.proofs.lane.publish_valid.Goals as goal
 
+pub publish-requires-clause-apart : goal.publish-requires-clause-apart
+publish-requires-clause-apart c = c.world.invariant.0.behind.apart
+
 pub invariant_of-world : goal.invariant_of-world
 invariant_of-world c =
     let s = c.world.inside in

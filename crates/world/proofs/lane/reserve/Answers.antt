@@ -12,6 +12,9 @@ use Rattle.world.proofs.Obeyed.{World, obeyed_served}
 use Rattle.world.proofs.Reserving.{as_step, reserved, reserving}
 use Rattle.world.proofs.lane.reserve.Goals as goal
 
+pub reserve-requires : goal.reserve-requires
+reserve-requires c = c.world.invariant.0.behind.apart
+
 pub invariant_of-world : goal.invariant_of-world
 invariant_of-world c =
     let s = c.world.inside in

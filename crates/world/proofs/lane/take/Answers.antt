@@ -9,6 +9,9 @@ use Rattle.world.proofs.Kept.{served_kept}
 use Rattle.world.proofs.Obeyed.{World, obeyed_served}
 use Rattle.world.proofs.lane.take.Goals as goal
 
+pub take-requires : goal.take-requires
+take-requires c = c.world.invariant.0.behind.apart
+
 pub invariant_of-world : goal.invariant_of-world
 invariant_of-world c =
     let s = c.world.inside in

@@ -10,5 +10,5 @@ use Rattle.world.proofs.rings.note_taken.Goals as goal
 pub returns-in-Waiting : goal.returns-in-Waiting
 returns-in-Waiting c =
     subst (λ (became : Taken). RingFollows (ring_in c.args.rings.now.items c.args.queue) c.args.queue became c.args.rings.now.items c.args.rings.now.items) (sym c.in-Waiting.is)
-    (subst (λ o. RingFollows o c.args.queue (Waiting c.in-Waiting.field-0) c.args.rings.now.items c.args.rings.now.items) (sym c.requires.1)
-    (sym (put_itself c.args.rings.now.items c.args.queue c.requires.0 c.requires.1)))
+    (subst (λ o. RingFollows o c.args.queue (Waiting c.in-Waiting.field-0) c.args.rings.now.items c.args.rings.now.items) (sym c.requires.ring.1)
+    (sym (put_itself c.args.rings.now.items c.args.queue c.requires.ring.0 c.requires.ring.1)))

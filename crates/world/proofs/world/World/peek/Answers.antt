@@ -7,6 +7,9 @@ use Rattle.world.proofs.Obeyed.{World}
 use Rattle.world.proofs.Requesting.{keeps_peek}
 use Rattle.world.proofs.world.World.peek.Goals as goal
 
+pub collect-requires : goal.collect-requires
+collect-requires c = c.self.invariant.0.behind.apart
+
 pub invariant_of-self : goal.invariant_of-self
 invariant_of-self c =
     let s = c.self.inside in

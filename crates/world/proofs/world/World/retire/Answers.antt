@@ -7,6 +7,9 @@ use Rattle.world.proofs.Obeyed.{World}
 use Rattle.world.proofs.Requesting.{keeps_retire}
 use Rattle.world.proofs.world.World.retire.Goals as goal
 
+pub retire-requires : goal.retire-requires
+retire-requires c = c.self.invariant.0.behind.apart
+
 pub invariant_of-self : goal.invariant_of-self
 invariant_of-self c =
     let s = c.self.inside in

@@ -6,6 +6,9 @@ use Rattle.world.specs.States.{Joined, ring_of}
 use Rattle.world.proofs.Obeyed.{ring_told}
 use Rattle.world.proofs.world.World.ring.Goals as goal
 
+pub ring_at-requires : goal.ring_at-requires
+ring_at-requires c = c.self.invariant.0.behind.apart
+
 pub returns-in-Some : goal.returns-in-Some
 returns-in-Some c =
     let s = c.self.inside in

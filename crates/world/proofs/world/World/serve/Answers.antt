@@ -7,6 +7,9 @@ use Rattle.world.proofs.Obeyed.{World, obeyed_served}
 use Rattle.world.proofs.Deciding.{obeyed_decided}
 use Rattle.world.proofs.world.World.serve.Goals as goal
 
+pub serve_request-requires : goal.serve_request-requires
+serve_request-requires c = c.self.invariant.0.behind.apart
+
 pub invariant_of-self : goal.invariant_of-self
 invariant_of-self c =
     let s = c.self.inside in
