@@ -14,6 +14,7 @@ mod RoundLemmas
 mod GroupEnds
 mod ReadBytes
 mod WordLemmas
+mod MaskLemmas
 mod RightRuns
 mod Layers
 mod LockLemmas

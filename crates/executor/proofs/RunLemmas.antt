@@ -12,34 +12,33 @@ use Rattle.std.proofs.lemmas.Bool.{cases_lt, lt-ltb, le-ltb}
 use Rattle.std.proofs.lemmas.Bool.Decides.{nat_tests}
 use Rattle.executor.specs.declared.written_range.WrittenRange.{WrittenRange}
 use Rattle.executor.specs.Written.{laid, all_laid, end_of, nothing, AreRuns}
-use Rattle.std.proofs.lemmas.Nat.Bits.{bit_at-zero}
-use Rattle.executor.specs.inner.Pages.{in_blocks, byte_at, page_byte, region_byte}
+use Rattle.executor.specs.inner.Pages.{in_blocks, byte_at, region_byte}
 use Rattle.executor.specs.Told.{noted, runs_below, runs_of, with_byte}
-use Rattle.executor.specs.inner.Told.{adjoins_last, Ascends, Follows, Told, Agrees, Gathers}
+use Rattle.executor.specs.inner.Told.{adjoins_last, noted_all, Ascends, Follows, Told, Agrees, Gathers}
 use Rattle.executor.proofs.OnlyRuns.{only_runs}
 use Rattle.executor.proofs.Maps.{laid_inside, laid_below, laid_past, laid_same, laid_twice, by_range, get_read, get_past, at_known, at_unknown, IsSize, size_region}
 
--- a run of one byte, and a run with one more
-abbrev pub single : ℕ → ℕ → WrittenRange
-single address byte = record { address = address; bytes = byte ∷ [] }
+-- a run of its own, and a run with more
+abbrev pub alone : ℕ → List ℕ → WrittenRange
+alone address bytes = record { address = address; bytes = bytes }
 
-abbrev pub longer : WrittenRange → ℕ → WrittenRange
-longer run byte = record { address = run.address; bytes = run.bytes ++ byte ∷ [] }
+abbrev pub longer : WrittenRange → List ℕ → WrittenRange
+longer run bytes = record { address = run.address; bytes = run.bytes ++ bytes }
 
--- ---- what the code does is `noted`
-pub noted_apart : (runs : List WrittenRange) (address byte : ℕ) → adjoins_last runs address ≡ false → runs ++ single address byte ∷ [] ≡ noted runs address byte
-noted_apart [] address byte e = refl
-noted_apart (run ∷ []) address byte e = rw e refl
-noted_apart (run ∷ (next ∷ rest)) address byte e = ap (λ rs. run ∷ rs) (noted_apart (next ∷ rest) address byte e)
+-- ---- what the code does is `noted_all`
+pub noted_apart : (runs : List WrittenRange) (address : ℕ) (bytes : List ℕ) → adjoins_last runs address ≡ false → runs ++ alone address bytes ∷ [] ≡ noted_all runs address bytes
+noted_apart [] address bytes e = refl
+noted_apart (run ∷ []) address bytes e = rw e refl
+noted_apart (run ∷ (next ∷ rest)) address bytes e = ap (λ rs. run ∷ rs) (noted_apart (next ∷ rest) address bytes e)
 
-pub noted_longer : (runs : List WrittenRange) (address byte place : ℕ) (old : WrittenRange) → place + 1 ≡ length runs → old ≡ get_or runs place old → adjoins_last runs address ≡ true
-    → slice_set runs place (longer old byte) ≡ noted runs address byte
-noted_longer [] address byte place old is was e = absurd (omega arith)
-noted_longer (run ∷ []) address byte zero old is was e = rw (e, was) refl
-noted_longer (run ∷ []) address byte (suc place) old is was e = absurd (omega arith)
-noted_longer (run ∷ (next ∷ rest)) address byte zero old is was e = absurd (omega arith)
-noted_longer (run ∷ (next ∷ rest)) address byte (suc place) old is was e =
-    ap (λ rs. run ∷ rs) (noted_longer (next ∷ rest) address byte place old (omega arith) was e)
+pub noted_longer : (runs : List WrittenRange) (address : ℕ) (bytes : List ℕ) (place : ℕ) (old : WrittenRange) → place + 1 ≡ length runs → old ≡ get_or runs place old → adjoins_last runs address ≡ true
+    → slice_set runs place (longer old bytes) ≡ noted_all runs address bytes
+noted_longer [] address bytes place old is was e = absurd (omega arith)
+noted_longer (run ∷ []) address bytes zero old is was e = rw (e, was) refl
+noted_longer (run ∷ []) address bytes (suc place) old is was e = absurd (omega arith)
+noted_longer (run ∷ (next ∷ rest)) address bytes zero old is was e = absurd (omega arith)
+noted_longer (run ∷ (next ∷ rest)) address bytes (suc place) old is was e =
+    ap (λ rs. run ∷ rs) (noted_longer (next ∷ rest) address bytes place old (omega arith) was e)
 
 pub adjoins_at : (runs : List WrittenRange) (address place : ℕ) (old : WrittenRange) → place + 1 ≡ length runs → old ≡ get_or runs place old → adjoins_last runs address ≡ (end_of old == address)
 adjoins_at [] address place old is was = absurd (omega arith)
@@ -48,15 +47,21 @@ adjoins_at (run ∷ []) address (suc place) old is was = absurd (omega arith)
 adjoins_at (run ∷ (next ∷ rest)) address zero old is was = absurd (omega arith)
 adjoins_at (run ∷ (next ∷ rest)) address (suc place) old is was = adjoins_at (next ∷ rest) address place old (omega arith) was
 
-same_run : (new old : WrittenRange) (byte : ℕ) → new.address ≡ old.address → new.bytes ≡ old.bytes ++ byte ∷ [] → new ≡ longer old byte
-same_run new old byte p q = λ i. record { address = p i; bytes = q i }
+same_run : (new old : WrittenRange) (bytes : List ℕ) → new.address ≡ old.address → new.bytes ≡ old.bytes ++ bytes → new ≡ longer old bytes
+same_run new old bytes p q = λ i. record { address = p i; bytes = q i }
 
-pub noted_pushed : {T E : Type 0} (r : Result T E) (runs : List WrittenRange) (address byte place : ℕ) (old new : WrittenRange) → adjoins_last runs address ≡ true
-    → place + 1 ≡ length runs → old ≡ get_or runs place old → new.address ≡ old.address → OnOk r (new.bytes ≡ old.bytes ++ byte ∷ [])
-    → OnOk r (slice_set runs place new ≡ noted runs address byte)
-noted_pushed (Err e) runs address byte place old new adjoins last was p q = tt
-noted_pushed (Ok x) runs address byte place old new adjoins last was p q =
-    ap (λ r. slice_set runs place r) (same_run new old byte p q) ∙ noted_longer runs address byte place old last was adjoins
+pub noted_pushed : {T E : Type 0} (r : Result T E) (runs : List WrittenRange) (address : ℕ) (bytes : List ℕ) (place : ℕ) (old new : WrittenRange) → adjoins_last runs address ≡ true
+    → place + 1 ≡ length runs → old ≡ get_or runs place old → new.address ≡ old.address → OnOk r (new.bytes ≡ old.bytes ++ bytes)
+    → OnOk r (slice_set runs place new ≡ noted_all runs address bytes)
+noted_pushed (Err e) runs address bytes place old new adjoins last was p q = tt
+noted_pushed (Ok x) runs address bytes place old new adjoins last was p q =
+    ap (λ r. slice_set runs place r) (same_run new old bytes p q) ∙ noted_longer runs address bytes place old last was adjoins
+
+-- one byte behind runs
+noted_one : (runs : List WrittenRange) (address byte : ℕ) → noted_all runs address (byte ∷ []) ≡ noted runs address byte
+noted_one [] address byte = refl
+noted_one (run ∷ []) address byte = refl
+noted_one (run ∷ (next ∷ rest)) address byte = ap (λ rs. run ∷ rs) (noted_one (next ∷ rest) address byte)
 
 pub has_last : (runs : List WrittenRange) (address : ℕ) → adjoins_last runs address ≡ true → 0 < length runs
 has_last [] address e = absurd (grind arith)
@@ -75,21 +80,21 @@ by_test : (P : Bool → Type 0) (t : Bool) → (t ≡ true → P true) → (t �
 by_test P true yes_case no_case = yes_case refl
 by_test P false yes_case no_case = no_case refl
 
-pub noted_laid : (runs : List WrittenRange) (a byte x : ℕ) → Ascends a runs → all_laid (noted runs a byte) x ≡ laid (all_laid runs) a (byte ∷ []) x
-noted_laid [] a byte x up = refl
-noted_laid (run ∷ []) a byte x up =
-    by_test (λ t. all_laid (if t then longer run byte ∷ [] else run ∷ single a byte ∷ []) x ≡ laid (laid nothing run.address run.bytes) a (byte ∷ []) x) (end_of run == a)
+pub noted_laid : (runs : List WrittenRange) (a : ℕ) (bytes : List ℕ) (x : ℕ) → Ascends a runs → all_laid (noted_all runs a bytes) x ≡ laid (all_laid runs) a bytes x
+noted_laid [] a bytes x up = refl
+noted_laid (run ∷ []) a bytes x up =
+    by_test (λ t. all_laid (if t then longer run bytes ∷ [] else run ∷ alone a bytes ∷ []) x ≡ laid (laid nothing run.address run.bytes) a bytes x) (end_of run == a)
     (λ e. let is : end_of run ≡ a = grind (arith, nat_tests) in
-    sym (laid_twice nothing run.address a run.bytes (byte ∷ []) x (sym is)))
-    (λ e. laid_swap nothing a run.address (byte ∷ []) run.bytes x up.1.0)
-noted_laid (run ∷ (next ∷ rest)) a byte x up =
-    laid_same (all_laid (noted (next ∷ rest) a byte)) (laid (all_laid (next ∷ rest)) a (byte ∷ [])) run.address run.bytes x (noted_laid (next ∷ rest) a byte x up.1.1.1)
-    ∙ laid_swap (all_laid (next ∷ rest)) a run.address (byte ∷ []) run.bytes x up.1.0
+    sym (laid_twice nothing run.address a run.bytes bytes x (sym is)))
+    (λ e. laid_swap nothing a run.address bytes run.bytes x up.1.0)
+noted_laid (run ∷ (next ∷ rest)) a bytes x up =
+    laid_same (all_laid (noted_all (next ∷ rest) a bytes)) (laid (all_laid (next ∷ rest)) a bytes) run.address run.bytes x (noted_laid (next ∷ rest) a bytes x up.1.1.1)
+    ∙ laid_swap (all_laid (next ∷ rest)) a run.address bytes run.bytes x up.1.0
 
-noted_follows : (end a byte : ℕ) (run : WrittenRange) (rest : List WrittenRange) → end < run.address → Follows end (noted (run ∷ rest) a byte)
-noted_follows end a byte run [] h =
-    by_test (λ t. Follows end (if t then longer run byte ∷ [] else run ∷ single a byte ∷ [])) (end_of run == a) (λ e. h) (λ e. h)
-noted_follows end a byte run (next ∷ rest) h = h
+noted_follows : (end a : ℕ) (bytes : List ℕ) (run : WrittenRange) (rest : List WrittenRange) → end < run.address → Follows end (noted_all (run ∷ rest) a bytes)
+noted_follows end a bytes run [] h =
+    by_test (λ t. Follows end (if t then longer run bytes ∷ [] else run ∷ alone a bytes ∷ [])) (end_of run == a) (λ e. h) (λ e. h)
+noted_follows end a bytes run (next ∷ rest) h = h
 
 pub ascends_weaker : (limit more : ℕ) (runs : List WrittenRange) → limit ≤ more → Ascends limit runs → Ascends more runs
 ascends_weaker limit more [] le up = tt
@@ -97,18 +102,18 @@ ascends_weaker limit more (run ∷ runs) le up =
     let within : end_of run ≤ limit = up.1.0 in
     (up.0, (omega arith, (up.1.1.0, ascends_weaker limit more runs le up.1.1.1)))
 
-pub noted_ascends : (runs : List WrittenRange) (a byte : ℕ) → Ascends a runs → Ascends (a + 1) (noted runs a byte)
-noted_ascends [] a byte up = (omega arith, (omega arith, (tt, tt)))
-noted_ascends (run ∷ []) a byte up =
+pub noted_ascends : (runs : List WrittenRange) (a : ℕ) (bytes : List ℕ) → 0 < length bytes → Ascends a runs → Ascends (a + length bytes) (noted_all runs a bytes)
+noted_ascends [] a bytes some up = (some, (omega arith, (tt, tt)))
+noted_ascends (run ∷ []) a bytes some up =
     let has : 0 < length run.bytes = up.0 in
     let within : end_of run ≤ a = up.1.0 in
-    let long : length (run.bytes ++ byte ∷ []) ≡ length run.bytes + 1 = length-append run.bytes (byte ∷ []) in
-    by_test (λ t. Ascends (a + 1) (if t then longer run byte ∷ [] else run ∷ single a byte ∷ [])) (end_of run == a)
+    let long : length (run.bytes ++ bytes) ≡ length run.bytes + length bytes = length-append run.bytes bytes in
+    by_test (λ t. Ascends (a + length bytes) (if t then longer run bytes ∷ [] else run ∷ alone a bytes ∷ [])) (end_of run == a)
     (λ e. let is : end_of run ≡ a = grind (arith, nat_tests) in (omega arith, (omega arith, (tt, tt))))
-    (λ e. let other : end_of run ≢ a = grind (arith, nat_tests) in (has, (omega arith, (omega arith, (omega arith, (omega arith, (tt, tt)))))))
-noted_ascends (run ∷ (next ∷ rest)) a byte up =
+    (λ e. let other : end_of run ≢ a = grind (arith, nat_tests) in (has, (omega arith, (omega arith, (some, (omega arith, (tt, tt)))))))
+noted_ascends (run ∷ (next ∷ rest)) a bytes some up =
     let within : end_of run ≤ a = up.1.0 in
-    (up.0, (omega arith, (noted_follows (end_of run) a byte next rest up.1.1.0, noted_ascends (next ∷ rest) a byte up.1.1.1)))
+    (up.0, (omega arith, (noted_follows (end_of run) a bytes next rest up.1.1.0, noted_ascends (next ∷ rest) a bytes some up.1.1.1)))
 
 -- ---- runs of what a map has below a limit
 up_to : (at : ℕ → Option ℕ) (limit x : ℕ) → x < limit → (if nat_lt x limit then at x else None) ≡ at x
@@ -117,15 +122,16 @@ up_to at limit x p = rw (lt-ltb x limit p) refl
 from_on : (at : ℕ → Option ℕ) (limit x : ℕ) → limit ≤ x → (if nat_lt x limit then at x else None) ≡ None
 from_on at limit x p = rw (le-ltb x limit p) refl
 
-pub told_noted : (at : ℕ → Option ℕ) (limit byte : ℕ) (runs : List WrittenRange) → at limit ≡ Some byte → Told at limit runs → Told at (limit + 1) (noted runs limit byte)
-told_noted at limit byte runs has told = record {
-  ascends = noted_ascends runs limit byte told.ascends;
-  exact = λ x. noted_laid runs limit byte x told.ascends
-      ∙ by_range limit 1 x
-      (λ p. laid_below (all_laid runs) limit (byte ∷ []) x p ∙ (told.exact x ∙ (up_to at limit x p ∙ sym (up_to at (limit + 1) x (omega arith)))))
-      (λ p q. let e : limit ≡ x = omega arith in let d : x - limit ≡ 0 = omega arith in
-      laid_inside (all_laid runs) limit (byte ∷ []) x p q ∙ (ap (slice_get (byte ∷ [])) d ∙ (sym has ∙ (ap at e ∙ sym (up_to at (limit + 1) x q)))))
-      (λ p. laid_past (all_laid runs) limit (byte ∷ []) x p ∙ (told.exact x ∙ (from_on at limit x (omega arith) ∙ sym (from_on at (limit + 1) x p))));
+pub told_noted : (at : ℕ → Option ℕ) (limit : ℕ) (bytes : List ℕ) (runs : List WrittenRange) → 0 < length bytes
+    → ((i : ℕ) → i < length bytes → at (limit + i) ≡ slice_get bytes i) → Told at limit runs → Told at (limit + length bytes) (noted_all runs limit bytes)
+told_noted at limit bytes runs some has told = record {
+  ascends = noted_ascends runs limit bytes some told.ascends;
+  exact = λ x. noted_laid runs limit bytes x told.ascends
+      ∙ by_range limit (length bytes) x
+      (λ p. laid_below (all_laid runs) limit bytes x p ∙ (told.exact x ∙ (up_to at limit x p ∙ sym (up_to at (limit + length bytes) x (omega arith)))))
+      (λ p q. let e : limit + (x - limit) ≡ x = omega arith in
+      laid_inside (all_laid runs) limit bytes x p q ∙ (sym (has (x - limit) (omega arith)) ∙ (ap at e ∙ sym (up_to at (limit + length bytes) x q))))
+      (λ p. laid_past (all_laid runs) limit bytes x p ∙ (told.exact x ∙ (from_on at limit x (omega arith) ∙ sym (from_on at (limit + length bytes) x p))));
 }
 
 pub told_skipped : (at : ℕ → Option ℕ) (limit next : ℕ) (runs : List WrittenRange) → limit ≤ next → ((x : ℕ) → limit ≤ x → x < next → at x ≡ None) → Told at limit runs → Told at next runs
@@ -146,32 +152,32 @@ told_at at limit other runs e told = subst (λ n. Told at n runs) e told
 pub gathers_none : (base size : ℕ) (part : ℕ → Option ℕ) (runs : List WrittenRange) → Gathers base size part 0 runs runs
 gathers_none base size part runs = λ at told agrees. told_at at base (base + 0) runs (omega arith) told
 
-pub gathers_byte : (base size place byte : ℕ) (part : ℕ → Option ℕ) (before runs new : List WrittenRange) → Gathers base size part place before runs → place < size
-    → part place ≡ Some byte → new ≡ noted runs (base + place) byte → Gathers base size part (place + 1) before new
-gathers_byte base size place byte part before runs new so_far inside has is = λ at told agrees.
-    let more : Told at (base + place + 1) (noted runs (base + place) byte) = told_noted at (base + place) byte runs (agrees place inside ∙ has) (so_far at told agrees) in
-    told_at at (base + place + 1) (base + (place + 1)) new (omega arith) (subst (λ rs. Told at (base + place + 1) rs) (sym is) more)
-
-pub gathers_gap : (base size place : ℕ) (part : ℕ → Option ℕ) (before runs : List WrittenRange) → Gathers base size part place before runs → place < size
-    → part place ≡ None → Gathers base size part (place + 1) before runs
-gathers_gap base size place part before runs so_far inside lacks = λ at told agrees.
-    told_skipped at (base + place) (base + (place + 1)) runs (omega arith)
-    (λ x p q. let e : x ≡ base + place = omega arith in ap at e ∙ (agrees place inside ∙ lacks))
-    (so_far at told agrees)
-
--- a page without a byte, and what it adds
-pub untouched : (page : Page) → page.mask ≡ 0 → (x : ℕ) → page_byte page x ≡ None
-untouched page is x = rw (is, bit_at-zero x) refl
-
-pub gathers_nothing : (base size : ℕ) (part : ℕ → Option ℕ) (runs : List WrittenRange) → ((x : ℕ) → part x ≡ None)
-    → Gathers base size part size runs runs
-gathers_nothing base size part runs lacks = λ at told agrees.
-    told_skipped at base (base + size) runs (omega arith)
+pub gathers_run : (base size place first : ℕ) (bytes : List ℕ) (part : ℕ → Option ℕ) (before runs new : List WrittenRange) → Gathers base size part place before runs
+    → place ≤ first → 0 < length bytes → first + length bytes ≤ size → ((x : ℕ) → place ≤ x → x < first → part x ≡ None)
+    → ((i : ℕ) → i < length bytes → part (first + i) ≡ slice_get bytes i) → new ≡ noted_all runs (base + first) bytes → Gathers base size part (first + length bytes) before new
+gathers_run base size place first bytes part before runs new so_far le some fits lacks has is = λ at told agrees.
+    let skipped : Told at (base + first) runs =
+    told_skipped at (base + place) (base + first) runs (omega arith)
     (λ x p q.
     let e : x ≡ base + (x - base) = omega arith in
-    let inside : x - base < size = omega arith in
-    ap at e ∙ (agrees (x - base) inside ∙ lacks (x - base)))
-    told
+    ap at e ∙ (agrees (x - base) (omega arith) ∙ lacks (x - base) (omega arith) (omega arith)))
+    (so_far at told agrees) in
+    let more : Told at (base + first + length bytes) (noted_all runs (base + first) bytes) =
+    told_noted at (base + first) bytes runs some
+    (λ i h.
+    let e : base + first + i ≡ base + (first + i) = omega arith in
+    ap at e ∙ (agrees (first + i) (omega arith) ∙ has i h))
+    skipped in
+    told_at at (base + first + length bytes) (base + (first + length bytes)) new (omega arith) (subst (λ rs. Told at (base + first + length bytes) rs) (sym is) more)
+
+pub gathers_gap : (base size place next : ℕ) (part : ℕ → Option ℕ) (before runs : List WrittenRange) → Gathers base size part place before runs → place ≤ next → next ≤ size
+    → ((x : ℕ) → place ≤ x → x < next → part x ≡ None) → Gathers base size part next before runs
+gathers_gap base size place next part before runs so_far le fits lacks = λ at told agrees.
+    told_skipped at (base + place) (base + next) runs (omega arith)
+    (λ x p q.
+    let e : x ≡ base + (x - base) = omega arith in
+    ap at e ∙ (agrees (x - base) (omega arith) ∙ lacks (x - base) (omega arith) (omega arith)))
+    (so_far at told agrees)
 
 module _ {Block : Type 0} (byte_of : Block → ℕ → Option ℕ) (size : ℕ) (is : IsSize size) (base whole : ℕ) (blocks : List Block) where
   -- one more block
@@ -258,7 +264,9 @@ told_below at (suc limit) = one_more (at limit) refl (told_below at limit)
     one_more : (o : Option ℕ) → at limit ≡ o → Told at limit (runs_below at limit) → Told at (suc limit) (with_byte (runs_below at limit) limit o)
     one_more None is told =
         told_skipped at limit (suc limit) (runs_below at limit) (omega arith) (λ x p q. let e : x ≡ limit = omega arith in ap at e ∙ is) told
-    one_more (Some byte) is told = told_at at (limit + 1) (suc limit) (noted (runs_below at limit) limit byte) (omega arith) (told_noted at limit byte (runs_below at limit) is told)
+    one_more (Some byte) is told = told_at at (limit + 1) (suc limit) (noted (runs_below at limit) limit byte) (omega arith)
+        (subst (λ rs. Told at (limit + 1) rs) (noted_one (runs_below at limit) limit byte)
+        (told_noted at limit (byte ∷ []) (runs_below at limit) (omega arith) (λ i h. let e : limit + i ≡ limit = omega arith in let z : i ≡ 0 = omega arith in ap at e ∙ (is ∙ ap (slice_get (byte ∷ [])) (sym z))) told))
 
 pub gathers_all : (regions : List (List (List Page))) (index : ℕ) (runs : List WrittenRange) → length regions ≤ 2 ^ 32 → length regions ≤ index → index ≤ 2 ^ 32
     → Gathers 0 (2 ^ 64) (byte_at regions) (index * 2 ^ 32) [] runs → AreRuns (byte_at regions) runs

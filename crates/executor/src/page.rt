@@ -3,11 +3,11 @@ ghost use Rattle.std.specs.Prelude.{◌≡◌, ◌+◌, ◌-◌, ◌^◌, ◌<�
 ghost use Rattle.std.specs.Int.{w64, to_le_bytes};
 ghost use Rattle.executor.specs.inner.Pages.{page_byte};
 ghost use Rattle.executor.specs.Written.{laid, seen};
-ghost use Rattle.executor.specs.inner.Told.{Gathers};
+ghost use Rattle.executor.specs.inner.Told.{Gathers, NextRun};
 ghost use Rattle.executor.specs.inner.Words.{or_below, seen_number};
 
 use crate::word;
-use crate::written_range::{WrittenRange, note};
+use crate::written_range::{WrittenRange, note_all};
 use byteorder::{ByteOrder, LittleEndian};
 use std::alloc::{AllocError, Global};
 use std::marker::Model;
@@ -121,14 +121,6 @@ impl Page {
         word::write(&mut self.bytes[place..], size, value);
     }
 
-    /// Whether nothing is written in it.
-    #[inline(always)]
-    fn is_untouched(&self) -> bool
-        ensures { result ≡ (self.now.mask == 0) }
-    {
-        self.mask == 0
-    }
-
     /// Adds the written bytes to runs of addresses below `base`, the page's first.
     pub fn add_runs(
         &self,
@@ -139,16 +131,33 @@ impl Page {
         requires { base + 64 ≤ 2 ^ 64 }
         ensures { OnOk result (Gathers base 64 (page_byte self.now) 64 runs.old.items runs.new.items) }
     {
-        if self.is_untouched() {
-            return Ok(());
-        }
-        for place in 0..PAGE {
-            if let Some(byte) = self.get(place) {
-                note(alloc, runs, base + place as u64, byte)?;
+        let mut place = 0;
+        while place < PAGE {
+            let (first, end) = next_run(self.mask, place);
+            if first == PAGE {
+                return Ok(());
             }
+            note_all(alloc, runs, base + first as u64, &self.bytes[first..end])?;
+            place = end;
         }
         Ok(())
     }
+}
+
+/// Where the next bits begin that are set, from a place on, and where they end: behind the last place where
+/// none is.
+#[inline(always)]
+fn next_run(mask: u64, place: usize) -> (usize, usize)
+    requires { place < 64 }
+    ensures { NextRun mask place result.0 result.1 }
+{
+    let left = mask >> place;
+    if left == 0 {
+        return (PAGE, PAGE);
+    }
+    let first = place + left.trailing_zeros() as usize;
+    let count = (mask >> first).trailing_ones() as usize;
+    (first, first + count)
 }
 
 /// So many lowest bits, set.

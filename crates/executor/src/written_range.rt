@@ -1,10 +1,10 @@
 //! Runs of written bytes.
-ghost use Rattle.std.specs.Prelude.{◌≡◌, ◌==◌, ◌+◌, ◌++◌, ◌∷◌, [], OnOk, OnErr, length};
-ghost use Rattle.executor.specs.Told.{noted};
-ghost use Rattle.executor.specs.inner.Told.{adjoins_last};
+ghost use Rattle.std.specs.Prelude.{◌≡◌, ◌==◌, ◌+◌, ◌++◌, OnOk, OnErr, length};
+ghost use Rattle.executor.specs.inner.Told.{adjoins_last, noted_all};
 
 use sequences::Sequence;
 use std::alloc::{AllocError, Global};
+use std::mem::replace;
 
 /// Bytes at addresses that follow one another.
 #[derive(Drop, Debug)]
@@ -16,13 +16,15 @@ pub struct WrittenRange {
 }
 
 impl WrittenRange {
-    /// Puts a byte behind the last.
-    fn push(&mut self, byte: u8) -> Result<(), AllocError>
+    /// Puts bytes behind the last.
+    fn push_all(&mut self, alloc: Global, bytes: &[u8]) -> Result<(), AllocError>
         ensures address { self.new.address ≡ self.old.address }
-        ensures bytes { OnOk result (self.new.bytes ≡ self.old.bytes ++ byte ∷ []) }
+        ensures bytes { OnOk result (self.new.bytes ≡ self.old.bytes ++ bytes.now) }
     {
-        self.bytes.push(byte)?;
-        Ok(())
+        let mut kept = replace(&mut self.bytes, Sequence::new(alloc)).into_vec();
+        let done = kept.extend_from_slice(bytes);
+        self.bytes = Sequence::from_vec(kept);
+        done
     }
 
     /// Whether an address is the one behind the last byte.
@@ -33,21 +35,21 @@ impl WrittenRange {
     }
 }
 
-/// Adds a byte at an address: to the last run where it adjoins it, else as a run of its own.
-pub fn note(
+/// Adds bytes at addresses that follow one another: to the last run where they adjoin it, else as a run of
+/// their own.
+pub fn note_all(
     alloc: Global,
     runs: &mut Vec<WrittenRange>,
     address: u64,
-    byte: u8,
+    bytes: &[u8],
 ) -> Result<(), AllocError>
-    ensures { OnOk result (runs.new.items ≡ noted runs.old.items address byte) }
+    ensures { OnOk result (runs.new.items ≡ noted_all runs.old.items address bytes.now) }
 {
     if does_adjoin(runs.as_slice(), address) {
         let last = runs.len() - 1;
-        return runs[last].push(byte);
+        return runs[last].push_all(alloc, bytes);
     }
-    let mut bytes = Sequence::new(alloc);
-    bytes.push(byte)?;
+    let bytes = Sequence::from_vec(Vec::from_slice(alloc, bytes)?);
     runs.push(WrittenRange { address, bytes })?;
     Ok(())
 }

@@ -1,5 +1,6 @@
 -- How the code gathers runs, a part of the map after another (own).
-use Rattle.std.specs.Prelude.{◌≡◌, ℕ, ◌+◌, ◌<◌, ◌≤◌, ◌==◌, nat_lt, if◌then◌else◌, Bool, false, List, [], ◌∷◌, length, Option, None}
+use Rattle.std.specs.Prelude.{◌≡◌, ℕ, ◌+◌, ◌<◌, ◌≤◌, ◌==◌, nat_lt, ◌⊎◌, if◌then◌else◌, Bool, false, List, [], ◌∷◌, ◌++◌, length, Option, None}
+use Rattle.std.specs.Int.{bit_at}
 use Rattle.executor.specs.declared.written_range.WrittenRange.{WrittenRange}
 use Rattle.executor.specs.Written.{end_of, all_laid}
 
@@ -8,6 +9,23 @@ abbrev pub adjoins_last : List WrittenRange → ℕ → Bool
 adjoins_last [] address = false
 adjoins_last (run ∷ []) address = end_of run == address
 adjoins_last (run ∷ (next ∷ rest)) address = adjoins_last (next ∷ rest) address
+
+-- runs with bytes behind all of them: in the last run where they adjoin it, else as a run of their own
+abbrev pub noted_all : List WrittenRange → ℕ → List ℕ → List WrittenRange
+noted_all [] address bytes = record { address = address; bytes = bytes } ∷ []
+noted_all (run ∷ []) address bytes =
+    if end_of run == address
+    then record { address = run.address; bytes = run.bytes ++ bytes } ∷ []
+    else run ∷ record { address = address; bytes = bytes } ∷ []
+noted_all (run ∷ (next ∷ rest)) address bytes = run ∷ noted_all (next ∷ rest) address bytes
+
+-- where the next bits of a page's mask begin that are set, from a place on, and where they end
+pub record NextRun (mask place first end : ℕ) : Type 0 where
+  pub begins : place ≤ first
+  pub ends : end ≤ 64
+  pub clear : (x : ℕ) → place ≤ x → x < first → bit_at mask x ≡ 0
+  pub set : (x : ℕ) → first ≤ x → x < end → bit_at mask x ≡ 1
+  pub some : (first < end) ⊎ (first ≡ 64)
 
 -- that the first of some runs begins behind an address, with a gap between
 abbrev pub Follows : ℕ → List WrittenRange → Type 0
