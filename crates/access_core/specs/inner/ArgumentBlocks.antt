@@ -80,7 +80,7 @@ rights_of blocks queue id client = rights_for client (find (is_block queue id) b
 abbrev pub lists_one : ClientId → Object → Rights → ArgumentBlock → Bool
 lists_one client on rights block = list_any (λ right. has rights right && is_listed (rights_for client (Some block)) on right) all_rights
 
--- whether a list names one of some rights on an object
+-- whether a list names one of some rights on an object (own)
 abbrev pub names_one : Object → Rights → List (Object × Rights) → Bool
 names_one on rights given = list_any (λ named. same_object on named.0 && list_any (λ right. has rights right && has named.1 right) all_rights) given
 
@@ -94,16 +94,16 @@ has_block test blocks queue id = list_any (λ block. is_block queue id block && 
 
 -- ---- where no packet need be looked at
 
--- whether a queue is a client's, and a packet of it is in flight
+-- whether a queue is a client's, and a packet of it is in flight (own)
 abbrev pub has_packet_of : ClientId → Queue → Bool
 has_packet_of client q = q.client.0 == client.0 && nat_lt 0 (length q.places)
 
--- a client that a packet's block lists a right of has a queue among these with a packet in flight
+-- a client that a packet's block lists a right of has a queue among these with a packet in flight (own)
 abbrev pub AreOfQueues : List Queue → List ArgumentBlock → Type 0
 AreOfQueues queues blocks = (queue : QueueId) (id : PacketId) (client : ClientId) (on : Object) (right : Right)
     → is_given blocks queue id client on right ≡ true → list_any (has_packet_of client) queues ≡ true
 
--- each right that a packet's block lists is in force
+-- each right that a packet's block lists is in force (own)
 abbrev pub AreInForce : Ledger → List ArgumentBlock → Type 0
 AreInForce grants blocks = (queue : QueueId) (id : PacketId) (client : ClientId) (on : Object) (right : Right)
     → is_given blocks queue id client on right ≡ true → in_force grants client on right ≡ true
