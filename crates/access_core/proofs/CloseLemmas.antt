@@ -6,13 +6,14 @@ use Rattle.std.proofs.lemmas.Bool.{eq-eqb, eqb-true}
 use Rattle.core_model.proofs.Apart.{found-legal}
 use Rattle.core_model.specs.Holds.{arguments}
 use Rattle.core_model.specs.Owed.{owed}
+use Rattle.core_model.specs.Queues.{OpenQueue, openings}
 use Rattle.core_model.specs.Policies.{rows_after}
 use Rattle.core_model.specs.declared.entry.Effect.TheVariants as effect
 use Rattle.core_model.specs.declared.outcome.Outcome.TheVariants as outcome
 use Rattle.core_model.specs.declared.refusal.Refusal.TheVariants as refusal
 use Rattle.grants.specs.Pairs.{is_named}
 use Rattle.access_core.proofs.Terms.{All-filter, All-head, All-tail, All-weaker, AreBlocksOf, ArgumentBlock, AscendFrom, Call, ClientId, Close, Effect, Entry, Event, HasBlockPlaces, History, InFlight, Inside, IsCached, IsSound, LAUNCH_PROGRESS, Ledger, MOST_IN_FLIGHT, Object, Openings, Outcome, PacketId, Place, Progress, Queue, QueueId, QueueView}
-use Rattle.access_core.proofs.Terms.{Right, Roomy, arguments-more, block_behind, block_of, byte_after, cached_opening, cached_openings, cached_queue, cached_view, due, enters, entry_of, error_places, flight, flight_after_effect, flight_of, flying_in, free_of, free_places, has_number, held, held-more, history_of}
+use Rattle.access_core.proofs.Terms.{Right, Roomy, arguments-more, block_behind, block_of, byte_after, cached_opening, cached_openings, cached_queue, cached_view, due, enters, entry_of, error_places, flight, flight_after_effect, flight_of, flying_in, found-passes, free_of, free_places, has_number, held, held-more, history_of}
 use Rattle.access_core.proofs.Terms.{in_flight, is_block, is_full, is_given, is_packet, lacks_room, length-map, list_any, map-append, name_of, owner, packet_of, place_of, places_in, places_of, progress, queue_at, queue_in, refuses, release_from, releases, releases_in, releases_of, same_packet, signals_after, start_of, with_entry, without_blocks, without_queue}
 use Rattle.access_core.proofs.Calls.{due-by}
 use Rattle.access_core.proofs.CachedMore.{GrantsAfter, QueuesAfter, none-launched}
@@ -65,6 +66,12 @@ parted below queue (x ∷ xs) q ascending found = by_test (has_number queue x) r
     by_test false is found rest =
         let more = rest found in
         record { before = x ∷ more.before; behind = more.behind; whole = ap (λ ys. x ∷ ys) more.whole; left = rw is (ap (λ ys. x ∷ ys) more.left) }
+
+-- which has its number there
+numbered-between : (before behind : List Queue) (q : Queue)
+    → option_map (λ (o : OpenQueue). o.queue) (slice_get (map cached_queue (before ++ q ∷ behind)) (length (map error_places before))) ≡ Some q.number
+numbered-between [] behind q = refl
+numbered-between (x ∷ xs) behind q = numbered-between xs behind q
 
 -- the queue that is taken out of its place is the one of its number
 pub taken-out : (below : ℕ) (queue : QueueId) (qs : List Queue) (i : ℕ) (q : Queue) → AscendFrom below qs → slice_get qs i ≡ Some q → has_number queue q ≡ true → remove qs i ≡ without_queue queue qs
@@ -340,6 +347,7 @@ module _ (a : Inside) (kept : IsCached a) (queue : QueueId) where
 
     -- its errors' places go
     pub errors-closed : (before : List ℕ) × (lost : ℕ) × (behind : List ℕ) × (map error_places a.queues.items ≡ before ++ lost ∷ behind) × (map error_places (without_queue queue a.queues.items) ≡ before ++ behind)
+        × (option_map (λ (q : OpenQueue). q.queue) (slice_get (openings (start_of a) a.audit.items).queues (length before)) ≡ Some queue)
     errors-closed =
         let apart = parted 0 queue a.queues.items at.q kept.ascending at.found in (
           map error_places apart.before,
@@ -347,6 +355,10 @@ module _ (a : Inside) (kept : IsCached a) (queue : QueueId) where
           map error_places apart.behind,
           ap (map error_places) apart.whole ∙ map-append error_places apart.before (at.q ∷ apart.behind),
           ap (map error_places) apart.left ∙ map-append error_places apart.before apart.behind,
+          ap (λ (all : Openings). option_map (λ (q : OpenQueue). q.queue) (slice_get all.queues (length (map error_places apart.before)))) (sym kept.openings)
+              ∙ ap (λ (qs : List Queue). option_map (λ (q : OpenQueue). q.queue) (slice_get (map cached_queue qs) (length (map error_places apart.before)))) apart.whole
+              ∙ numbered-between apart.before apart.behind at.q
+              ∙ ap (λ n. Some (record { 0 = n })) (eqb-true _ _ (found-passes (has_number queue) a.queues.items at.q at.found)),
         )
 
   -- ---- what is owed

@@ -1,6 +1,7 @@
 -- Tests of rights that packets hold, taken right by right or packet by packet.
 use Rattle.std.proofs.Common.{arith, ◌≡◌, List, [], ◌∷◌, refl, sym, ◌∙◌, ap, Bool, true, false, Some, ◌&&◌, ◌||◌, ◌==◌, if◌then◌else◌}
 use Rattle.access_core.proofs.Terms.{ArgumentBlock, ClientId, Entry, InFlight, IsLegal, Object, PacketId, QueueId, Right, Rights, Start, all_rights, flight, has, held, held-flies, holds_one_of}
+use Rattle.access_core.specs.inner.ArgumentBlocks.{names_one}
 use Rattle.access_core.proofs.Terms.{has_block, is_block, is_given, is_listed, is_named, is_packet, list_any, lists_one, lists_right, rights_for, same_object, set_of}
 
 -- ---- tests of lists
@@ -65,12 +66,19 @@ module _ (client : ClientId) (on : Object) (right : Right) where
       same-turned c d = grind arith
 
 -- a packet has a block that lists one of them where its blocks list one, right by right
-lists-each : (client : ClientId) (on : Object) (rights : Rights) (queue : QueueId) (id : PacketId) (blocks : List ArgumentBlock)
+pub lists-each : (client : ClientId) (on : Object) (rights : Rights) (queue : QueueId) (id : PacketId) (blocks : List ArgumentBlock)
     → has_block (lists_one client on rights) blocks queue id ≡ list_any (λ r. has rights r && is_given blocks queue id client on r) all_rights
 lists-each client on rights queue id blocks =
     (λ i. list_any (λ block. is_block queue id block && list_any (λ r. has rights r && sym (named-listed client on r block) i) all_rights) blocks)
     ∙ (λ i. list_any (λ block. sym (any-constant (has rights) (λ r. is_named block.rights block.client client on r) (is_block queue id block) all_rights) i) blocks)
     ∙ sym (any-swap (has rights) (λ block r. lists_right queue id client on r block) blocks all_rights)
+
+-- where a list names one of some rights on an object, an item of it is on the object and has one of them
+pub lists-named : (on : Object) (rights : Rights) (given : List (Object × Rights))
+    → list_any (λ r. has rights r && is_listed given on r) all_rights ≡ names_one on rights given
+lists-named on rights given =
+    any-swap (has rights) (λ (named : Object × Rights) r. same_object on named.0 && has named.1 r) given all_rights
+    ∙ (λ i. list_any (λ (named : Object × Rights). any-constant (has rights) (has named.1) (same_object on named.0) all_rights i) given)
 
 -- so a packet has one where it holds one of them by the history, and is in flight
 pub holder-history : (start : Start) (es : List Entry) → IsLegal start es → (client : ClientId) (on : Object) (rights : Rights) (blocks : List ArgumentBlock)

@@ -7,6 +7,7 @@ pub mod TakeLemmas
 pub mod LaunchLemmas
 pub mod GroupLemmas
 pub mod HeldOn
+pub mod Looking
 pub mod Marking
 pub mod QueueAt
 pub mod Numbered

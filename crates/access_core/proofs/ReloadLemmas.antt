@@ -42,16 +42,16 @@ known-cell table client on right is = by_tests (knows_client table.rules client)
 
 module _ (a : Inside) (kept : IsCached a) where
   -- a right that a packet holds: it is in flight, the right is the owner's of its queue, in force, and on a declared object
-  record Holding (queue : QueueId) (id : PacketId) (client : ClientId) (on : Object) (right : Right) : Type 0 where
-    flying : InFlight
-    found : in_flight (start_of a) a.audit.items queue id ≡ Some flying
-    opening : Opening
-    owner_is : owner (start_of a) a.audit.items queue ≡ Some opening
-    client_is : opening.client ≡ client
-    known : knows_object (rules_of (start_of a).policy) on ≡ true
-    forced : ledger.in_force a.grants client on right ≡ true
+  pub record Holding (queue : QueueId) (id : PacketId) (client : ClientId) (on : Object) (right : Right) : Type 0 where
+    pub flying : InFlight
+    pub found : in_flight (start_of a) a.audit.items queue id ≡ Some flying
+    pub opening : Opening
+    pub owner_is : owner (start_of a) a.audit.items queue ≡ Some opening
+    pub client_is : opening.client ≡ client
+    pub known : knows_object (rules_of (start_of a).policy) on ≡ true
+    pub forced : ledger.in_force a.grants client on right ≡ true
 
-  holding-now : (queue : QueueId) (id : PacketId) (client : ClientId) (on : Object) (right : Right) → is_given a.blocks.items queue id client on right ≡ true → Holding queue id client on right
+  pub holding-now : (queue : QueueId) (id : PacketId) (client : ClientId) (on : Object) (right : Right) → is_given a.blocks.items queue id client on right ≡ true → Holding queue id client on right
   holding-now queue id client on right has_it =
       let start = start_of a in
       let es = a.audit.items in

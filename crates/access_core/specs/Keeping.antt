@@ -1,11 +1,11 @@
 -- Which calls leave the places of a core's tables as they are, and which tables an opening lengthens (own).
-use Rattle.std.specs.Prelude.{◌≡◌, ℕ, ◌+◌, ◌*◌, ◌<◌, max, false, [], ◌∷◌, ◌++◌, length, List, Result, Ok, Err}
+use Rattle.std.specs.Prelude.{◌≡◌, ℕ, ◌+◌, ◌*◌, ◌<◌, max, false, [], ◌∷◌, ◌++◌, length, List, Result, Ok, Err, Some, option_map, slice_get}
 use Rattle.aql_packet.specs.declared.ids.QueueId.{QueueId}
 use Rattle.core_model.specs.History.{beginning}
 use Rattle.core_model.specs.Legal.{due, may_lack_memory}
 use Rattle.core_model.specs.Limits.{most_in_flight}
 use Rattle.core_model.specs.Owed.{Owed, enters}
-use Rattle.core_model.specs.Queues.{openings}
+use Rattle.core_model.specs.Queues.{OpenQueue, openings}
 use Rattle.core_model.specs.declared.refusal.Refusal.{Refusal}
 use Rattle.core_model.specs.declared.event.Event.{Event}
 use Rattle.core_model.specs.declared.call.Call.{Call}
@@ -41,22 +41,25 @@ GrowsByOpening old result new = GrowsAsOpened (length (openings (beginning old.h
 abbrev pub KeepsPlaces : Event → Core → Core → Type 0
 KeepsPlaces event old new = may_lack_memory event (due old.history event) ≡ false → new.places ≡ old.places
 
--- a queue was closed: its list of errors went with it, and each other table has as many places as before (own)
-pub record LosesQueue (old new : TablePlaces) : Type 0 where
+-- one of the open queues was closed: its list of errors went with it, in the place that the queue had among these, and each other table has
+-- as many places as before (own)
+pub record LosesQueue (queues : List OpenQueue) (queue : QueueId) (old new : TablePlaces) : Type 0 where
   pub before : List ℕ
   pub lost : ℕ
   pub behind : List ℕ
+  pub place : option_map (λ q. q.queue) (slice_get queues (length before)) ≡ Some queue
   pub errors : old.error_places ≡ before ++ lost ∷ behind
   pub others : new ≡ record old { error_places = before ++ behind }
 
--- what becomes of the places by a close that is due this: refused it leaves them (own)
-abbrev pub ClosesAsDue : Owed → TablePlaces → TablePlaces → Type 0
-ClosesAsDue (enters _ _) old new = LosesQueue old new
-ClosesAsDue _ old new = new ≡ old
+-- what becomes of the places by the close of one of the open queues that is due this: refused it leaves them (own)
+abbrev pub ClosesAsDue : Owed → List OpenQueue → QueueId → TablePlaces → TablePlaces → Type 0
+ClosesAsDue (enters _ _) queues queue old new = LosesQueue queues queue old new
+ClosesAsDue _ queues queue old new = new ≡ old
 
--- the same, of a queue by its number
+-- the same, where those are open that a history tells of (own)
 abbrev pub ClosesInPlace : QueueId → Core → Core → Type 0
-ClosesInPlace queue old new = ClosesAsDue (due old.history (event.Call (Close queue))) old.places new.places
+ClosesInPlace queue old new =
+    ClosesAsDue (due old.history (event.Call (Close queue))) (openings (beginning old.history) old.history.entries).queues queue old.places new.places
 
 -- a call leaves all places, but a close, with which its queue's list of errors goes (own)
 abbrev pub CalledInPlace : Call → Core → Core → Type 0

@@ -96,7 +96,7 @@ due_where world queue ring step None = record {
   may_lack_memory = reserves step.access;
 }
 
--- a step on the ring of a queue, if it is open
+-- a step on the ring of a queue, if it is open (own)
 abbrev pub due_step : Joined → QueueId → Step → Option Machine → Due
 due_step world queue step None = refused world (refusal.Core why.UnknownQueue)
 due_step world queue step (Some ring) = due_where world queue ring step (hindrance (is_decided world.core queue ring) ring step)
@@ -120,18 +120,18 @@ due_event world event owing = record {
   may_lack_memory = lacks_memory world.core event owing;
 }
 
--- the queue that a call closes, if it does
+-- the queue that a call closes, if it does (own)
 abbrev pub closed_by : Call → Option QueueId
 closed_by (call.Close queue) = Some queue
 closed_by _ = None
 
--- the world once a call that closes a queue, or none, came to this: a queue that was closed has no ring any more
+-- the world once a call that closes a queue, or none, came to this: a queue that was closed has no ring any more (own)
 abbrev pub left_by : Joined → Option QueueId → Result Outcome cores.Refusal → Joined
 left_by world None made = world
 left_by world (Some queue) (Ok told) = without_ring world queue
 left_by world (Some queue) (Err why) = world
 
--- a call
+-- a call (own)
 abbrev pub due_call : Joined → Call → Owed → Due
 due_call world asked owing = record {
   reply = of_core (as_reply (reply_of owing));

@@ -32,23 +32,23 @@ abbrev pub size_of : Event → Option ℕ
 size_of (Open client agent size) = Some size
 size_of _ = None
 
--- the sizes of the queues that were opened, in order: the first is queue 1's
+-- the sizes of the queues that were opened, in order: the first is queue 1's (own)
 unfoldable pub sizes : List Entry → List ℕ
 sizes entries = filter_map (λ entry. size_of entry.event) entries
 
--- a ring has the size that was asked for at its queue's opening
+-- a ring has the size that was asked for at its queue's opening (own)
 abbrev pub HasItsSize : List Entry → QueueId → Machine → Type 0
 HasItsSize all queue ring = numbered (sizes all) queue.0 ≡ Some ring.size
 
--- whether a queue is open
+-- whether a queue is open (own)
 abbrev pub is_open : History → QueueId → Bool
 is_open core queue = is_some (owner (beginning core) core.entries queue)
 
--- whether a queue was ever opened: its number is at most how many were
+-- whether a queue was ever opened: its number is 1 at least, and at most how many were (own)
 abbrev pub was_opened : History → QueueId → Bool
 was_opened core queue = nat_le 1 queue.0 && nat_le queue.0 (openings (beginning core) core.entries).opened
 
--- whether a queue was closed: it was opened, and is open no more
+-- whether a queue was closed: it was opened, and is open no more (own)
 abbrev pub is_closed : History → QueueId → Bool
 is_closed core queue = was_opened core queue && not (is_open core queue)
 
@@ -88,7 +88,7 @@ pub record IsUntouched (core : History) (all : List Entry) (queue : QueueId) : T
   pub unopened : was_opened core queue ≡ false
   pub unowned : is_open core queue ≡ false
 
--- an open queue's ring keeps the ring rule and is in step
+-- an open queue's ring keeps the ring rule and is in step (own)
 pub record StandsOpen (core : History) (all : List Entry) (queue : QueueId) (ring : Machine) : Type 0 where
   pub rule : IsRing ring
   pub in_step : IsInStep core all queue ring
@@ -96,7 +96,7 @@ pub record StandsOpen (core : History) (all : List Entry) (queue : QueueId) (rin
   pub opened : was_opened core queue ≡ true
   pub owned : is_open core queue ≡ true
 
--- a closed queue's ring kept the ring rule and was in step
+-- a closed queue's ring kept the ring rule and was in step (own)
 pub record StoodClosed (core : History) (all : List Entry) (queue : QueueId) (ring : Machine) : Type 0 where
   pub rule : IsRing ring
   pub in_step : WasInStep all queue ring
@@ -105,14 +105,14 @@ pub record StoodClosed (core : History) (all : List Entry) (queue : QueueId) (ri
   pub unowned : is_open core queue ≡ false
   pub next : next_id (beginning core) core.entries queue ≡ 0
 
--- a queue by its ring, and by what its ring was if it was closed: no queue has both
+-- a queue by its ring, and by what its ring was if it was closed: no queue has both (own)
 abbrev pub Stands : History → List Entry → QueueId → Option Machine → Option Machine → Type 0
 Stands core all queue None None = IsUntouched core all queue
 Stands core all queue (Some ring) None = StandsOpen core all queue ring
 Stands core all queue None (Some ring) = StoodClosed core all queue ring
 Stands core all queue (Some ring) (Some other) = ⊥
 
--- no two rings are of one queue
+-- no two rings are of one queue (own)
 abbrev pub AreApart : Rings → Type 0
 AreApart [] = Unit {0}
 AreApart (x ∷ rings) = (among rings x.queue ≡ None) × AreApart rings

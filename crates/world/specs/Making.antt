@@ -13,30 +13,30 @@ use Rattle.world.specs.declared.reply.Refusal.TheVariants as refusal
 use Rattle.world.specs.Dues.{Reply, answer_to, hindrance, is_decided, reserves}
 use Rattle.world.specs.States.{Rings, queue_machine}
 
--- where a queue's ring stands among rings: behind the last, where the queue has none
+-- where a queue's ring stands among rings: behind the last, where the queue has none (own)
 abbrev pub place_in : List QueueRing → QueueId → ℕ
 place_in [] queue = 0
 place_in (r ∷ rings) queue = if r.queue.0 == queue.0 then 0 else suc (place_in rings queue)
 
--- the ring of a queue among rings, if it has one
+-- the ring of a queue among rings, if it has one (own)
 abbrev pub ring_in : List QueueRing → QueueId → Option QueueRing
 ring_in rings queue = slice_get rings (place_in rings queue)
 
--- the place of a queue's ring, if it has one
+-- the place of a queue's ring, if it has one (own)
 abbrev pub IsOpenPlace : List QueueRing → QueueId → Option ℕ → Type 0
 IsOpenPlace rings queue None = ring_in rings queue ≡ None
 IsOpenPlace rings queue (Some place) = (place < length rings) × (place ≡ place_in rings queue) × (ring : QueueRing) × (ring_in rings queue ≡ Some ring)
 
--- the rings alone, with their queues
+-- the rings alone, with their queues (own)
 abbrev pub rings_of : List QueueRing → Rings
 rings_of rings = map (λ r. queue_machine r.queue r.ring) rings
 
--- of the next queue behind one so far, if there is one, and another, the nearer
+-- of the next queue behind one so far, if there is one, and another, the nearer (own)
 abbrev pub nearer : QueueId → Option QueueId → QueueId → Option QueueId
 nearer queue None other = if nat_le other.0 queue.0 then None else Some other
 nearer queue (Some found) other = if nat_le other.0 queue.0 || nat_le found.0 other.0 then Some found else Some other
 
--- the queue with a ring whose number is the least behind this one
+-- the queue with a ring whose number is the least behind this one (own)
 abbrev pub queue_after : List QueueRing → QueueId → Option QueueId
 queue_after rings queue = fold (λ next r. nearer queue next r.queue) None rings
 
@@ -67,7 +67,7 @@ MakesWhere None old step reply new =
 abbrev pub MakesOn : QueueRing → Step → Reply → QueueRing → Type 0
 MakesOn old step reply new = MakesWhere (hindrance old.decided old.ring step) old step reply new
 
--- a step was asked for on the ring of a queue, if it is open
+-- a step was asked for on the ring of a queue, if it is open (own)
 abbrev pub MakesAt : Option QueueRing → QueueId → Step → List QueueRing → Reply → List QueueRing → Type 0
 MakesAt None queue step old reply new = (reply ≡ Err (refusal.Core why.UnknownQueue)) × (new ≡ old)
 MakesAt (Some ring) queue step old reply new = (after : QueueRing) × MakesOn ring step reply after × (new ≡ with_queue_ring old queue after)

@@ -105,17 +105,17 @@ Opens client agent size producers core old reply core' new =
 abbrev pub Asks : Asked → History → Reply → History → Type 0
 Asks wanted core reply core' = (replied : AnswerOrRefusal) × cores_law.IsServed core wanted replied core' × (reply ≡ of_core replied)
 
--- rings without that of a queue
+-- rings without that of a queue (own)
 abbrev pub without : List QueueRing → QueueId → List QueueRing
 without [] queue = []
 without (r ∷ rings) queue = if r.queue.0 == queue.0 then rings else r ∷ without rings queue
 
--- the rings of closed queues with one more, if there is one
+-- the rings of closed queues with one more, if there is one (own)
 abbrev pub with_gone : List QueueRing → Option QueueRing → List QueueRing
 with_gone gone None = gone
 with_gone gone (Some r) = gone ++ r ∷ []
 
--- the rings that are kept, and those that were, once a call that closes a queue, or none, was told this
+-- the rings that are kept, and those that were, once a call that closes a queue, or none, was told this (own)
 abbrev pub Leaves : Option QueueId → Reply → List QueueRing → List QueueRing → List QueueRing → List QueueRing → Type 0
 Leaves (Some queue) (Ok told) old gone new gone' = (new ≡ without old queue) × (gone' ≡ with_gone gone (ring_in old queue))
 Leaves (Some queue) (Err why) old gone new gone' = (new ≡ old) × (gone' ≡ gone)
@@ -125,7 +125,7 @@ Leaves None reply old gone new gone' = (new ≡ old) × (gone' ≡ gone)
 abbrev pub HandsOut : History → Reply → History → Type 0
 HandsOut core reply core' = (made : Result Handed cores.Refusal) × Rotates core made core' × (reply ≡ rotated_reply made)
 
--- any request: the core, the rings that are kept, and those of closed queues
+-- any request: the core, the rings that are kept, and those of closed queues (own)
 abbrev pub Obeys : Request → History → List QueueRing → List QueueRing → Reply → History → List QueueRing → List QueueRing → Type 0
 Obeys (request.Step queue step) core old gone reply core' new gone' = MakesAt (ring_in old queue) queue step old reply new × (core' ≡ core) × (gone' ≡ gone)
 Obeys (request.Take queue) core old gone reply core' new gone' = TakesAt (ring_in old queue) queue core old reply core' new × (gone' ≡ gone)

@@ -5,7 +5,7 @@ use Rattle.aql_packet.specs.declared.ids.QueueId.{QueueId}
 use Rattle.core_model.specs.History.{History}
 use Rattle.ring_core.specs.Machine.{Machine}
 
--- a queue, and its ring
+-- a queue, and its ring (own)
 pub record QueueMachine : Type 0 where
   pub queue : QueueId
   pub ring : Machine
@@ -17,22 +17,22 @@ Rings = List QueueMachine
 abbrev pub queue_machine : QueueId → Machine → QueueMachine
 queue_machine queue ring = record { queue = queue; ring = ring }
 
--- the ring of a queue among some, if it has one there
+-- the ring of a queue among some, if it has one there (own)
 abbrev pub among : Rings → QueueId → Option Machine
 among [] queue = None
 among (x ∷ rings) queue = if x.queue.0 == queue.0 then Some x.ring else among rings queue
 
--- the same, with another state of a queue's ring
+-- the same, with another state of a queue's ring (own)
 abbrev pub put : Rings → QueueId → Machine → Rings
 put [] queue ring = []
 put (x ∷ rings) queue ring = if x.queue.0 == queue.0 then queue_machine x.queue ring ∷ rings else x ∷ put rings queue ring
 
--- the same without a queue's ring
+-- the same without a queue's ring (own)
 abbrev pub leave_out : Rings → QueueId → Rings
 leave_out [] queue = []
 leave_out (x ∷ rings) queue = if x.queue.0 == queue.0 then rings else x ∷ leave_out rings queue
 
--- the same with a queue's ring behind the others, if it has one
+-- the same with a queue's ring behind the others, if it has one (own)
 abbrev pub with_one : Rings → QueueId → Option Machine → Rings
 with_one rings queue None = rings
 with_one rings queue (Some ring) = rings ++ queue_machine queue ring ∷ []
@@ -47,15 +47,15 @@ pub record Joined : Type 0 where
 abbrev pub joined : History → Rings → Rings → Joined
 joined core rings closed = record { core = core; rings = rings; closed = closed }
 
--- the ring of a queue, if it is open
+-- the ring of a queue, if it is open (own)
 abbrev pub ring_of : Joined → QueueId → Option Machine
 ring_of world queue = among world.rings queue
 
--- the ring of a queue that was closed, as it stood before the close
+-- the ring of a queue that was closed, as it stood before the close (own)
 abbrev pub closed_ring_of : Joined → QueueId → Option Machine
 closed_ring_of world queue = among world.closed queue
 
--- the open queue with the least number behind this one, if there is one
+-- the open queue with the least number behind this one, if there is one (own)
 abbrev pub IsNextOpen : Joined → QueueId → Option QueueId → Type 0
 IsNextOpen world queue None = (other : QueueId) → queue.0 < other.0 → ring_of world other ≡ None
 IsNextOpen world queue (Some next) =
@@ -69,7 +69,7 @@ slots_of world queue = option_map_or (λ ring. ring.size) (ring_of world queue) 
 abbrev pub with_ring : Joined → QueueId → Machine → Joined
 with_ring world queue ring = joined world.core (put world.rings queue ring) world.closed
 
--- the world without the ring of a queue that is closed: what it was is told from then on
+-- the world without the ring of a queue that is closed: what it was is told from then on (own)
 abbrev pub without_ring : Joined → QueueId → Joined
 without_ring world queue = joined world.core (leave_out world.rings queue) (with_one world.closed queue (ring_of world queue))
 

@@ -1,5 +1,5 @@
 -- Argument blocks of packets in flight, found by queue and id, with the rights that their packets hold.
-use Rattle.std.specs.Prelude.{ℕ, ◌≡◌, ◌==◌, ◌&&◌, ◌<◌, ◌∷◌, Bool, false, List, [], find, fold, length, map, not, slice_get, Option, Some, None, if◌then◌else◌}
+use Rattle.std.specs.Prelude.{ℕ, ◌≡◌, ◌==◌, ◌&&◌, ◌<◌, ◌∷◌, Bool, true, false, List, [], find, fold, length, map, nat_lt, not, slice_get, Option, Some, None, if◌then◌else◌}
 use Rattle.std.specs.List.{list_any}
 use Rattle.aql_packet.specs.declared.ids.ClientId.{ClientId}
 use Rattle.aql_packet.specs.declared.ids.QueueId.{QueueId}
@@ -8,11 +8,14 @@ use Rattle.policy.specs.declared.object.Object.{Object}
 use Rattle.policy.specs.declared.rights.Right.{Right}
 use Rattle.policy.specs.declared.rights.Rights.{Rights}
 use Rattle.policy.specs.declared.rows.PolicyRows.{PolicyRows}
+use Rattle.policy.specs.Object.{same_object}
 use Rattle.policy.specs.Rights.{all_rights, each_right, has}
 use Rattle.policy.specs.Rules.{rows_allow}
+use Rattle.grants.specs.Ledger.{Ledger, in_force}
 use Rattle.grants.specs.Pairs.{is_named}
 use Rattle.core_model.specs.declared.flight.InFlight.{InFlight}
 use Rattle.access_core.specs.declared.argument_blocks.ArgumentBlock.{ArgumentBlock}
+use Rattle.access_core.specs.declared.queue.Queue.{Queue}
 use Rattle.access_core.specs.inner.Given.{is_listed}
 
 -- whether a block is that of a packet
@@ -77,10 +80,30 @@ rights_of blocks queue id client = rights_for client (find (is_block queue id) b
 abbrev pub lists_one : ClientId → Object → Rights → ArgumentBlock → Bool
 lists_one client on rights block = list_any (λ right. has rights right && is_listed (rights_for client (Some block)) on right) all_rights
 
--- whether it lists a right that rows don't allow its client
+-- whether a list names one of some rights on an object (own)
+abbrev pub names_one : Object → Rights → List (Object × Rights) → Bool
+names_one on rights given = list_any (λ named. same_object on named.0 && list_any (λ right. has rights right && has named.1 right) all_rights) given
+
+-- whether a block lists a right that rows don't allow its client
 abbrev pub lists_denied : PolicyRows → ArgumentBlock → Bool
 lists_denied rows block = list_any (λ named. not (each_right named.1 (rows_allow rows block.client named.0))) block.rights
 
 -- whether a packet has a block that passes a test
 abbrev pub has_block : (ArgumentBlock → Bool) → List ArgumentBlock → QueueId → PacketId → Bool
 has_block test blocks queue id = list_any (λ block. is_block queue id block && test block) blocks
+
+-- ---- where no packet need be looked at
+
+-- whether a queue is a client's, and a packet of it is in flight (own)
+abbrev pub has_packet_of : ClientId → Queue → Bool
+has_packet_of client q = q.client.0 == client.0 && nat_lt 0 (length q.places)
+
+-- a client that a packet's block lists a right of has a queue among these with a packet in flight (own)
+abbrev pub AreOfQueues : List Queue → List ArgumentBlock → Type 0
+AreOfQueues queues blocks = (queue : QueueId) (id : PacketId) (client : ClientId) (on : Object) (right : Right)
+    → is_given blocks queue id client on right ≡ true → list_any (has_packet_of client) queues ≡ true
+
+-- each right that a packet's block lists is in force (own)
+abbrev pub AreInForce : Ledger → List ArgumentBlock → Type 0
+AreInForce grants blocks = (queue : QueueId) (id : PacketId) (client : ClientId) (on : Object) (right : Right)
+    → is_given blocks queue id client on right ≡ true → in_force grants client on right ≡ true

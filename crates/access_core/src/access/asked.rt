@@ -8,7 +8,7 @@ ghost use Rattle.signals.specs.Values.{value_of};
 ghost use Rattle.core_model.specs.Flight.{flight_of, in_flight};
 ghost use Rattle.core_model.specs.Grants.{in_force};
 ghost use Rattle.core_model.specs.Memory.{signals};
-ghost use Rattle.core_model.specs.Queues.{errors, next_id, owner};
+ghost use Rattle.core_model.specs.Queues.{errors, next_id, openings, owner};
 ghost use Rattle.packet_processor.specs.Queueing.{is_place_of};
 ghost use Rattle.access_core.specs.Asked.{place_of};
 
@@ -54,6 +54,13 @@ impl AccessCore {
                 agent: kept.agent,
             }),
         }
+    }
+
+    /// How many queues were ever opened, those that were closed counted: the number of the last.
+    pub fn queues_opened(&self) -> u64
+        ensures { result ≡ (openings (beginning self.now.history) self.now.history.entries).opened }
+    {
+        self.opened
     }
 
     /// The id of a queue's next packet: those below it were handed over. 0 where the queue isn't open.

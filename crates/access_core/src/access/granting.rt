@@ -5,7 +5,7 @@ ghost use Rattle.core_model.specs.Legal.{Meets, as_accepted};
 ghost use Rattle.access_core.specs.inner.Deciding.{refusal_of};
 
 use crate::access::{AccessCore, enter};
-use crate::holders::first_holder;
+use crate::holders::least_holder;
 use aql_packet::ClientId;
 use core_model::{Call, Effects, Event, Outcome, Refusal};
 use policy::{Object, Rights};
@@ -47,7 +47,13 @@ impl AccessCore {
         if let Err(why) = self.grants.may_revoke(client, object, rights) {
             return Err(refusal_of(why));
         }
-        match first_holder(self.blocks.as_slice(), client, object, rights) {
+        match least_holder(
+            self.queues.as_slice(),
+            self.blocks.as_slice(),
+            client,
+            object,
+            rights,
+        ) {
             Some((queue, packet)) => return Err(Refusal::Busy { queue, packet }),
             None => {}
         }

@@ -8,7 +8,7 @@ ghost use Rattle.core_model.specs.Owed.{enters, refuses};
 ghost use Rattle.access_core.specs.Reloads.{as_reloaded};
 
 use crate::access::{AccessCore, enter};
-use crate::holders::first_denied;
+use crate::holders::least_denied;
 use crate::lists::copied_rows;
 use core_model::{Effects, Event, Outcome, Refusal};
 use policy::{Policy, PolicyRows};
@@ -50,11 +50,16 @@ impl AccessCore {
 
     // Whether rows may be put in force: no packet in flight holds a right that they don't allow, and the audit
     // has room for the entry.
-    fn may_reload(&self, rows: &PolicyRows) -> Result<(), Refusal>
-        ensures may { IfOk result (λ done. due self.now.history (Event.Reload rows.now) ≡ enters Outcome.Accepted []) }
-        ensures why { IfErr result (λ why. due self.now.history (Event.Reload rows.now) ≡ refuses why) }
+    fn may_reload(&mut self, rows: &PolicyRows) -> Result<(), Refusal>
+        ensures may { IfOk result (λ done. due self.old.history (Event.Reload rows.now) ≡ enters Outcome.Accepted []) }
+        ensures why { IfErr result (λ why. due self.old.history (Event.Reload rows.now) ≡ refuses why) }
+        ensures same { self.new ≡ self.old }
     {
-        if let Some((queue, packet)) = first_denied(self.blocks.as_slice(), rows) {
+        if let Some((queue, packet)) = least_denied(
+            &mut self.grants,
+            self.blocks.as_slice(),
+            rows,
+        ) {
             return Err(Refusal::Busy { queue, packet });
         }
         if self.is_full() {

@@ -61,7 +61,7 @@ ReservesWhere None producer old result new =
 abbrev pub ReservesOn : ℕ → QueueRing → Result ℕ Refusal → QueueRing → Type 0
 ReservesOn producer old result new = ReservesWhere (hindrance old.decided old.ring (step_by producer Reserve)) producer old result new
 
--- a call on the ring of a queue, if it is open
+-- a call on the ring of a queue, if it is open (own)
 abbrev pub CallsAt : {X : Type 0} → (QueueRing → Result X Refusal → QueueRing → Type 0) → Option QueueRing → QueueId → List QueueRing → Result X Refusal → List QueueRing → Type 0
 CallsAt call None queue old result new = (result ≡ Err (refusal.Core why.UnknownQueue)) × (new ≡ old)
 CallsAt call (Some ring) queue old result new = (after : QueueRing) × call ring result after × (new ≡ with_queue_ring old queue after)

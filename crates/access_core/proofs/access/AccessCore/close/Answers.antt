@@ -1,6 +1,7 @@
 -- What is cached follows the close.
 use Rattle.core_model.specs.History.{History, beginning}
-use Rattle.std.proofs.Common.{◌≡◌, ◌∙◌, refl, sym, ap, map, subst, rules, Result, Err}
+use Rattle.core_model.specs.Queues.{OpenQueue, openings}
+use Rattle.std.proofs.Common.{◌≡◌, ◌∙◌, refl, sym, ap, length, map, subst, rules, Result, Err, Some, option_map, slice_get}
 use Rattle.access_core.specs.Cores.{Core}
 use Rattle.access_core.specs.Keeping.{ClosesAsDue}
 use Rattle.access_core.proofs.Calls.{met-entry}
@@ -71,12 +72,13 @@ returns-clause-places c =
     let queue = c.args.queue in
     let at = opened-at a c.self.invariant _ (seen c.self.view_is) queue c.in_ok-may_close.ensures.may in
     let gone = errors-closed a c.self.invariant queue at in
-    subst (λ owing. ClosesAsDue owing c.args.self.now.places (table_places a.kernels a.segments c.close_open-effects.new.queues a.grants c.close_open-effects.new.blocks c.enter.new.audit))
+    subst (λ owing. ClosesAsDue owing (openings (beginning c.args.self.now.history) c.args.self.now.history.entries).queues queue c.args.self.now.places (table_places a.kernels a.segments c.close_open-effects.new.queues a.grants c.close_open-effects.new.blocks c.enter.new.audit))
     (sym c.in_ok-may_close.ensures.may)
     (record {
       before = gone.0;
       lost = gone.1;
       behind = gone.2;
+      place = subst (λ (h : History). option_map (λ (q : OpenQueue). q.queue) (slice_get (openings (beginning h) h.entries).queues (length gone.0)) ≡ Some queue) (seen c.self.view_is) gone.5;
       errors = ap (λ (core : Core). core.places.error_places) (sym c.self.view_is) ∙ gone.3;
       others = places-closed a _ c.self.view_is c.close_open-effects.new.queues c.close_open-effects.new.blocks c.enter.new.audit _ _ c.close_open-effects.ensures.capacity
           (ap (map error_places) c.close_open-effects.ensures.queues ∙ gone.4) c.close_open-effects.ensures.places c.enter.ensures;

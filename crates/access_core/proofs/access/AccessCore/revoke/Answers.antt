@@ -6,12 +6,16 @@ use Rattle.access_core.proofs.QueueAt.{IsQuiet, flight-quiet}
 use Rattle.access_core.proofs.Granting.{revoke-due, revoke-held, revoke-refused}
 use Rattle.access_core.proofs.Calls.{due-by, met-refusal}
 use Rattle.access_core.proofs.HeldAfter.{blocks-still, held-still}
+use Rattle.access_core.proofs.Looking.{all-owned}
 use Rattle.access_core.proofs.Terms.{Call, ClientId, IsFirstTo, Object, Revoke, RevokeAnswers, Rights, has_block, lists_one, start_of}
 use Rattle.core_model.specs.declared.outcome.Outcome.TheVariants as outcome
 use Rattle.access_core.proofs.access.AccessCore.revoke.Goals as goal
 
 quiet : (client : ClientId) (on : Object) (rights : Rights) → IsQuiet (Call (Revoke client on rights)) outcome.Accepted []
 quiet client on rights = record { launches = refl; progress = λ queue id p. refl; stays = λ queue id. refl; releases = λ fs. refl; views = λ m v. refl }
+
+pub least_holder-requires : goal.least_holder-requires
+least_holder-requires c = rw (c.as_slice.ensures.value, c.as_slice-2.ensures) (all-owned c.self.inside c.self.invariant)
 
 pub returns-in-Err-clause-met : goal.returns-in-Err-clause-met
 returns-in-Err-clause-met = grind (arith, revoke-refused)
@@ -22,8 +26,8 @@ returns-in-Some-clause-met c =
     met-refusal (Call (Revoke c.args.client c.args.object c.args.rights)) _ _
     (due-by c.self.inside _ (seen c.self.view_is) _ _ (revoke-held c.self.inside c.self.invariant c.args.client c.args.object c.args.rights
     (subst (RevokeAnswers c.self.inside.grants c.args.client c.args.object c.args.rights) c.in_default.is c.may_revoke.ensures) c.in-Some.queue c.in-Some.packet
-    (subst (λ blocks. IsFirstTo (has_block test blocks) (Some (c.in-Some.queue, c.in-Some.packet))) c.as_slice.ensures
-    (subst (IsFirstTo (has_block test c.as_slice.result.now)) c.in-Some.is c.first_holder.ensures))))
+    (subst (λ blocks. IsFirstTo (has_block test blocks) (Some (c.in-Some.queue, c.in-Some.packet))) c.as_slice-2.ensures
+    (subst (IsFirstTo (has_block test c.as_slice-2.result.now)) c.in-Some.is c.least_holder.ensures))))
 
 pub returns-then-is_full-clause-met : goal.returns-then-is_full-clause-met
 returns-then-is_full-clause-met = grind (arith, revoke-due)
@@ -52,8 +56,8 @@ invariant_of-self c =
     })
     _ (seen c.self.view_is) (revoke-due a c.self.invariant c.args.client c.args.object c.args.rights _ (seen c.self.view_is)
     (subst (RevokeAnswers c.self.inside.grants c.args.client c.args.object c.args.rights) c.in_default.is c.may_revoke.ensures)
-    (subst (λ blocks. IsFirstTo (has_block (lists_one c.args.client c.args.object c.args.rights) blocks) None) c.as_slice.ensures
-    (subst (IsFirstTo (has_block (lists_one c.args.client c.args.object c.args.rights) c.as_slice.result.now)) c.in-None.is c.first_holder.ensures))
+    (subst (λ blocks. IsFirstTo (has_block (lists_one c.args.client c.args.object c.args.rights) blocks) None) c.as_slice-2.ensures
+    (subst (IsFirstTo (has_block (lists_one c.args.client c.args.object c.args.rights) c.as_slice-2.result.now)) c.in-None.is c.least_holder.ensures))
     false (sym c.is_full.ensures ∙ c.if-is_full.false))
 
 pub returns-clause-met : goal.returns-clause-met
