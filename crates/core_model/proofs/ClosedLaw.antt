@@ -1,5 +1,5 @@
 -- What a close does, and that nothing is told of a queue that isn't open.
-use Rattle.std.proofs.Common.{◌≡◌, ◌⊎◌, inl, inr, ℕ, ◌+◌, ◌<◌, List, [], ◌∷◌, ◌++◌, refl, sym, ◌∙◌, ap, subst, Bool, true, false, Option, Some, None, append_assoc, arith}
+use Rattle.std.proofs.Common.{◌≡◌, ◌⊎◌, inl, inr, ℕ, ◌+◌, ◌<◌, ◌≤◌, List, [], ◌∷◌, ◌++◌, refl, sym, ◌∙◌, ap, subst, Bool, true, false, Option, Some, None, append_assoc, arith}
 use Rattle.std.specs.Prelude.{All, ◌&&◌, ◌==◌, Err, Ok, filter, find, fold, get_or, is_some, map, not, if◌then◌else◌}
 use Rattle.std.specs.List.{Contains}
 use Rattle.std.proofs.lemmas.Bool.{eq-eqb, eqb-true}
@@ -38,7 +38,7 @@ use Rattle.core_model.specs.Queries.{query_answer}
 use Rattle.core_model.specs.Refusals.{for_some}
 use Rattle.core_model.specs.Legal.{IsLegal, IsLegalAfter, IsWhole, entry_of}
 use Rattle.core_model.specs.Headline.{HoldsInForce, packet_named}
-use Rattle.core_model.specs.Closed.{AreAscending, IsClosed, IsGone, NothingIsToldOf, names_queue}
+use Rattle.core_model.specs.Closed.{AreAscending, IsClosed, IsGone, NothingIsToldOf, WasClosed, names_queue}
 use Rattle.core_model.proofs.Absent.{by-entries, unheld-unfound}
 use Rattle.core_model.proofs.Apart.{AreBelow, below-whole, found-legal, is-next}
 use Rattle.core_model.proofs.Behind.{all, first, ordered-legal, same-state}
@@ -49,7 +49,7 @@ use Rattle.core_model.proofs.Holding.{holding-legal}
 use Rattle.core_model.proofs.Launches.{past-closed, refuse_unless-passed}
 use Rattle.core_model.proofs.Lists.{filter-passes}
 use Rattle.core_model.proofs.More.{errors-more, flight-more, is_stopped-more, next_id-more, openings-more}
-use Rattle.core_model.proofs.Openings.{IsPast, openings-along, owner-more, past-after}
+use Rattle.core_model.proofs.Openings.{IsPast, numbered-above, openings-along, owner-more, past-after}
 use Rattle.core_model.proofs.States.{legal-beginning, legal-own, split-legal, whole-legal}
 
 -- ---- packets in flight of one queue are in the order of their ids
@@ -336,6 +336,19 @@ errors-refused : (s : Start) (es : List Entry) (queue : QueueId) → owner s es 
 unfolding query_answer
 errors-refused s es queue none = ap (λ (o : Option Opening). for_some o (Err refusal.UnknownQueue) (λ opening. Ok (answer.Errors (errors s es queue)))) none
 
+gone-past : (s : Start) (es : List Entry) (queue : QueueId) → IsLegal s es → 1 ≤ queue.0 → IsPast (openings s es) queue → IsGone s es queue
+gone-past s es queue legal number past =
+    let untold = nothing-told s es legal queue past.0 in
+    record {
+      numbered = number;
+      was_opened = past.1;
+      not_open = past.0;
+      untold = untold;
+      unheld = λ id client on right. unheld-unfound s es legal queue id client on right (unfound queue id (flight s es) untold.none_flies);
+      refused = λ event names. unowned-refused s es queue past.0 event names;
+      unanswered = errors-refused s es queue past.0;
+    }
+
 module _ (s : Start) (before more : List Entry) (queue : QueueId) (told : Outcome) (effects : List Effect) (legal : IsLegal s (before ++ entry_of (Call (Close queue)) told effects ∷ more)) where
   abbrev closing : Entry
   closing = entry_of (Call (Close queue)) told effects
@@ -351,17 +364,14 @@ module _ (s : Start) (before more : List Entry) (queue : QueueId) (told : Outcom
       subst (λ (now : List Entry). IsPast (openings s now) queue) (append_assoc before (closing ∷ []) more)
       (openings-along s (λ (all : Openings). IsPast all queue) (λ (all : Openings) event. past-after all event queue) (before ++ closing ∷ []) more past)
 
+  number : 1 ≤ queue.0
+  number =
+      let owned = close-effects s before told effects queue behind.0 in
+      let above : 0 < queue.0 = numbered-above 0 (openings s before).queues queue owned.opening (ordered-legal s before (legal-beginning s before (closing ∷ more) legal)).0 owned.owner_is in
+      omega (arith, above)
+
   pub gone : IsGone s (before ++ closing ∷ more) queue
-  gone =
-      let untold = nothing-told s (before ++ closing ∷ more) legal queue past-now.0 in
-      record {
-        was_opened = past-now.1;
-        not_open = past-now.0;
-        untold = untold;
-        unheld = λ id client on right. unheld-unfound s (before ++ closing ∷ more) legal queue id client on right (unfound queue id (flight s (before ++ closing ∷ more)) untold.none_flies);
-        refused = λ event names. unowned-refused s (before ++ closing ∷ more) queue past-now.0 event names;
-        unanswered = errors-refused s (before ++ closing ∷ more) queue past-now.0;
-      }
+  gone = gone-past s (before ++ closing ∷ more) queue legal number past-now
 
 -- ---- the number of a queue that is opened
 
@@ -433,3 +443,18 @@ pub unnamed : (s : Start) (before more : List Entry) (queue : QueueId) (told : O
     → All (λ e. (names_queue queue e.event ≡ false) × (e.outcome ≡ outcome.Opened queue → ⊥)) more
 unnamed s before more queue told effects legal =
     unnamed-after s (before ++ entry_of (Call (Close queue)) told effects ∷ []) more queue (past s before more queue told effects legal) (behind s before more queue told effects legal).1
+
+-- ---- a queue that was closed before what a history begins from
+
+past-first : (s : Start) (queue : QueueId) → WasClosed s queue → IsPast (openings s []) queue
+unfolding openings
+past-first s queue closed = (closed.not_open, closed.was_opened)
+
+module _ (s : Start) (es : List Entry) (queue : QueueId) (legal : IsLegal s es) (closed : WasClosed s queue) where
+  pub gone-before : IsGone s es queue
+  gone-before =
+      gone-past s es queue legal closed.numbered
+      (openings-along s (λ (all : Openings). IsPast all queue) (λ (all : Openings) event. past-after all event queue) [] es (past-first s queue closed))
+
+  pub unnamed-since : All (λ e. (names_queue queue e.event ≡ false) × (e.outcome ≡ outcome.Opened queue → ⊥)) es
+  unnamed-since = unnamed-after s [] es queue (past-first s queue closed) (legal-own s es legal)

@@ -260,6 +260,19 @@ AreAscendingFrom low (q ∷ qs) = (low < q.queue.0) × AreAscendingFrom q.queue.
 abbrev pub AreOrdered : Openings → Type 0
 AreOrdered all = AreAscendingFrom 0 all.queues × AreNumbered all
 
+-- so a queue that is open has a number above the least
+pub numbered-above : (low : ℕ) (qs : List OpenQueue) (queue : QueueId) (opening : Opening) → AreAscendingFrom low qs → opening_in qs queue ≡ Some opening → low < queue.0
+numbered-above low [] queue opening ascend is = absurd cc
+numbered-above low (q ∷ qs) queue opening ascend is = by_test (is_queue queue q) refl is (numbered-above q.queue.0 qs queue opening ascend.1)
+  where
+    by_test : (b : Bool) → is_queue queue q ≡ b → option_map (λ (p : OpenQueue). p.opening) (if b then Some q else find (is_queue queue) qs) ≡ Some opening
+        → (opening_in qs queue ≡ Some opening → q.queue.0 < queue.0) → low < queue.0
+    by_test true same is rest =
+        let number : q.queue.0 ≡ queue.0 = eqb-true _ _ same in
+        let above = ascend.0 in
+        omega (arith, number, above)
+    by_test false other is rest = let first = ascend.0 in let above = rest is in omega (arith, first, above)
+
 ascending-weaker : (low high : ℕ) (qs : List OpenQueue) → low ≤ high → AreAscendingFrom high qs → AreAscendingFrom low qs
 ascending-weaker low high [] up ascend = tt
 ascending-weaker low high (q ∷ qs) up ascend = let above = ascend.0 in (omega (arith, up, above), ascend.1)

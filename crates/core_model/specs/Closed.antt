@@ -15,7 +15,7 @@ use Rattle.core_model.specs.declared.entry.Effect.TheVariants as effect
 use Rattle.core_model.specs.declared.entry.Entry.{Entry}
 use Rattle.core_model.specs.declared.refusal.Refusal.TheVariants as refusal
 use Rattle.core_model.specs.History.{Start}
-use Rattle.core_model.specs.Queues.{Opening, openings, owner, next_id, errors, is_stopped}
+use Rattle.core_model.specs.Queues.{Opening, opening_in, openings, owner, next_id, errors, is_stopped}
 use Rattle.core_model.specs.Flight.{flight, flight_of, in_flight}
 use Rattle.core_model.specs.Holds.{held}
 use Rattle.core_model.specs.Owed.{owed, refuses}
@@ -26,8 +26,8 @@ abbrev pub AreAscending : List PacketId → Type 0
 AreAscending [] = Unit {0}
 AreAscending (id ∷ ids) = All (λ other. id.0 < other.0) ids × AreAscending ids
 
--- the close of a queue behind these entries: the queue was open, each packet of it in flight is released, ascending by id, and nothing
--- else changes (own)
+-- the close of a queue behind these entries: the queue was open, and its effects are the release of each packet of it in flight, ascending
+-- by id, and no other (own)
 pub record IsClosed (start : Start) (before : List Entry) (queue : QueueId) (effects : List Effect) : Type 0 where
   pub opening : Opening
   pub owner_is : owner start before queue ≡ Some opening
@@ -55,8 +55,16 @@ names_queue queue (Call (Poll q id)) = q.0 == queue.0
 names_queue queue (Call (Finish q id)) = q.0 == queue.0
 names_queue queue _ = false
 
--- a queue that was opened is gone behind these entries: it isn't open, nothing of it is told or held, and what names it is refused (own)
+-- what a history begins from says that a queue was closed: it was opened, so its number is 1 at least, and isn't open (own)
+pub record WasClosed (start : Start) (queue : QueueId) : Type 0 where
+  pub numbered : 1 ≤ queue.0
+  pub was_opened : queue.0 ≤ start.openings.opened
+  pub not_open : opening_in start.openings.queues queue ≡ None
+
+-- a queue that was opened, so that its number is 1 at least, is gone behind these entries: it isn't open, nothing of it is told or held, and
+-- what names it is refused (own)
 pub record IsGone (start : Start) (entries : List Entry) (queue : QueueId) : Type 0 where
+  pub numbered : 1 ≤ queue.0
   pub was_opened : queue.0 ≤ (openings start entries).opened
   pub not_open : owner start entries queue ≡ None
   pub untold : NothingIsToldOf start entries queue

@@ -69,7 +69,7 @@ ghost use Rattle.core_model.specs.Owed.{barrier_in, enters, is_host_size, old_if
 ghost use Rattle.core_model.specs.Legal.{AreReplies, IsFollowedBy, IsLegal, IsLegalPart, IsOpening, IsServed, IsWhole, joined, MeetsOrLacks, entry_of};
 ghost use Rattle.core_model.specs.Queries.{AnswerOrRefusal, query_answer};
 ghost use Rattle.core_model.specs.Room.{FindsRoom, HasRoom};
-ghost use Rattle.core_model.specs.Closed.{IsClosed, IsGone, NothingIsToldOf, names_queue};
+ghost use Rattle.core_model.specs.Closed.{IsClosed, IsGone, NothingIsToldOf, WasClosed, names_queue};
 ghost use Rattle.core_model.specs.Headline.{AllInForce, ChangeIsGranted, GoesOn, HoldsInForce, InFlightSince, IsCompleted, IsDenied, IsEntryBehind, IsListed, IsOpened, IsPolled, Launch, MayBeLaunched, MayReach, MayReachRange, ReleaseIsDue, WriteIsGranted, packet_named, ranges_seen};
 
 /// A launched packet is the next of a queue that is open and need not wait, is laid out by its bytes, and
@@ -208,8 +208,8 @@ pub fn law_each_queue_is_its_openers()
         IsOpened start before (entry_of (Open client agent size) told effects) client agent }
 {}
 
-/// A close is of an open queue; it releases each packet of it in flight, ascending by id, and changes
-/// nothing else: it completes none, and writes nothing.
+/// A close is of an open queue; it releases each packet of it in flight, ascending by id, and has no
+/// other effect: it completes none, and writes nothing.
 pub fn law_each_close_releases_all()
     ensures { (start : Start) (entries before : List Entry) (queue : QueueId) (told : Outcome) (effects : List Effect) →
         IsWhole start entries → IsEntryBehind entries before (entry_of (Call (Close queue)) told effects) →
@@ -218,12 +218,16 @@ pub fn law_each_close_releases_all()
 
 /// A queue that was closed is gone, whatever legal entries follow: nothing of it is told, held or in
 /// flight, what names it is refused, so that no later entry does, and no later queue has its number.
+/// So is one that the start says was closed, whose close isn't among these entries.
 pub fn law_closed_queues_stay_gone()
     ensures gone { (start : Start) (before more : List Entry) (queue : QueueId) (told : Outcome) (effects : List Effect) →
         IsLegal start (before ++ entry_of (Call (Close queue)) told effects ∷ more) → IsGone start (before ++ entry_of (Call (Close queue)) told effects ∷ more) queue }
     ensures unnamed { (start : Start) (before more : List Entry) (queue : QueueId) (told : Outcome) (effects : List Effect) →
         IsLegal start (before ++ entry_of (Call (Close queue)) told effects ∷ more) →
         All (λ entry. (names_queue queue entry.event ≡ false) × (entry.outcome ≡ outcome.Opened queue → ⊥)) more }
+    ensures gone_before { (start : Start) (entries : List Entry) (queue : QueueId) → IsLegal start entries → WasClosed start queue → IsGone start entries queue }
+    ensures unnamed_since { (start : Start) (entries : List Entry) (queue : QueueId) → IsLegal start entries → WasClosed start queue →
+        All (λ entry. (names_queue queue entry.event ≡ false) × (entry.outcome ≡ outcome.Opened queue → ⊥)) entries }
 {}
 
 /// A client's write is made only with WRITE in force, and then whole; its change of a signal only with

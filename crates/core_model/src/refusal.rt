@@ -15,8 +15,8 @@ pub enum Refusal {
     /// No client has this number.
     #[error("no client has this number")]
     UnknownClient,
-    /// No queue has this number.
-    #[error("no queue has this number")]
+    /// No open queue has this number.
+    #[error("no open queue has this number")]
     UnknownQueue,
     /// The client lacks this right on the object, or there is no such object.
     #[error("the client lacks {0}")]
@@ -46,8 +46,8 @@ pub enum Refusal {
     /// A queue's size is no power of two from 2 to 4,096, or a range isn't 1 to 65,536 bytes long.
     #[error("the size is none that may be")]
     BadSize,
-    /// As many queues as there may be were opened.
-    #[error("no more queues may be opened")]
+    /// As many queues are open as there may be at once.
+    #[error("no more queues may be open")]
     TooMany,
     /// No object of its kind has this number.
     #[error("no object has this number")]
