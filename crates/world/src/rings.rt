@@ -15,8 +15,8 @@ use aql_packet::{PacketId, QueueId};
 use core_model::Taken;
 use ring_core::{Log, Step};
 
-// Where a queue's ring stands: behind the last, where the queue has none. Rings stand in the order of their numbers, which
-// begin at 1, so the first look is at the place of its number: there it stands as long as no queue before it was closed.
+// Where a queue's ring stands: behind the last, where the queue has none. Queues are numbered from 1 as they are opened, so
+// the first look is at the place of its number: there its ring stands as long as no queue before it was closed.
 fn place_of(rings: &Vec<QueueRing>, queue: QueueId) -> usize
     requires { AreApart (rings_of rings.now.items) }
     ensures { result ≡ place_in rings.now.items queue }
@@ -28,7 +28,8 @@ fn place_of(rings: &Vec<QueueRing>, queue: QueueId) -> usize
     place_before(rings, queue, behind)
 }
 
-// Where a queue's ring stands, looked for downward before a place: a queue that was closed moved those behind it down.
+// Where a queue's ring stands. The look goes downward from a place, since a queue that is closed has those behind it move
+// down. Only where the queue has no ring are the others looked at too.
 #[inline(never)]
 fn place_before(rings: &Vec<QueueRing>, queue: QueueId, behind: usize) -> usize
     requires apart { AreApart (rings_of rings.now.items) }
