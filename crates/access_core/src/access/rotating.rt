@@ -1,6 +1,6 @@
 //! The audit is rotated: its entries so far are handed out, and the history goes on from the state behind them.
 
-ghost use Rattle.std.specs.Prelude.{◌≡◌, true, false, map, All, IfOk};
+ghost use Rattle.std.specs.Prelude.{◌≡◌, false, map, IfOk};
 ghost use Rattle.std.specs.List.{filter_map};
 ghost use Rattle.std.specs.Option.{option_copied};
 ghost use Rattle.core_model.specs.History.{begin, beginning};
@@ -9,9 +9,8 @@ ghost use Rattle.regions.specs.Memory.{lengths_of};
 ghost use Rattle.core_model.specs.Legal.{IsLegalPart, SameOrigin};
 ghost use Rattle.core_model.specs.Rotation.{Rotates, lies_too_far};
 ghost use Rattle.core_model.specs.States.{state_after};
-ghost use Rattle.grants.specs.Ledger.{are_in_force};
 ghost use Rattle.access_core.specs.inner.Numbers.{AscendFrom, queue_in};
-ghost use Rattle.access_core.specs.inner.Origins.{IsHolding, packet_origin, queue_origin, sought_in, told_origin};
+ghost use Rattle.access_core.specs.inner.Origins.{packet_origin, queue_origin, sought_in, told_origin};
 
 use crate::access::AccessCore;
 use crate::access::lookups::queue_of;
@@ -22,7 +21,6 @@ use boxed::Boxed;
 use core_model::{
     InFlight, MOST_BEFORE, Opening, Origin, PacketOrigin, Part, QueueOrigin, Refusal,
 };
-use grants::Grants;
 use packet_processor::Place;
 use sequences::{Reserved, Sequence};
 use std::alloc::{AllocError, Global};
@@ -79,7 +77,7 @@ impl AccessCore {
         self.regions_fit();
         Ok(Origin {
             policy: self.policy().copy(alloc)?,
-            grants: grants_holding(alloc, &self.grants, self.blocks.as_slice())?,
+            grants: self.grants.copy(alloc)?,
             memory: self.memory.copy(alloc)?,
             signals: self.signals.copy(alloc)?,
             queues: queue_origins(alloc, self.queues.as_slice())?,
@@ -97,27 +95,6 @@ fn boxed_copy(alloc: Global, origin: &Origin) -> Result<Boxed<Origin>, AllocErro
 {
     let copy = origin.copy(alloc)?;
     Ok(Boxed::new(alloc, copy)?)
-}
-
-// The same grants in memory of their own, by which packets hold besides what their argument blocks list.
-fn grants_holding(
-    alloc: Global,
-    grants: &Grants,
-    blocks: &[ArgumentBlock],
-) -> Result<Grants, AllocError>
-    requires { All (λ block. are_in_force grants.now block.client block.rights ≡ true) blocks.now }
-    ensures { IfOk result (IsHolding grants.now blocks.now) }
-{
-    let mut holding = grants.copy(alloc)?;
-    for block in blocks {
-        holding.hold(
-            block.client,
-            block.queue,
-            block.packet,
-            block.rights.as_slice(),
-        )?;
-    }
-    Ok(holding)
 }
 
 // What is kept of a queue, as data.
@@ -174,6 +151,8 @@ fn packet_origin(
             packet: place.packet,
         },
         progress: place.progress,
+        client: block.client,
+        rights: block.rights.copy(alloc)?,
         arguments: block.bytes.copy(alloc)?,
     })
 }

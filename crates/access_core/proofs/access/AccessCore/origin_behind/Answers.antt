@@ -1,29 +1,24 @@
 -- Copies of the fields give the answers of the state behind the audit.
-use Rattle.std.proofs.Common.{◌≡◌, ◌+◌, ◌∙◌, List, All, map, refl, sym, ap, subst, true}
+use Rattle.std.proofs.Common.{◌≡◌, ◌+◌, ◌∙◌, map, refl, sym, ap, subst, true}
 use Rattle.std.specs.List.{filter_map}
 use Rattle.core_model.specs.declared.origin.Origin.{Origin}
 use Rattle.core_model.specs.History.{History, begin, beginning}
 use Rattle.core_model.specs.States.{state_after}
 use Rattle.regions.specs.Memory.{lengths_of}
-use Rattle.access_core.specs.inner.Origins.{IsHolding, packet_origin, queue_origin}
-use Rattle.access_core.proofs.BlockRights.{blocks-in_force}
-use Rattle.access_core.proofs.Rotating.{copied-behind}
+use Rattle.access_core.specs.inner.Origins.{packet_origin, queue_origin}
+use Rattle.access_core.proofs.Rotating.{copied-behind, copy-same}
 use Rattle.access_core.proofs.Seen.{seen}
-use Rattle.access_core.proofs.Terms.{ArgumentBlock, are_in_force, are_region_lengths, region_lengths}
+use Rattle.access_core.proofs.Terms.{are_region_lengths, region_lengths}
 use Rattle.access_core.proofs.access.AccessCore.origin_behind.Goals as goal
-
-pub grants_holding-requires : goal.grants_holding-requires
-grants_holding-requires c =
-    subst (All (λ (block : ArgumentBlock). are_in_force c.self.inside.grants block.client block.rights ≡ true)) (sym c.as_slice.ensures) (blocks-in_force c.self.inside c.self.invariant)
 
 pub returns-clause-begins : goal.returns-clause-begins
 returns-clause-begins c =
     let a = c.self.inside in
     let o : Origin = record {
       policy = c.in_ok-copy.field-0;
-      grants = c.in_ok-grants_holding.field-0;
-      memory = c.in_ok-copy-2.field-0;
-      signals = c.in_ok-copy-3.field-0;
+      grants = c.in_ok-copy-2.field-0;
+      memory = c.in_ok-copy-3.field-0;
+      signals = c.in_ok-copy-4.field-0;
       opened = c.self.inside.opened;
       queues = c.in_ok-queue_origins.field-0;
       packets = c.in_ok-packet_origins.field-0;
@@ -35,14 +30,14 @@ returns-clause-begins c =
     subst (λ (h : History). are_region_lengths (region_lengths (beginning h).policy) ≡ true) (sym (seen c.self.view_is)) c.regions_fit.ensures in
     subst (λ (h : History). begin h.kernels o ≡ state_after (beginning h) h.entries) (seen c.self.view_is)
     (copied-behind a c.self.invariant o policy_is
-    (subst (λ (blocks : List ArgumentBlock). IsHolding a.grants blocks c.in_ok-grants_holding.field-0) c.as_slice.ensures c.in_ok-grants_holding.ensures)
-    c.in_ok-copy-2.ensures c.in_ok-copy-3.ensures refl
-    (c.in_ok-queue_origins.ensures ∙ ap (map queue_origin) c.as_slice-2.ensures.value)
-    (c.in_ok-packet_origins.ensures ∙ (λ i. filter_map (packet_origin (c.as_slice-3.ensures.value i)) (c.as_slice-4.ensures i)))
+    (copy-same a.grants c.in_ok-copy-2.field-0 c.in_ok-copy-2.ensures)
+    c.in_ok-copy-3.ensures c.in_ok-copy-4.ensures refl
+    (c.in_ok-queue_origins.ensures ∙ ap (map queue_origin) c.as_slice.ensures.value)
+    (c.in_ok-packet_origins.ensures ∙ (λ i. filter_map (packet_origin (c.as_slice-2.ensures.value i)) (c.as_slice-3.ensures i)))
     (λ i. before_is i + c.len.ensures i) fit)
 
 pub returns-clause-policy : goal.returns-clause-policy
 returns-clause-policy c = c.in_ok-copy.ensures ∙ c.policy.ensures
 
 pub returns-clause-lengths : goal.returns-clause-lengths
-returns-clause-lengths c = ap lengths_of c.in_ok-copy-2.ensures ∙ c.self.invariant.lengths ∙ ap (λ (h : History). region_lengths h.origin.policy) (seen c.self.view_is)
+returns-clause-lengths c = ap lengths_of c.in_ok-copy-3.ensures ∙ c.self.invariant.lengths ∙ ap (λ (h : History). region_lengths h.origin.policy) (seen c.self.view_is)
