@@ -41,7 +41,7 @@ known-cell table client on right is = by_tests (knows_client table.rules client)
     by_tests false false is now = absurd cc
 
 module _ (a : Inside) (kept : IsCached a) where
-  -- a right that a packet holds: it is in flight, the right is the owner's of its queue, in force, and on a declared object
+  -- a right that a packet holds: it is in flight, the right is the owner's of its queue, and on a declared object
   record Holding (queue : QueueId) (id : PacketId) (client : ClientId) (on : Object) (right : Right) : Type 0 where
     flying : InFlight
     found : in_flight (start_of a) a.audit.items queue id ≡ Some flying
@@ -49,7 +49,6 @@ module _ (a : Inside) (kept : IsCached a) where
     owner_is : owner (start_of a) a.audit.items queue ≡ Some opening
     client_is : opening.client ≡ client
     known : knows_object (rules_of (start_of a).policy) on ≡ true
-    forced : ledger.in_force a.grants client on right ≡ true
 
   holding-now : (queue : QueueId) (id : PacketId) (client : ClientId) (on : Object) (right : Right) → is_given a.blocks.items queue id client on right ≡ true → Holding queue id client on right
   holding-now queue id client on right has_it =
@@ -78,12 +77,7 @@ module _ (a : Inside) (kept : IsCached a) where
         owner_is = sym (ap (λ (now : Start). opening_in now.openings.queues queue) (same-state start es kept.legal)) ∙ subst (λ q. owner (first start es kept.legal) (all start es kept.legal) q ≡ Some whole.launch.opening) named.0 whole.owner_is;
         client_is = owner_is;
         known = ap (λ (rules : Rules). knows_object rules on) (sym kept.rules) ∙ declared;
-        forced = subst (λ c. ledger.in_force a.grants c on right ≡ true) owner_is forced;
       }
-
-  -- what a block lists is in force
-  pub forced-now : (queue : QueueId) (id : PacketId) (client : ClientId) (on : Object) (right : Right) → is_given a.blocks.items queue id client on right ≡ true → ledger.in_force a.grants client on right ≡ true
-  forced-now queue id client on right given = (holding-now queue id client on right given).forced
 
   module _ (rows : PolicyRows) where
     abbrev blocks : InFlight → Bool

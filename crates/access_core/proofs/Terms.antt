@@ -84,7 +84,7 @@ pub use Rattle.executor.specs.declared.written_range.WrittenRange.{WrittenRange}
 pub use Rattle.executor.specs.declared.held.HeldRegion.{HeldRegion}
 pub use Rattle.grants.specs.Holders.{IsFirstTo, IsUpTo}
 pub use Rattle.grants.specs.Pairs.{is_named}
-pub use Rattle.grants.specs.Ledger.{IsNew, Ledger, RevokeAnswers, are_in_force, grant_due, rules_in}
+pub use Rattle.grants.specs.Ledger.{IsNew, Ledger, RevokeAnswers, grant_due, rules_in}
 pub use Rattle.kernel_check.specs.Programs.{Program, group_bytes_of}
 pub use Rattle.packet_processor.specs.Holding.{as_rights}
 pub use Rattle.packet_processor.specs.Queueing.{IsFoundIn, as_launched, is_place_of, with_progress, without_packet}
