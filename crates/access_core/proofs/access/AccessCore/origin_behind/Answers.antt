@@ -6,7 +6,7 @@ use Rattle.core_model.specs.History.{History, begin, beginning}
 use Rattle.core_model.specs.States.{state_after}
 use Rattle.regions.specs.Memory.{lengths_of}
 use Rattle.access_core.specs.inner.Origins.{packet_origin, queue_origin}
-use Rattle.access_core.proofs.Rotating.{copied-behind, copy-same}
+use Rattle.access_core.proofs.Rotating.{copied-behind, copied-kept, copy-same}
 use Rattle.access_core.proofs.Seen.{seen}
 use Rattle.access_core.proofs.Terms.{are_region_lengths, region_lengths}
 use Rattle.access_core.proofs.access.AccessCore.origin_behind.Goals as goal
@@ -35,6 +35,11 @@ returns-clause-begins c =
     (c.in_ok-queue_origins.ensures ∙ ap (map queue_origin) c.as_slice.ensures.value)
     (c.in_ok-packet_origins.ensures ∙ (λ i. filter_map (packet_origin (c.as_slice-2.ensures.value i)) (c.as_slice-3.ensures i)))
     (λ i. before_is i + c.len.ensures i) fit)
+
+pub returns-clause-kept : goal.returns-clause-kept
+returns-clause-kept c =
+    let policy_is : c.in_ok-copy.field-0 ≡ c.self.inside.start.policy = c.in_ok-copy.ensures ∙ c.policy.ensures ∙ sym (ap (λ (h : History). h.origin.policy) (seen c.self.view_is)) in
+    copied-kept c.self.inside c.self.invariant _ policy_is c.in_ok-copy-2.ensures c.in_ok-copy-3.ensures
 
 pub returns-clause-policy : goal.returns-clause-policy
 returns-clause-policy c = c.in_ok-copy.ensures ∙ c.policy.ensures
