@@ -97,10 +97,9 @@ impl PacketOrigin {
         ensures { result ≡ packet_holds client object right (Some self.now) }
     {
         let holder = self.client;
-        self.rights
-            .as_slice()
-            .iter()
-            .any(|named| client == holder && object == named.0 && named.1.has(right))
+        self.rights.as_slice().iter().any(|named| client == holder
+            && object == named.0
+            && named.1.has(right))
     }
 
     /// The same packet once more, with rights and arguments of its own.

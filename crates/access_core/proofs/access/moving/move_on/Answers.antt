@@ -6,7 +6,6 @@ use Rattle.core_model.specs.declared.entry.Entry.{Entry}
 use Rattle.access_core.specs.inner.MovingOn.{MayFollow, MovesOn, StepsOn}
 use Rattle.access_core.proofs.MovingLemmas.{follows-next, moves-more, moves-none, within-next}
 use Rattle.access_core.proofs.Terms.{LiesWithin, lengths_of, take_all}
-use Rattle.access_core.proofs.Truncated.{moved-behind, moved-kept}
 use Rattle.access_core.proofs.access.moving.move_on.Goals as goal
 
 pub loop-entry-init : goal.loop-entry-init
@@ -36,8 +35,8 @@ loop-entry-preserved c =
     let inside : i < length entries = omega arith in
     let same : get_or entries i e ≡ e = sym (c.loop-entry.invariant.1 i e (omega arith)) ∙ sym c.entry-item.is in (
       subst (λ (es : List Entry). MovesOn c.args.start.now es c.step_on.new.start) (sym (take_more entries i e inside ∙ ap (λ (x : Entry). take i entries ++ x ∷ []) same))
-      (moves-more c.args.start.now c.loop-entry.start c.step_on.new.start (take i entries) e c.loop-entry.invariant.0
-      (subst (StepsOn c.loop-entry.start c.step_on.new.start) (sym c.entry-item.is) c.step_on.ensures)),
+          (moves-more c.args.start.now c.loop-entry.start c.step_on.new.start (take i entries) e c.loop-entry.invariant.0
+          (subst (StepsOn c.loop-entry.start c.step_on.new.start) (sym c.entry-item.is) c.step_on.ensures)),
       λ k other le. get_or-set_other c.loop-entry.entries i k _ other (omega (arith, le)) ∙ c.loop-entry.invariant.1 k other (omega (arith, le)),
     )
 
