@@ -22,3 +22,4 @@ mod GroupFootprints
 mod AtomicFootprints
 mod TurnFootprints
 mod OrderedRuns
+mod PlaceLemmas

@@ -11,10 +11,11 @@ use Rattle.executor.proofs.FlatLemmas.{flat_turn}
 use Rattle.executor.proofs.GroupLemmas.{spent, stops}
 use Rattle.executor.proofs.ItemLemmas.{reached_more, reached_arrives, reached_ends, reached_breaks, turn_alike}
 use Rattle.executor.proofs.Maps.{get_read}
+use Rattle.executor.proofs.PlaceLemmas.{in_place}
 use Rattle.executor.proofs.item_run.run_item.Goals as goal
 
-pub returns-in_default-clause-ok : goal.returns-in_default-clause-ok
-returns-in_default-clause-ok c =
+pub returns-in_default : goal.returns-in_default
+returns-in_default c =
     let a = surroundings c.args.context.now in
     let p = c.args.program.now in
     let n = c.args.number in
@@ -45,15 +46,15 @@ turns-preserved-in-Next c =
     let flats = c.flat_steps-flat_steps.result.now in
     let found : slice_get flats next ≡ Some c.in-Some.flat.now = get_read flats next c.in-Some.flat.now c.in-Some.ensures.lookup.1 c.in-Some.ensures.lookup.3.0 in
     let is : turn (context_of_item a n) p.steps (record { registers = r; next = next }) (65536 - left) m ≡ goes_on (record { registers = c.go.new.r; next = c.in-Next.after }) (contents c.go.new.memory) =
-    flat_turn (surroundings c.context_of_item-own.result) (context_of_item a n) flats p.steps r next m c.in-Some.flat.now (goes_on (record { registers = c.go.new.r; next = c.in-Next.after }) (contents c.go.new.memory))
-    c.context_of_item-own.ensures.surroundings c.flat_steps-flat_steps.ensures.value found c.in-Next.ensures (65536 - left) spent_less in (
+    flat_turn a (context_of_item a n) flats p.steps r next m c.in-Some.flat.now (goes_on (record { registers = c.go.new.r; next = c.in-Next.after }) (contents c.go.new.memory))
+    (in_place a n c.requires.item) c.flat_steps-flat_steps.ensures.value found c.in-Next.ensures (65536 - left) spent_less in (
       omega (arith, few),
       reached_more a p n first before (record { registers = r; next = next }) left m c.turns.invariant.1
           (record { registers = c.go.new.r; next = c.in-Next.after }) (contents c.go.new.memory) few some is,
     )
 
-pub returns-in-Broke-clause-err : goal.returns-in-Broke-clause-err
-returns-in-Broke-clause-err c =
+pub returns-in-Broke : goal.returns-in-Broke
+returns-in-Broke c =
     let a = surroundings c.args.context.now in
     let p = c.args.program.now in
     let n = c.args.number in
@@ -69,8 +70,8 @@ returns-in-Broke-clause-err c =
     let flats = c.flat_steps-flat_steps.result.now in
     let found : slice_get flats next ≡ Some c.in-Some.flat.now = get_read flats next c.in-Some.flat.now c.in-Some.ensures.lookup.1 c.in-Some.ensures.lookup.3.0 in
     let is : turn (context_of_item a n) p.steps (record { registers = r; next = next }) (65536 - left) m ≡ broke c.in-Broke.rule (Some c.in-Broke.address) =
-    flat_turn (surroundings c.context_of_item-own.result) (context_of_item a n) flats p.steps r next m c.in-Some.flat.now (broke c.in-Broke.rule (Some c.in-Broke.address))
-    c.context_of_item-own.ensures.surroundings c.flat_steps-flat_steps.ensures.value found c.in-Broke.ensures (65536 - left) spent_less in
+    flat_turn a (context_of_item a n) flats p.steps r next m c.in-Some.flat.now (broke c.in-Broke.rule (Some c.in-Broke.address))
+    (in_place a n c.requires.item) c.flat_steps-flat_steps.ensures.value found c.in-Broke.ensures (65536 - left) spent_less in
     subst (λ (f : RunFault). ItemFails a p n first before f) (sym c.fault.ensures)
     (reached_breaks a p n first before (record { registers = r; next = next }) left m c.turns.invariant.1 c.in-Broke.rule (Some c.in-Broke.address) is)
 
@@ -92,14 +93,14 @@ turns-preserved-in-Onward c =
     let found : slice_get flats next ≡ Some c.in-Some.flat.now = get_read flats next c.in-Some.flat.now c.in-Some.ensures.lookup.1 c.in-Some.ensures.lookup.3.0 in
     let there : Item = record { registers = c.go.new.r; next = next + 1 } in
     let is : turn (context_of_item a n) p.steps (record { registers = r; next = next }) (65536 - left) m ≡ goes_on there (contents c.go.new.memory) =
-    flat_turn (surroundings c.context_of_item-own.result) (context_of_item a n) flats p.steps r next m c.in-Some.flat.now (goes_on there (contents c.go.new.memory))
-    c.context_of_item-own.ensures.surroundings c.flat_steps-flat_steps.ensures.value found c.in-Onward.ensures (65536 - left) spent_less in (
+    flat_turn a (context_of_item a n) flats p.steps r next m c.in-Some.flat.now (goes_on there (contents c.go.new.memory))
+    (in_place a n c.requires.item) c.flat_steps-flat_steps.ensures.value found c.in-Onward.ensures (65536 - left) spent_less in (
       omega (arith, few),
       reached_more a p n first before (record { registers = r; next = next }) left m c.turns.invariant.1 there (contents c.go.new.memory) few some is,
     )
 
-pub returns-in-Arrived-clause-ok : goal.returns-in-Arrived-clause-ok
-returns-in-Arrived-clause-ok c =
+pub returns-in-Arrived : goal.returns-in-Arrived
+returns-in-Arrived c =
     let a = surroundings c.args.context.now in
     let p = c.args.program.now in
     let n = c.args.number in
@@ -116,12 +117,12 @@ returns-in-Arrived-clause-ok c =
     let found : slice_get flats next ≡ Some c.in-Some.flat.now = get_read flats next c.in-Some.flat.now c.in-Some.ensures.lookup.1 c.in-Some.ensures.lookup.3.0 in
     let there : Item = record { registers = c.go.new.r; next = next + 1 } in
     let is : turn (context_of_item a n) p.steps (record { registers = r; next = next }) (65536 - left) m ≡ arrives there (contents c.go.new.memory) =
-    flat_turn (surroundings c.context_of_item-own.result) (context_of_item a n) flats p.steps r next m c.in-Some.flat.now (arrives there (contents c.go.new.memory))
-    c.context_of_item-own.ensures.surroundings c.flat_steps-flat_steps.ensures.value found c.in-Arrived.ensures (65536 - left) spent_less in
+    flat_turn a (context_of_item a n) flats p.steps r next m c.in-Some.flat.now (arrives there (contents c.go.new.memory))
+    (in_place a n c.requires.item) c.flat_steps-flat_steps.ensures.value found c.in-Arrived.ensures (65536 - left) spent_less in
     reached_arrives a p n first before (record { registers = r; next = next }) left m c.turns.invariant.1 there (contents c.go.new.memory) few some is
 
-pub returns-in-Ended-clause-ok : goal.returns-in-Ended-clause-ok
-returns-in-Ended-clause-ok c =
+pub returns-in-Ended : goal.returns-in-Ended
+returns-in-Ended c =
     let a = surroundings c.args.context.now in
     let p = c.args.program.now in
     let n = c.args.number in
@@ -137,8 +138,8 @@ returns-in-Ended-clause-ok c =
     let flats = c.flat_steps-flat_steps.result.now in
     let found : slice_get flats next ≡ Some c.in-Some.flat.now = get_read flats next c.in-Some.flat.now c.in-Some.ensures.lookup.1 c.in-Some.ensures.lookup.3.0 in
     let is : turn (context_of_item a n) p.steps (record { registers = r; next = next }) (65536 - left) m ≡ ends (contents c.go.new.memory) =
-    flat_turn (surroundings c.context_of_item-own.result) (context_of_item a n) flats p.steps r next m c.in-Some.flat.now (ends (contents c.go.new.memory))
-    c.context_of_item-own.ensures.surroundings c.flat_steps-flat_steps.ensures.value found c.in-Ended.ensures (65536 - left) spent_less in
+    flat_turn a (context_of_item a n) flats p.steps r next m c.in-Some.flat.now (ends (contents c.go.new.memory))
+    (in_place a n c.requires.item) c.flat_steps-flat_steps.ensures.value found c.in-Ended.ensures (65536 - left) spent_less in
     reached_ends a p n first before (record { registers = r; next = next }) left m c.turns.invariant.1 (contents c.go.new.memory) is
 
 pub turns-preserved : goal.turns-preserved
@@ -156,13 +157,13 @@ turns-preserved c =
     let some : 0 < left = omega arith in
     let spent_less : 65536 - left < 65536 = omega (arith, few, some) in
     let is : turn (context_of_item a n) p.steps (record { registers = r; next = next }) (65536 - left) m ≡ goes_on c.turn.new.item (contents c.turn.new.memory) =
-    turn_alike (surroundings c.context_of_item-own.result) (context_of_item a n) p.steps c.go.new.r r next (65536 - left) (contents c.go.new.memory) m (goes_on c.turn.new.item (contents c.turn.new.memory))
-    c.context_of_item-own.ensures.surroundings c.in-Other.ensures.0 c.in-Other.ensures.1
+    turn_alike a (context_of_item a n) p.steps c.go.new.r r next (65536 - left) (contents c.go.new.memory) m (goes_on c.turn.new.item (contents c.turn.new.memory))
+    (in_place a n c.requires.item) c.in-Other.ensures.0 c.in-Other.ensures.1
     (c.in-GoesOn.ensures (65536 - left) spent_less) in
     (omega (arith, few), reached_more a p n first before (record { registers = r; next = next }) left m c.turns.invariant.1 c.turn.new.item (contents c.turn.new.memory) few some is)
 
-pub returns-in-Arrived-turn-clause-ok : goal.returns-in-Arrived-turn-clause-ok
-returns-in-Arrived-turn-clause-ok c =
+pub returns-in-Arrived-turn : goal.returns-in-Arrived-turn
+returns-in-Arrived-turn c =
     let a = surroundings c.args.context.now in
     let p = c.args.program.now in
     let n = c.args.number in
@@ -176,13 +177,13 @@ returns-in-Arrived-turn-clause-ok c =
     let some : 0 < left = omega arith in
     let spent_less : 65536 - left < 65536 = omega (arith, few, some) in
     let is : turn (context_of_item a n) p.steps (record { registers = r; next = next }) (65536 - left) m ≡ arrives c.turn.new.item (contents c.turn.new.memory) =
-    turn_alike (surroundings c.context_of_item-own.result) (context_of_item a n) p.steps c.go.new.r r next (65536 - left) (contents c.go.new.memory) m (arrives c.turn.new.item (contents c.turn.new.memory))
-    c.context_of_item-own.ensures.surroundings c.in-Other.ensures.0 c.in-Other.ensures.1
+    turn_alike a (context_of_item a n) p.steps c.go.new.r r next (65536 - left) (contents c.go.new.memory) m (arrives c.turn.new.item (contents c.turn.new.memory))
+    (in_place a n c.requires.item) c.in-Other.ensures.0 c.in-Other.ensures.1
     (c.in-Arrived-turn.ensures (65536 - left) spent_less) in
     reached_arrives a p n first before (record { registers = r; next = next }) left m c.turns.invariant.1 c.turn.new.item (contents c.turn.new.memory) few some is
 
-pub returns-in-Ended-turn-clause-ok : goal.returns-in-Ended-turn-clause-ok
-returns-in-Ended-turn-clause-ok c =
+pub returns-in-Ended-turn : goal.returns-in-Ended-turn
+returns-in-Ended-turn c =
     let a = surroundings c.args.context.now in
     let p = c.args.program.now in
     let n = c.args.number in
@@ -196,13 +197,13 @@ returns-in-Ended-turn-clause-ok c =
     let some : 0 < left = omega arith in
     let spent_less : 65536 - left < 65536 = omega (arith, few, some) in
     let is : turn (context_of_item a n) p.steps (record { registers = r; next = next }) (65536 - left) m ≡ ends (contents c.turn.new.memory) =
-    turn_alike (surroundings c.context_of_item-own.result) (context_of_item a n) p.steps c.go.new.r r next (65536 - left) (contents c.go.new.memory) m (ends (contents c.turn.new.memory))
-    c.context_of_item-own.ensures.surroundings c.in-Other.ensures.0 c.in-Other.ensures.1
+    turn_alike a (context_of_item a n) p.steps c.go.new.r r next (65536 - left) (contents c.go.new.memory) m (ends (contents c.turn.new.memory))
+    (in_place a n c.requires.item) c.in-Other.ensures.0 c.in-Other.ensures.1
     (c.in-Ended-turn.ensures (65536 - left) spent_less) in
     reached_ends a p n first before (record { registers = r; next = next }) left m c.turns.invariant.1 (contents c.turn.new.memory) is
 
-pub returns-in-Broke-turn-clause-err : goal.returns-in-Broke-turn-clause-err
-returns-in-Broke-turn-clause-err c =
+pub returns-in-Broke-turn : goal.returns-in-Broke-turn
+returns-in-Broke-turn c =
     let a = surroundings c.args.context.now in
     let p = c.args.program.now in
     let n = c.args.number in
@@ -216,14 +217,14 @@ returns-in-Broke-turn-clause-err c =
     let some : 0 < left = omega arith in
     let spent_less : 65536 - left < 65536 = omega (arith, few, some) in
     let is : turn (context_of_item a n) p.steps (record { registers = r; next = next }) (65536 - left) m ≡ broke c.in-Broke-turn.rule (Some c.in-Broke-turn.address) =
-    turn_alike (surroundings c.context_of_item-own.result) (context_of_item a n) p.steps c.go.new.r r next (65536 - left) (contents c.go.new.memory) m (broke c.in-Broke-turn.rule (Some c.in-Broke-turn.address))
-    c.context_of_item-own.ensures.surroundings c.in-Other.ensures.0 c.in-Other.ensures.1
+    turn_alike a (context_of_item a n) p.steps c.go.new.r r next (65536 - left) (contents c.go.new.memory) m (broke c.in-Broke-turn.rule (Some c.in-Broke-turn.address))
+    (in_place a n c.requires.item) c.in-Other.ensures.0 c.in-Other.ensures.1
     (c.in-Broke-turn.ensures (65536 - left) spent_less) in
     subst (λ (f : RunFault). ItemFails a p n first before f) (sym c.fault-in-Broke-turn.ensures)
     (reached_breaks a p n first before (record { registers = r; next = next }) left m c.turns.invariant.1 c.in-Broke-turn.rule (Some c.in-Broke-turn.address) is)
 
-pub returns-then-next-steps-clause-err : goal.returns-then-next-steps-clause-err
-returns-then-next-steps-clause-err c =
+pub returns-then-next-steps : goal.returns-then-next-steps
+returns-then-next-steps c =
     let a = surroundings c.args.context.now in
     let p = c.args.program.now in
     let n = c.args.number in
@@ -239,8 +240,8 @@ returns-then-next-steps-clause-err c =
     (reached_breaks a p n first before (record { registers = r; next = next }) left m c.turns.invariant.1 A5 None
     (spent (context_of_item a n) p.steps (record { registers = r; next = next }) (65536 - left) m there all))
 
-pub returns-clause-ok : goal.returns-clause-ok
-returns-clause-ok c =
+pub returns : goal.returns
+returns c =
     let a = surroundings c.args.context.now in
     let p = c.args.program.now in
     let n = c.args.number in
