@@ -89,7 +89,10 @@ fn run_to_first_barrier(
             return Err(broken);
         }
         keep_stopped(&mut stopped, &item)?;
-        own.location.item = id_behind(&own.location.current_size, &own.location.item);
+        let behind = id_behind(&own.location.current_size, &own.location.item);
+        own.location.item.x = behind.x;
+        own.location.item.y = behind.y;
+        own.location.item.z = behind.z;
     }
     Ok(stopped)
 }
@@ -150,7 +153,10 @@ fn run_past_barrier(
         ) {
             return Err(broken);
         }
-        own.location.item = id_behind(&own.location.current_size, &own.location.item);
+        let behind = id_behind(&own.location.current_size, &own.location.item);
+        own.location.item.x = behind.x;
+        own.location.item.y = behind.y;
+        own.location.item.z = behind.z;
     }
     Ok(())
 }

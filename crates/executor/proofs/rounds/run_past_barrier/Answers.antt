@@ -27,18 +27,18 @@ returns-then-not-run_item-clause-err c =
     (comes_ill (surroundings c.items.own) (surroundings c.args.context.now) c.items.number c.items.invariant.1 c.args.program.now _ (contents c.items.memory)
     c.run_item.result _ _ c.run_item.new.broken c.run_item.ensures c.if-not-run_item.true)
 
-pub id_behind-requires-clause-x : goal.id_behind-requires-clause-x
-id_behind-requires-clause-x c =
+pub id_behind-behind-requires-clause-x : goal.id_behind-behind-requires-clause-x
+id_behind-behind-requires-clause-x c =
     x_within (surroundings c.items.own) (surroundings c.args.context.now) c.items.number c.items.invariant.1 (length c.args.stopped.now) c.requires.count
     (omega (arith, c.items.invariant.0.0))
 
-pub id_behind-requires-clause-y : goal.id_behind-requires-clause-y
-id_behind-requires-clause-y c =
+pub id_behind-behind-requires-clause-y : goal.id_behind-behind-requires-clause-y
+id_behind-behind-requires-clause-y c =
     y_within (surroundings c.items.own) (surroundings c.args.context.now) c.items.number c.items.invariant.1 (length c.args.stopped.now) c.requires.count
     (omega (arith, c.items.invariant.0.0))
 
-pub id_behind-requires-clause-z : goal.id_behind-requires-clause-z
-id_behind-requires-clause-z c =
+pub id_behind-behind-requires-clause-z : goal.id_behind-behind-requires-clause-z
+id_behind-behind-requires-clause-z c =
     let few =
     z_within (surroundings c.items.own) (surroundings c.args.context.now) c.items.number c.items.invariant.1 (length c.args.stopped.now) c.requires.count
     (omega (arith, c.items.invariant.0.0)) in
@@ -54,7 +54,7 @@ items-preserved c =
           (contents c.items.memory) no_item (omega arith) c.items.invariant.0 c.run_item.new.stopped (contents c.run_item.new.memory)
           (comes_well own a n is c.args.program.now _ (contents c.items.memory) c.run_item.result _ _ c.run_item.new.broken c.run_item.ensures
           c.if-not-run_item.false),
-      next_at own a n is c.id_behind.result (c.id_behind.ensures n (item_is own a n is)),
+      next_at own a n is c.id_behind-behind.result (c.id_behind-behind.ensures n (item_is own a n is)),
     )
 
 pub returns-clause-ok : goal.returns-clause-ok

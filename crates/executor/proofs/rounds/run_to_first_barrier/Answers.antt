@@ -29,16 +29,16 @@ returns-then-not-run_item-clause-err c =
     (subst (λ (s : StoppedItem). ItemComes (surroundings c.items.own) p c.items.number (ready s.item s.executed) m c.run_item.result (standing c.run_item.new.stopped) (contents c.run_item.new.memory) c.run_item.new.broken) c.fresh-item.ensures c.run_item.ensures)
     c.if-not-run_item.true)
 
-pub id_behind-requires-clause-x : goal.id_behind-requires-clause-x
-id_behind-requires-clause-x c =
+pub id_behind-behind-requires-clause-x : goal.id_behind-behind-requires-clause-x
+id_behind-behind-requires-clause-x c =
     x_within (surroundings c.items.own) (surroundings c.args.context.now) c.items.number c.items.invariant.1 c.args.count c.requires.count (omega arith)
 
-pub id_behind-requires-clause-y : goal.id_behind-requires-clause-y
-id_behind-requires-clause-y c =
+pub id_behind-behind-requires-clause-y : goal.id_behind-behind-requires-clause-y
+id_behind-behind-requires-clause-y c =
     y_within (surroundings c.items.own) (surroundings c.args.context.now) c.items.number c.items.invariant.1 c.args.count c.requires.count (omega arith)
 
-pub id_behind-requires-clause-z : goal.id_behind-requires-clause-z
-id_behind-requires-clause-z c =
+pub id_behind-behind-requires-clause-z : goal.id_behind-behind-requires-clause-z
+id_behind-behind-requires-clause-z c =
     let few = z_within (surroundings c.items.own) (surroundings c.args.context.now) c.items.number c.items.invariant.1 c.args.count c.requires.count (omega arith) in
     omega (arith, few, c.requires.few)
 
@@ -57,7 +57,7 @@ items-preserved c =
           (subst (λ (s : StoppedItem). ItemComes own p n (ready s.item s.executed) m c.run_item.result (standing x) now c.run_item.new.broken) c.fresh-item.ensures c.run_item.ensures)
           c.if-not-run_item.false)
           c.keep_stopped.new.stopped.items c.in_ok-keep_stopped.ensures,
-      next_at own a n is c.id_behind.result (c.id_behind.ensures n (item_is own a n is)),
+      next_at own a n is c.id_behind-behind.result (c.id_behind-behind.ensures n (item_is own a n is)),
     )
 
 pub returns-clause-ok : goal.returns-clause-ok
