@@ -67,6 +67,23 @@ MEETING = ("""
   ret;
 """, 65_535)
 
+# items that load an argument and return, and that add one to a number in memory
+LOADING = """
+  ld_kernarg_u64 $d0, [%words];
+  ret;
+"""
+ADDING = """
+  ld_kernarg_u64 $d0, [%words];
+  workitemabsid_u32 $s0, 0;
+  cvt_u64_u32 $d1, $s0;
+  mul_u64 $d1, $d1, 4;
+  add_u64 $d0, $d0, $d1;
+  ld_global_u32 $s1, [$d0];
+  add_u32 $s1, $s1, 1;
+  st_global_u32 $s1, [$d0];
+  ret;
+"""
+
 # families of instructions, of which each stands fifty times in a row in one kernel
 FAMILIES = {
     "step of least, greatest, quotient or remainder": (
@@ -151,6 +168,11 @@ def group(items):
     return rights(2) + ["write nora 0000000100000000 0000000002000000", "queue nora mixer 8 1", f"submit 1 1 {dispatch(items, 1)}", "serve 1", "run 1 0"]
 
 
+def single_items(groups):
+    """So many work-groups of one item."""
+    return rights(2) + ["write nora 0000000100000000 0000000002000000", "queue nora mixer 8 1", f"submit 1 1 {dispatch(1, 16)}", "serve 1"] + ["run 1 0"] * groups
+
+
 def run_lines(regions, queues, count):
     """So many `run` lines of a packet with work-groups of one item, where each queue has eight packets in flight that hold a region."""
     lines = rights(regions) + [f"write nora 0000000100000000 00000000{regions:02x}000000"] + ["queue nora mixer 8 1"] * queues
@@ -205,6 +227,10 @@ class Counter:
         body, steps = kernel
         return self.script(policy(2, body), group(8), group(24), 16 * steps)
 
+    def item(self, body):
+        """A further item of a group, from its beginning to its end."""
+        return self.script(policy(2, body), group(64), group(256), 192)
+
     def explained(self, written):
         """A run of 100,000 entries, a rotation and 10,000 refused lines with `--explain`, in hundredths of the run without it."""
         words, lines = [self.brokerd, "run", self.policy(written), "--audit", "1048576"], text(refused(33_333, 10_000))
@@ -249,6 +275,9 @@ class Counter:
         yield "step with atomics and barriers", lambda: self.kernel(MEETING)
         for name, lines in FAMILIES.items():
             yield name, lambda lines=lines: self.kernel(family(lines))
+        yield "further item of a group, of two steps", lambda: self.item(LOADING)
+        yield "further item of a group, of nine steps", lambda: self.item(ADDING)
+        yield "group of one item, of two steps", lambda: self.script(policy(2, LOADING), single_items(2), single_items(10), 8)
         yield "run line, 2 regions, 8 in flight", lambda: self.script(policy(2, "\n  ret;\n"), run_lines(2, 1, 100), run_lines(2, 1, 300), 200)
         yield "run line, 64 regions, 512 in flight", lambda: self.script(policy(64, "\n  ret;\n"), run_lines(64, 64, 10), run_lines(64, 64, 30), 20)
         yield "checked instruction", self.check

@@ -22,3 +22,6 @@ mod GroupFootprints
 mod AtomicFootprints
 mod TurnFootprints
 mod OrderedRuns
+mod PlaceLemmas
+mod FewLemmas
+mod RowLemmas

@@ -31,6 +31,7 @@ mod number32;
 mod number64;
 mod page;
 mod registers;
+mod registers_set;
 mod rounds;
 mod values;
 mod view;
