@@ -9,6 +9,7 @@ use Rattle.executor.specs.inner.ItemRuns.{ItemRuns, ItemFails, ItemComes}
 use Rattle.executor.specs.declared.fault.RunFault.{RunFault}
 use Rattle.executor.specs.declared.fault.RunFault.TheVariants as fault
 use Rattle.executor.specs.declared.location.Extent.{Extent}
+use Rattle.executor.specs.declared.location.Location.{Location}
 use Rattle.kernel_check.specs.Programs.{Program}
 
 -- ---- one number more, divided
@@ -114,11 +115,17 @@ module _ (own group : Surroundings) (n : ℕ) (is : own ≡ context_of_item grou
   sizes_are : own.location.current_size ≡ group.location.current_size
   sizes_are = ap (λ (o : Surroundings). o.location.current_size) is
 
-  pub next_at : (i : Extent) → i ≡ id_of own.location.current_size (n + 1)
+  next_at : (i : Extent) → i ≡ id_of own.location.current_size (n + 1)
       → record own { location = record own.location { item = i } } ≡ context_of_item group (n + 1)
   next_at i next =
       subst (λ (o : Surroundings). i ≡ id_of o.location.current_size (n + 1) → record o { location = record o.location { item = i } } ≡ context_of_item group (n + 1)) (sym is)
       (λ e. ap (λ (j : Extent). record group { location = record group.location { item = j } }) e) next
+
+  pub moved_at : (l : Location) (i sizes id : Extent) → l ≡ record own.location { item = i } → sizes ≡ own.location.current_size → id ≡ own.location.item
+      → (id ≡ id_of sizes n → i ≡ id_of sizes (n + 1)) → record own { location = l } ≡ context_of_item group (n + 1)
+  moved_at l i sizes id moved same there next =
+      let here : id ≡ id_of sizes n = there ∙ (item_is ∙ ap (λ (s : Extent). id_of s n) (sym same)) in
+      ap (λ (k : Location). record own { location = k }) moved ∙ next_at i (next here ∙ ap (λ (s : Extent). id_of s (n + 1)) same)
 
   module _ (count : ℕ) (all : count ≡ count_of group.location.current_size) (less : n < count) where
     some : (0 < own.location.current_size.x) × (0 < own.location.current_size.y)

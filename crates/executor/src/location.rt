@@ -89,7 +89,7 @@ impl Place {
 
     /// The item's id.
     #[inline(always)]
-    pub fn item(&self) -> Extent
+    pub fn item_id(&self) -> Extent
         ensures { result ≡ self.now.item }
     {
         Extent {

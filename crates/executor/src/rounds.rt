@@ -92,7 +92,7 @@ fn run_to_first_barrier(
             return Err(broken);
         }
         keep_stopped(&mut stopped, &item)?;
-        let item_behind = id_behind(&own.location.current_size(), &own.location.item());
+        let item_behind = id_behind(&own.location.current_size(), &own.location.item_id());
         own.location.move_to(&item_behind);
     }
     Ok(stopped)
@@ -162,7 +162,7 @@ fn run_past_barrier(
         ) {
             return Err(broken);
         }
-        let item_behind = id_behind(&own.location.current_size(), &own.location.item());
+        let item_behind = id_behind(&own.location.current_size(), &own.location.item_id());
         own.location.move_to(&item_behind);
     }
     Ok(())

@@ -77,7 +77,7 @@ returns-in-Broke-clause-comes c =
     let is : turn (context_of_item a n) p.steps (record { registers = r; next = next }) (65536 - left) m ≡ broke c.in-Broke.rule (Some c.in-Broke.address) =
     flat_turn a (context_of_item a n) flats p.steps r next m c.in-Some.flat.now (broke c.in-Broke.rule (Some c.in-Broke.address))
     (in_place a n c.requires.item) c.flat_steps-flat_steps.ensures.value found c.in-Broke.ensures (65536 - left) spent_less in
-    subst (λ (f : RunFault). ItemFails a p n first before f) (sym c.fault.ensures)
+    subst (λ (f : RunFault). ItemFails a p n first before f) (sym c.tell.ensures)
     (reached_breaks a p n first before (record { registers = r; next = next }) left m c.turns.invariant.1.0 c.in-Broke.rule (Some c.in-Broke.address) is)
 
 pub turns-preserved-in-Onward : goal.turns-preserved-in-Onward
@@ -225,7 +225,7 @@ returns-in-Broke-turn-clause-comes c =
     turn_alike a (context_of_item a n) p.steps c.go.new.r r next (65536 - left) (contents c.go.new.memory) m (broke c.in-Broke-turn.rule (Some c.in-Broke-turn.address))
     (in_place a n c.requires.item) c.in-Other.ensures.0 c.in-Other.ensures.1
     (c.in-Broke-turn.ensures (65536 - left) spent_less) in
-    subst (λ (f : RunFault). ItemFails a p n first before f) (sym c.fault-in-Broke-turn.ensures)
+    subst (λ (f : RunFault). ItemFails a p n first before f) (sym c.tell-in-Broke-turn.ensures)
     (reached_breaks a p n first before (record { registers = r; next = next }) left m c.turns.invariant.1.0 c.in-Broke-turn.rule (Some c.in-Broke-turn.address) is)
 
 pub returns-then-next-steps-clause-comes : goal.returns-then-next-steps-clause-comes
@@ -241,7 +241,7 @@ returns-then-next-steps-clause-comes c =
     let before = contents c.args.memory.now in
     let all : 65536 - left ≡ 65536 = omega arith in
     let there : next < length p.steps = omega (arith, ap length c.steps.ensures.value, c.if-next-steps.true) in
-    subst (λ (f : RunFault). ItemFails a p n first before f) (sym c.fault-then-next-steps.ensures)
+    subst (λ (f : RunFault). ItemFails a p n first before f) (sym c.tell-then-next-steps.ensures)
     (reached_breaks a p n first before (record { registers = r; next = next }) left m c.turns.invariant.1.0 A5 None
     (spent (context_of_item a n) p.steps (record { registers = r; next = next }) (65536 - left) m there all))
 

@@ -1,6 +1,7 @@
 use Rattle.std.proofs.Common.{◌≡◌, ◌+◌, ◌∙◌, length, ap, arith, subst}
 use Rattle.executor.specs.inner.Held.{contents, surroundings}
-use Rattle.executor.proofs.PlaceLemmas.{arguments_are, comes_ill, comes_well, item_is, next_at, x_within, y_within, z_within}
+use Rattle.executor.specs.declared.location.Extent.{Extent}
+use Rattle.executor.proofs.PlaceLemmas.{arguments_are, comes_ill, comes_well, item_is, moved_at, x_within, y_within, z_within}
 use Rattle.executor.proofs.RoundLemmas.{no_item, none_went, may_go, next_fails, next_goes, all_went}
 use Rattle.executor.proofs.rounds.run_past_barrier.Goals as goal
 
@@ -27,22 +28,26 @@ returns-then-not-run_item-clause-err c =
     (comes_ill (surroundings c.items.own) (surroundings c.args.context.now) c.items.number c.items.invariant.1 c.args.program.now _ (contents c.items.memory)
     c.run_item.result _ _ c.run_item.new.broken c.run_item.ensures.comes c.if-not-run_item.true)
 
-pub id_behind-requires-clause-x : goal.id_behind-requires-clause-x
-id_behind-requires-clause-x c =
+pub id_behind-item_behind-requires-clause-x : goal.id_behind-item_behind-requires-clause-x
+id_behind-item_behind-requires-clause-x c =
+    let within =
     x_within (surroundings c.items.own) (surroundings c.args.context.now) c.items.number c.items.invariant.1 (length c.args.stopped.now) c.requires.count
-    (omega (arith, c.items.invariant.0.0))
+    (omega (arith, c.items.invariant.0.0)) in
+    omega (arith, within, ap (λ (e : Extent). e.x) c.item_id.ensures, ap (λ (e : Extent). e.x) c.current_size.ensures)
 
-pub id_behind-requires-clause-y : goal.id_behind-requires-clause-y
-id_behind-requires-clause-y c =
+pub id_behind-item_behind-requires-clause-y : goal.id_behind-item_behind-requires-clause-y
+id_behind-item_behind-requires-clause-y c =
+    let within =
     y_within (surroundings c.items.own) (surroundings c.args.context.now) c.items.number c.items.invariant.1 (length c.args.stopped.now) c.requires.count
-    (omega (arith, c.items.invariant.0.0))
+    (omega (arith, c.items.invariant.0.0)) in
+    omega (arith, within, ap (λ (e : Extent). e.y) c.item_id.ensures, ap (λ (e : Extent). e.y) c.current_size.ensures)
 
-pub id_behind-requires-clause-z : goal.id_behind-requires-clause-z
-id_behind-requires-clause-z c =
+pub id_behind-item_behind-requires-clause-z : goal.id_behind-item_behind-requires-clause-z
+id_behind-item_behind-requires-clause-z c =
     let few =
     z_within (surroundings c.items.own) (surroundings c.args.context.now) c.items.number c.items.invariant.1 (length c.args.stopped.now) c.requires.count
     (omega (arith, c.items.invariant.0.0)) in
-    omega (arith, few, c.items.invariant.0.0, c.requires.few)
+    omega (arith, few, c.items.invariant.0.0, c.requires.few, ap (λ (e : Extent). e.z) c.item_id.ensures)
 
 pub items-preserved : goal.items-preserved
 items-preserved c =
@@ -54,7 +59,8 @@ items-preserved c =
           (contents c.items.memory) no_item (omega arith) c.items.invariant.0 c.run_item.new.stopped (contents c.run_item.new.memory)
           (comes_well own a n is c.args.program.now _ (contents c.items.memory) c.run_item.result _ _ c.run_item.new.broken c.run_item.ensures.comes
           c.if-not-run_item.false),
-      next_at own a n is c.id_behind.result (c.id_behind.ensures n (item_is own a n is)),
+      moved_at own a n is c.move_to.new.self c.id_behind-item_behind.result c.current_size.result c.item_id.result c.move_to.ensures c.current_size.ensures c.item_id.ensures
+          (c.id_behind-item_behind.ensures n),
     )
 
 pub returns-clause-ok : goal.returns-clause-ok

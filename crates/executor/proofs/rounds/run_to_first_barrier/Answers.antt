@@ -8,7 +8,8 @@ use Rattle.executor.specs.inner.Stops.{standing}
 use Rattle.executor.specs.declared.item.Item.{Item}
 use Rattle.executor.specs.declared.item.StoppedItem.{StoppedItem}
 use Rattle.executor.proofs.FewLemmas.{begun_anew, cleared_rest, left_rest}
-use Rattle.executor.proofs.PlaceLemmas.{arguments_are, comes_ill, comes_well, item_is, next_at, x_within, y_within, z_within}
+use Rattle.executor.specs.declared.location.Extent.{Extent}
+use Rattle.executor.proofs.PlaceLemmas.{arguments_are, comes_ill, comes_well, item_is, moved_at, x_within, y_within, z_within}
 use Rattle.executor.proofs.RoundLemmas.{none_ran, first_fails, one_ran, all_ran}
 use Rattle.executor.proofs.rounds.run_to_first_barrier.Goals as goal
 
@@ -32,18 +33,22 @@ returns-then-not-run_item-clause-err c =
     (begun_anew (λ i k. ItemComes (surroundings c.items.own) p c.items.number (ready i k) m c.run_item.result (standing c.run_item.new.stopped) (contents c.run_item.new.memory) c.run_item.new.broken) c.begin_anew.ensures.item c.begin_anew.ensures.executed c.run_item.ensures.comes)
     c.if-not-run_item.true)
 
-pub id_behind-requires-clause-x : goal.id_behind-requires-clause-x
-id_behind-requires-clause-x c =
-    x_within (surroundings c.items.own) (surroundings c.args.context.now) c.items.number c.items.invariant.1.0 c.args.count c.requires.count (omega arith)
+pub id_behind-item_behind-requires-clause-x : goal.id_behind-item_behind-requires-clause-x
+id_behind-item_behind-requires-clause-x c =
+    let within =
+    x_within (surroundings c.items.own) (surroundings c.args.context.now) c.items.number c.items.invariant.1.0 c.args.count c.requires.count (omega arith) in
+    omega (arith, within, ap (λ (e : Extent). e.x) c.item_id.ensures, ap (λ (e : Extent). e.x) c.current_size.ensures)
 
-pub id_behind-requires-clause-y : goal.id_behind-requires-clause-y
-id_behind-requires-clause-y c =
-    y_within (surroundings c.items.own) (surroundings c.args.context.now) c.items.number c.items.invariant.1.0 c.args.count c.requires.count (omega arith)
+pub id_behind-item_behind-requires-clause-y : goal.id_behind-item_behind-requires-clause-y
+id_behind-item_behind-requires-clause-y c =
+    let within =
+    y_within (surroundings c.items.own) (surroundings c.args.context.now) c.items.number c.items.invariant.1.0 c.args.count c.requires.count (omega arith) in
+    omega (arith, within, ap (λ (e : Extent). e.y) c.item_id.ensures, ap (λ (e : Extent). e.y) c.current_size.ensures)
 
-pub id_behind-requires-clause-z : goal.id_behind-requires-clause-z
-id_behind-requires-clause-z c =
+pub id_behind-item_behind-requires-clause-z : goal.id_behind-item_behind-requires-clause-z
+id_behind-item_behind-requires-clause-z c =
     let few = z_within (surroundings c.items.own) (surroundings c.args.context.now) c.items.number c.items.invariant.1.0 c.args.count c.requires.count (omega arith) in
-    omega (arith, few, c.requires.few)
+    omega (arith, few, c.requires.few, ap (λ (e : Extent). e.z) c.item_id.ensures)
 
 pub items-preserved : goal.items-preserved
 items-preserved c =
@@ -61,7 +66,8 @@ items-preserved c =
           c.if-not-run_item.false)
           c.keep_stopped.new.stopped.items c.in_ok-keep_stopped.ensures,
       (
-        next_at own a n is c.id_behind.result (c.id_behind.ensures n (item_is own a n is)),
+        moved_at own a n is c.move_to.new.self c.id_behind-item_behind.result c.current_size.result c.item_id.result c.move_to.ensures c.current_size.ensures c.item_id.ensures
+            (c.id_behind-item_behind.ensures n),
         λ few. left_rest c.run_item.result c.if-not-run_item.false c.run_item.ensures.rest (c.sets_few-few.ensures few)
             (subst (λ (i : Item). RestIsZero i.registers) (sym c.begin_anew.ensures.item) cleared_rest),
       ),
