@@ -84,6 +84,7 @@ impl StoppedItem {
 }
 
 /// What a work-item can see and not change.
+#[derive(Drop)]
 pub struct ItemContext<'a> {
     /// The bytes of the argument block.
     pub arguments: &'a [u8],

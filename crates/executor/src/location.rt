@@ -30,6 +30,7 @@ pub struct Location {
 
 /// Where a work-item stands, in a row of numbers, so that one look finds each: the three of its own id, and so on in
 /// the order of `Location`. A contract sees the location.
+#[derive(Drop)]
 pub struct Place {
     numbers: [u32; 15],
 }
