@@ -1,5 +1,3 @@
-use Rattle.std.proofs.Common.{◌≡◌, ◌≢◌, ◌/◌, ◌^◌, ◌==◌, false, sym, ◌∙◌, arith}
-use Rattle.std.proofs.lemmas.Bool.Decides.{nat_tests}
 use Rattle.executor.proofs.MaskLemmas.{none_left, begin_below, run_found}
 use Rattle.executor.proofs.page.next_run.Goals as goal
 

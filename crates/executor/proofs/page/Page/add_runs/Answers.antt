@@ -1,7 +1,5 @@
-use Rattle.std.proofs.Common.{◌≡◌, ◌≢◌, ◌+◌, ◌-◌, ◌<◌, ◌≤◌, ◌⊎◌, inl, inr, ℕ, length, drop, rules, subst, sym, ◌∙◌, ap, arith}
-use Rattle.std.proofs.lemmas.List.{length-drop, length-take-le}
+use Rattle.std.proofs.Common.{◌≡◌, length, rules, arith}
 use Rattle.executor.specs.inner.Pages.{page_byte}
-use Rattle.executor.specs.inner.Told.{Gathers}
 use Rattle.executor.proofs.RunLemmas.{gathers_gap}
 use Rattle.executor.proofs.MaskLemmas.{clear_byte, page_run}
 use Rattle.executor.proofs.page.Page.add_runs.Goals as goal
