@@ -5,7 +5,7 @@ What is counted doesn't depend on the machine's load. Each row runs a command tw
 difference by the further work, so that starting and ending don't count. The ceilings stand in tests/instructions.toml;
 `docs/performance.md` tells the figures. Without valgrind nothing is counted, and the script says so. Of a program that says
 that it is unproved the counts are told, and a ceiling fails nothing; the rows of lanes want the proved bench, those of the library
-for C its proved archive, and both are left out.
+for C its proved archive, and both are left out, as are rows that take long and say nothing of an unproved program.
 """
 import os
 import re
@@ -20,6 +20,13 @@ from counted_kernels import ARGUMENTS, COUNTING, FAMILIES, IN_TURN, INC, MEETING
 from trial import FILL, HERE, PRELUDE, SAMPLE, TOP, is_unproved, program_given, text
 
 BENCH = f"{TOP}/crates/bench/out/bench"
+# rows that say nothing of an unproved program, which takes long for them: each kind of step, and memory far apart
+FOR_PROVED = {
+    *FAMILIES, *IN_TURN, "4 bytes written at the start of 16 MB", "4 bytes written 64 KB before the end of 16 MB",
+    "those before the end, in hundredths of those at the start", "item that stores 1 KB behind the last", "opening of 64 MiB of regions",
+    "scripted packet, 441 others in flight, in hundredths of one alone",
+    "grant and revocation, 504 in flight of another client, in hundredths of those alone", "grant and revocation, 504 in flight of the client itself",
+}
 ARCHIVE = f"{TOP}/crates/hobbydresser_c/out/libhobbydresser_c.a"
 # counts only what lies in the settling of a broker that has run, and in letting it go
 SETTLING = "--toggle-collect=bench::lane_speed::is_settled*"
@@ -304,6 +311,8 @@ def main():
     with tempfile.TemporaryDirectory() as room:
         counter = Counter(brokerd, room)
         for name, count in counter.rows():
+            if counter.is_unproved and name in FOR_PROVED:
+                continue
             found, most = count(), ceilings.pop(name, 0)
             if found > most and name.startswith("packet of a lane"):
                 found = min(found, count())
@@ -315,7 +324,7 @@ def main():
         for why in counter.wrong:
             print(f"    {why}")
     for name in ceilings:
-        is_left_out = counter.is_unproved and "of a lane" in name or not counter.has_library and "library for C" in name
+        is_left_out = counter.is_unproved and ("of a lane" in name or name in FOR_PROVED) or not counter.has_library and "library for C" in name
         print(f"{'left out' if is_left_out else 'FAILED'} {name}: no such row was counted")
         failed += not is_left_out
     print(f"{passed} passed, {failed} failed")
