@@ -20,10 +20,11 @@ from counted_kernels import ARGUMENTS, COUNTING, FAMILIES, IN_TURN, INC, MEETING
 from trial import FILL, HERE, PRELUDE, SAMPLE, TOP, is_unproved, program_given, text
 
 BENCH = f"{TOP}/crates/bench/out/bench"
-# rows that say nothing of an unproved program, which takes long for them: each kind of step, and memory far apart
+# rows that say little of an unproved program, which takes long for them: each kind of step, memory far apart, and long histories
 FOR_PROVED = {
     *FAMILIES, *IN_TURN, "4 bytes written at the start of 16 MB", "4 bytes written 64 KB before the end of 16 MB",
     "those before the end, in hundredths of those at the start", "item that stores 1 KB behind the last", "opening of 64 MiB of regions",
+    "refused line with --explain, 15,000 entries before it", "run of refused lines with --explain, in hundredths of it without",
     "scripted packet, 441 others in flight, in hundredths of one alone",
     "grant and revocation, 504 in flight of another client, in hundredths of those alone", "grant and revocation, 504 in flight of the client itself",
 }
