@@ -14,6 +14,10 @@ PROVED = crates/brokerd/out/brokerd
 PROVED_ARCHIVE = crates/hobbydresser_c/out/libhobbydresser_c.a
 # The archive that programs link: the library, and the toolchain's archive of its C library.
 PROVED_WHOLE = crates/hobbydresser_c/out/libhobbydresser.a
+# Where a shell looks for completions: its file, below PREFIX.
+BASH = share/bash-completion/completions/brokerd
+ZSH = share/zsh/site-functions/_brokerd
+FISH = share/fish/vendor_completions.d/brokerd.fish
 INSTALLED = $(if $(UNPROVED),build/brokerd,$(PROVED))
 INSTALLED_ARCHIVE = $(if $(UNPROVED),build/libhobbydresser.a,$(PROVED_WHOLE))
 
@@ -27,6 +31,10 @@ library: needs
 # an answer without a proof
 quick: program
 	@python3 -B tests/quick.py build/brokerd $(wildcard build/libhobbydresser.a)
+
+# man pages of the program that make built, and of the library for C
+man: program
+	@python3 -B tools/man.py build/brokerd build/man
 
 # all proofs and all tests
 check:
@@ -44,6 +52,7 @@ help:
 	@echo 'make library             builds build/libhobbydresser.a, unproved'
 	@echo 'make quick               tries build/brokerd, without a proof'
 	@echo 'make check               proves and tries everything: .ci/run'
+	@echo 'make man                 writes man pages into build/man'
 	@echo 'make prove CRATE=NAME    proves a crate and what it stands on'
 	@echo 'make install PREFIX=DIR  installs what is proved (UNPROVED=1: what make and make library have built)'
 	@echo 'make uninstall, clean    take away what was installed, and build/'
@@ -64,17 +73,24 @@ install: installable
 	$(if $(UNPROVED),sed -i 's/A proved broker/An unproved build of a broker/' $(TO)/lib/pkgconfig/hobbydresser.pc)
 	install -m 644 packaging/hobbydresser-config.cmake packaging/hobbydresser-config-version.cmake $(TO)/lib/cmake/hobbydresser
 	install -m 755 $(INSTALLED) $(TO)/bin/brokerd
+	python3 -B tools/man.py $(INSTALLED) $(TO)/share/man
+	install -d $(dir $(TO)/$(BASH) $(TO)/$(ZSH) $(TO)/$(FISH))
+	$(INSTALLED) completions bash > $(TO)/$(BASH)
+	$(INSTALLED) completions zsh > $(TO)/$(ZSH)
+	$(INSTALLED) completions fish > $(TO)/$(FISH)
 	@[ -z "$(UNPROVED)" ] || echo 'what is installed is unproved'
 
 uninstall:
 	rm -f $(TO)/include/hobbydresser.h $(TO)/lib/libhobbydresser.a $(TO)/lib/pkgconfig/hobbydresser.pc $(TO)/bin/brokerd
 	rm -rf $(TO)/lib/cmake/hobbydresser
+	rm -f $(TO)/$(BASH) $(TO)/$(ZSH) $(TO)/$(FISH) $(TO)/share/man/man1/brokerd.1 $(TO)/share/man/man1/brokerd-*.1
+	rm -f $(TO)/share/man/man3/hobbydresser.3 $(TO)/share/man/man3/hd_*.3
 
 clean:
 	rm -rf build
 
 , := ,
-.PHONY: program library quick check prove needs help installable install uninstall clean
+.PHONY: program library quick man check prove needs help installable install uninstall clean
 
 # the library of hsa.h's name: make runtime, make install-runtime
 include runtime/runtime.mk

@@ -442,6 +442,7 @@ def rows(room):
         Row("check that lists as JSON", ["check", SAMPLE, "--json"], is_new=True),
         Row("decode", ["decode", FILL], is_new=True),
         Row("decode of slots", ["decode", "--slots", file("ring.slots")], is_new=True),
+        Row("completions", ["completions", "fish"], is_new=True),
         Row("kernel", ["kernel", file("inc.hsail")]),
         Row("kernel of a fault", ["kernel", file("bad.hsail")]),
         Row("explain", ["explain", "L8"]),

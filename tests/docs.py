@@ -1,7 +1,9 @@
 #!/usr/bin/env python3
-"""Runs what the pages show, README.md and docs/*.md, with a built brokerd, and looks for the files that they name:
+"""Runs what the pages show, README.md and docs/*.md, with a built brokerd, and looks for the files that they name and link:
 
     tests/docs.py BROKERD
+
+Each crate has a README of its own: what it is, what it stands on, where its definitions begin. They are looked through too.
 
 docs/CONTRIBUTING.md says how a block is marked. The last line is `N passed, M failed`, as those of the other trials here,
 and the exit status is 0 where none failed."""
@@ -18,6 +20,7 @@ from trial import DEADLINE
 TOP = pathlib.Path(__file__).resolve().parent.parent
 FENCE = re.compile(r"^(`{3,})(.*)$")
 NAMED = re.compile(r"`([\w./-]+\.(?:antt|c|case|edit|hsail|md|names|py|rt|script|sh|svg|toml))`")
+LINK = re.compile(r"\]\(([^)\s]+)\)")
 
 # What `make` is for a page's commands: the program is built already.
 MAKE = '#!/bin/sh\n[ $# = 0 ] || { echo "make $1: not here" >&2; exit 2; }\necho build/brokerd is there\n'
@@ -222,12 +225,61 @@ def missing_files(text, held):
     return sorted(name for name in named - made if f"/{name}\n" not in held)
 
 
+def anchors_of(path):
+    """The anchors of a page: its headings, as sites of repositories spell them."""
+    heads = [line.lstrip("#").strip() for line in outside_blocks(path.read_text()) if re.match(r"#+ ", line)]
+    return {re.sub(r"[^\w\- ]", "", head.lower()).replace(" ", "-") for head in heads}
+
+
+def dead_links(path):
+    """The links of a page that lead to no file of the repository, or to no heading of it."""
+    dead = []
+    for link in (it for line in outside_blocks(path.read_text()) for it in LINK.findall(line)):
+        target, _, anchor = link.partition("#")
+        file = (path.parent / target) if target else path
+        if "://" not in link and (not file.exists() or anchor and anchor not in anchors_of(file)):
+            dead.append(link)
+    return dead
+
+
 def try_names(path, held):
-    """Looks for the files that a page names: one trial a page."""
-    missing = missing_files(path.read_text(), held)
-    if missing:
-        print(f"{path.relative_to(TOP)} names files that aren't there: {', '.join(missing)}")
-    return (0, 1) if missing else (1, 0)
+    """Looks for the files that a page names, and for what it links: one trial each a page."""
+    counts = [0, 0]
+    for what, missing in (("names files that aren't there", missing_files(path.read_text(), held)), ("has dead links", dead_links(path))):
+        counts[1 if missing else 0] += 1
+        if missing:
+            print(f"{path.relative_to(TOP)} {what}: {', '.join(missing)}")
+    return counts
+
+
+def crates_listed():
+    """The crates of crates.txt, each with those that it stands on."""
+    rows = [line.partition(":") for line in (TOP / "crates.txt").read_text().splitlines() if not line.startswith("#")]
+    return {name.split()[0]: below.split() for name, colon, below in rows if colon}
+
+
+def try_crate(name, below, picture):
+    """Whether a crate's README says three things, of which two are looked at, and the page on architecture has it in its picture."""
+    path = TOP / "crates" / name / "README.md"
+    parts = path.read_text().split("\n\n") if path.exists() else []
+    if len(parts) != 3 or not parts[1].startswith("It stands on ") or not parts[2].startswith("Definitions"):
+        return "it has no README of three parts: what it is, `It stands on`, `Definitions`"
+    if strange := set(re.findall(r"`(\w+)`", parts[1])) - set(below):
+        return f"crates.txt has it stand on no {', '.join(sorted(strange))}"
+    if missing := [it for it in re.findall(r"`((?:specs|src)/[\w./]+)`", parts[2]) if not (path.parent / it).exists()]:
+        return f"it has no {', '.join(missing)}"
+    return None if re.search(rf"\b{name}\b", picture) else "docs/architecture.md has it not in its picture"
+
+
+def try_crates():
+    """One trial a crate."""
+    counts, picture = [0, 0], (TOP / "docs" / "architecture.md").read_text().split("```")[1]
+    for name, below in crates_listed().items():
+        wrong = try_crate(name, below, picture)
+        counts[1 if wrong else 0] += 1
+        if wrong:
+            print(f"crates/{name}: {wrong}")
+    return counts
 
 
 def try_page(path, brokerd):
@@ -272,6 +324,8 @@ def main(words):
             print(f"{path.relative_to(TOP)}: {error}")
             counts = [(0, 1)]
         passed, failed = passed + sum(it[0] for it in counts), failed + sum(it[1] for it in counts)
+    crates = try_crates()
+    passed, failed = passed + crates[0], failed + crates[1]
     print(f"docs: {passed} passed, {failed} failed")
     print(f"{passed} passed, {failed} failed")
     return 1 if failed or not passed else 0

@@ -11,7 +11,7 @@ import sys
 from collections import Counter, namedtuple
 from concurrent.futures import ThreadPoolExecutor
 
-from trial import TOP
+from trial import TOP, parts_between, write_between
 
 TABLE = f"{TOP}/runtime/functions.tsv"
 PAGE = f"{TOP}/docs/hsa.md"
@@ -38,17 +38,11 @@ def table_of_page():
 
 
 def parts_of_page():
-    with open(PAGE, encoding="utf-8") as it:
-        text = it.read()
-    before, rest = text.split(BEGIN)
-    inside, after = rest.split(END)
-    return before, inside.strip("\n"), after
+    return parts_between(PAGE, BEGIN, END)
 
 
 def write_page():
-    before, _, after = parts_of_page()
-    with open(PAGE, "w", encoding="utf-8") as it:
-        it.write(f"{before}{BEGIN}\n{table_of_page()}\n{END}{after}")
+    write_between(PAGE, BEGIN, END, table_of_page())
 
 
 def symbols_of(library):

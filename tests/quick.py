@@ -17,10 +17,10 @@ from trial import HERE, is_unproved
 # the scripts that are tried, those that take longest first
 TRIED = (
     "memory.py", "journals.py", "instructions.py", "kernels.py", "cases.py", "texts.py", "picture.py", "streams.py", "docs.py", "words.py", "explain.py",
-    "decode.py", "terminal.py", "pages.py", "forms.py", "readable.py", "listing.py", "rotation.py", "long.py", "wrong_bodies.py", "needs.py",
+    "decode.py", "terminal.py", "pages.py", "forms.py", "readable.py", "listing.py", "installed.py", "rotation.py", "long.py", "wrong_bodies.py", "needs.py", "proved.py",
 )
 # those that want no program
-ALONE = {"wrong_bodies.py", "needs.py"}
+ALONE = {"wrong_bodies.py", "needs.py", "proved.py"}
 # what wants another program than brokerd, and which
 OTHERS = {
     "joins.py": "it wants the program bench", "wants.py": "it wants the program bench", "c.py": "it wants the library for C, as `make library` builds it",

@@ -77,6 +77,21 @@ def library_of(source, room):
     return library
 
 
+def parts_between(path, begin, end):
+    """A page's text before a mark, between it and another, and behind that."""
+    with open(path, encoding="utf-8") as page:
+        before, rest = page.read().split(begin)
+    inside, after = rest.split(end)
+    return before, inside.strip("\n"), after
+
+
+def write_between(path, begin, end, text):
+    """Writes a text between two marks of a page."""
+    before, _, after = parts_between(path, begin, end)
+    with open(path, "w", encoding="utf-8") as page:
+        page.write(f"{before}{begin}\n{text}\n{end}{after}")
+
+
 class Trials:
     """Tests by their names, each of many trials."""
 

@@ -10,7 +10,7 @@ from trial import FILL, PRELUDE, SAMPLE, TOP, Ended, Trials, run, text
 KERNEL_TEXT = f"{TOP}/cases/inc.hsail"
 # how many entries an audit has place for at the most, and where none is named
 MOST, DEFAULT = 1_048_576, 65_536
-COMMANDS = ("check", "run", "picture", "kernel", "assemble", "replay", "explain", "decode", "threads")
+COMMANDS = ("check", "run", "picture", "kernel", "assemble", "replay", "explain", "decode", "threads", "completions")
 
 
 def is_told(words):
@@ -54,6 +54,8 @@ WRONG = [
     (["explain"], ["WORD"]),
     (["decode"], ["128"]),
     (["decode", "--slots"], ["--slots"]),
+    (["completions"], ["SHELL"]),
+    (["completions", "tcsh"], ["tcsh", "bash", "zsh", "fish"]),
     (["check", SAMPLE, "--explain=maybe"], ["maybe", "always", "never"]),
     (["run", *[SAMPLE] * 18], ["[NEXT]"]),
     (["run", *[SAMPLE] * 10, "--strict", *[SAMPLE] * 8], ["16"]),

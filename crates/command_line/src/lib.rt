@@ -2,12 +2,14 @@
 //! standard input over it, of which `brokerd picture POLICY` draws a picture; `brokerd kernel FILE` lists the kernels of a
 //! text, `brokerd assemble POLICY` turns readable packets into digits, `brokerd explain WORD` tells what a rule means,
 //! `brokerd threads POLICY` runs a load of threads over a policy, and
-//! `brokerd decode DIGITS` tells the fields of a packet.
+//! `brokerd decode DIGITS` tells the fields of a packet; `brokerd completions SHELL` prints what completes all of these in a
+//! shell.
 
 // The check tries its tactics on what is left of each proof.
 #![tactic(auto)]
 
 mod author;
+mod completions;
 mod decoding;
 mod drawing;
 mod explained_run;

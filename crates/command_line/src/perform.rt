@@ -1,6 +1,7 @@
 //! Does what a command line asks.
 
 use crate::author::{assemble_input, explain, kernel, told};
+use crate::completions::{Shell, completions};
 use crate::decoding::{MOST_DUMP, decode_digits, decode_slots};
 use crate::explaining::{PolicyFile, check_explaining};
 use crate::further::{Manner, run};
@@ -267,6 +268,14 @@ fn print_line(rt: &HostRuntime, verb: &str) -> Status {
     }
 }
 
+// Prints what completes command lines in a shell.
+fn print_completions(rt: &HostRuntime, shell: Shell) -> Status {
+    match completions(rt.alloc(), shell) {
+        Ok(text) => print_text(rt, text.as_str()),
+        Err(_) => failed(rt, "no memory"),
+    }
+}
+
 // Runs a script as is asked, or draws its run.
 fn perform_run(rt: &HostRuntime, asked: &Asked<'_>) -> Option<Status> {
     let (policy, manner) = match asked.request {
@@ -370,6 +379,7 @@ fn perform_alone(rt: &HostRuntime, asked: &Asked<'_>) -> u8 {
         Invocation::Decode { slots, explains } => {
             decode(rt, slots, asked.further.as_slice(), explains)
         }
+        Invocation::Completions { shell } => print_completions(rt, shell).number(),
         Invocation::Page { page } => print_text(rt, page.text()).number(),
         Invocation::Line { verb } => print_line(rt, verb).number(),
         _ => NOT_UNDERSTOOD,

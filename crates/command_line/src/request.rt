@@ -1,11 +1,12 @@
 //! What the words of a command line ask for.
 
+use crate::completions::Shell;
 use crate::help::further_help;
 use crate::listing::ListForm;
 use crate::syntax::{
-    ALWAYS, ASSEMBLE, AUDIT, CHECK, COMMANDS, DECODE, DIGITS, EXPLAIN, FILE, FROM, HELP, JOURNAL,
-    JSON, KERNEL, LIST, MOST_NEXT, NEXT, PACKETS, PICTURE, POLICY, PRODUCERS, READABLE, REPLAY,
-    RUN, SLOTS, STATE, STEPS, STRICT, THREADS, TO, WORD, program,
+    ALWAYS, ASSEMBLE, AUDIT, CHECK, COMMANDS, COMPLETIONS, DECODE, DIGITS, EXPLAIN, FILE, FROM,
+    HELP, JOURNAL, JSON, KERNEL, LIST, MOST_NEXT, NEXT, PACKETS, PICTURE, POLICY, PRODUCERS,
+    READABLE, REPLAY, RUN, SHELL, SLOTS, STATE, STEPS, STRICT, THREADS, TO, WORD, program,
 };
 use clap::error::ErrorKind;
 use clap::{ArgMatches, Error};
@@ -127,6 +128,10 @@ pub enum Invocation<'a> {
     Decode {
         slots: Option<&'a str>,
         explains: bool,
+    },
+    /// `completions SHELL`: to print what completes command lines in this shell.
+    Completions {
+        shell: Shell,
     },
     /// `help PAGE`: to print a page of the documentation.
     Page {
@@ -352,6 +357,9 @@ fn request_of<'a>(command: &str, asked: &ArgMatches<'a>, unasked: bool) -> Optio
         DECODE => Some(Invocation::Decode {
             slots: asked.get_str(SLOTS),
             explains: explains_in(asked, unasked),
+        }),
+        COMPLETIONS => Some(Invocation::Completions {
+            shell: Shell::named(asked.get_str(SHELL)?)?,
         }),
         KERNEL => Some(Invocation::Kernel {
             file: asked.get_str(FILE)?,

@@ -90,6 +90,12 @@ pub const THREADS: &str = "threads";
 /// The name of the command that tells a packet's bytes field by field.
 pub const DECODE: &str = "decode";
 
+/// The name of the command that prints what completes command lines in a shell.
+pub const COMPLETIONS: &str = "completions";
+
+/// The argument that names a shell.
+pub const SHELL: &str = "SHELL";
+
 /// The argument that has a packet's digits.
 pub const DIGITS: &str = "DIGITS";
 
@@ -103,8 +109,18 @@ pub const PRODUCERS: &str = "producers";
 pub const PACKETS: &str = "packets";
 
 /// The names of all commands.
-pub const COMMANDS: [&str; 10] = [
-    CHECK, RUN, PICTURE, KERNEL, ASSEMBLE, REPLAY, EXPLAIN, DECODE, THREADS, HELP,
+pub const COMMANDS: [&str; 11] = [
+    CHECK,
+    RUN,
+    PICTURE,
+    KERNEL,
+    ASSEMBLE,
+    REPLAY,
+    EXPLAIN,
+    DECODE,
+    THREADS,
+    COMPLETIONS,
+    HELP,
 ];
 
 /// How many entries an audit has place for at the most.
@@ -112,6 +128,9 @@ const MOST_PLACES: u64 = 1_048_576;
 
 /// How many words the digits of a packet have at the most: one for each byte.
 const MOST_PARTS: usize = 64;
+
+/// The names of the shells whose command lines can be completed.
+pub const SHELLS: [&str; 3] = ["bash", "zsh", "fish"];
 
 /// How many producers a queue has at the most.
 const MOST_PRODUCERS: u64 = 16;
@@ -121,7 +140,7 @@ const MOST_PACKETS: u64 = 1_000_000;
 
 /// What an argument takes.
 #[derive(Clone, Copy)]
-enum Takes {
+pub enum Takes {
     /// A word, which must be given.
     Word,
     /// So many words at the most.
@@ -136,14 +155,16 @@ enum Takes {
     Count(u64),
     /// When it is told why, after an option; always, where it doesn't say.
     When,
+    /// The name of a shell, which must be given.
+    Shell,
 }
 
 /// An argument: its name, that of an option too; what it takes; and what the help says of it.
 #[derive(Clone, Copy)]
-struct Argument {
-    name: &'static str,
-    takes: Takes,
-    help: &'static str,
+pub struct Argument {
+    pub name: &'static str,
+    pub takes: Takes,
+    pub help: &'static str,
 }
 
 macro_rules! argument {
@@ -375,6 +396,7 @@ fn made<'a>(alloc: Global, argument: &Argument) -> Arg<'a> {
         Takes::Number(most) => number(alloc, name, most, help),
         Takes::Count(most) => count(alloc, name, most, help),
         Takes::When => when(alloc, name, help),
+        Takes::Shell => word(alloc, name, help).value_parser(ValueParser::Names(&SHELLS)),
     }
 }
 
@@ -406,151 +428,96 @@ fn with_command<'a>(program: Command<'a>, command: Command<'a>) -> Result<Comman
     Ok(program.subcommand(command)?)
 }
 
-/// A command of the program.
+const COMPLETIONS_ARGUMENTS: [Argument; 1] = [argument!(
+    SHELL,
+    Takes::Shell,
+    "The shell: bash, zsh or fish"
+)];
+
+/// A command: its name, what the help says of it, and its arguments.
 #[derive(Clone, Copy)]
-enum Which {
-    Check,
-    Run,
-    Picture,
-    Kernel,
-    Assemble,
-    Replay,
-    Explain,
-    Decode,
-    Threads,
+pub struct Described {
+    pub name: &'static str,
+    pub about: &'static str,
+    pub arguments: &'static [Argument],
 }
 
-// The commands, in the order in which the help has them.
-const DESCRIBED: [Which; 9] = [
-    Which::Check,
-    Which::Run,
-    Which::Picture,
-    Which::Kernel,
-    Which::Assemble,
-    Which::Replay,
-    Which::Explain,
-    Which::Decode,
-    Which::Threads,
-];
-
-// A command of which the help says this, with these arguments.
-fn described<'a>(
-    alloc: Global,
-    name: &'a str,
-    about: &'a str,
-    arguments: &[Argument],
-) -> Result<Command<'a>, Error> {
-    with_arguments(alloc, named(alloc, name, about), arguments)
+macro_rules! described {
+    ($name:expr, $about:literal, $arguments:expr) => {
+        Described { name: $name, about: $about, arguments: &$arguments }
+    };
 }
 
-// The command that checks a policy.
-fn check_command<'a>(alloc: Global) -> Result<Command<'a>, Error> {
-    described(
-        alloc,
+/// The commands, in the order in which the help has them.
+pub const DESCRIBED: [Described; 10] = [
+    described!(
         CHECK,
         "Checks a policy: counts its rows, or names its first fault",
-        &CHECK_ARGUMENTS,
-    )
-}
-
-// The command that runs a script.
-fn run_command<'a>(alloc: Global) -> Result<Command<'a>, Error> {
-    described(
-        alloc,
+        CHECK_ARGUMENTS
+    ),
+    described!(
         RUN,
         "Runs the script on standard input over a policy, and writes the replies",
-        &RUN_ARGUMENTS,
-    )
-}
-
-// The command that draws a run.
-fn picture_command<'a>(alloc: Global) -> Result<Command<'a>, Error> {
-    described(
-        alloc,
+        RUN_ARGUMENTS
+    ),
+    described!(
         PICTURE,
         "Runs the script on standard input over a policy, and writes a picture of the run, an SVG page",
-        &PICTURE_ARGUMENTS,
-    )
-}
-
-// The command that reads a kernel's text.
-fn kernel_command<'a>(alloc: Global) -> Result<Command<'a>, Error> {
-    described(
-        alloc,
+        PICTURE_ARGUMENTS
+    ),
+    described!(
         KERNEL,
         "Reads and checks a kernel's text, and lists its kernels with their layout and steps",
-        &KERNEL_ARGUMENTS,
-    )
-}
-
-// The command that assembles a script.
-fn assemble_command<'a>(alloc: Global) -> Result<Command<'a>, Error> {
-    described(
-        alloc,
+        KERNEL_ARGUMENTS
+    ),
+    described!(
         ASSEMBLE,
         "Turns a script with readable packets, on standard input, into one that run takes",
-        &ASSEMBLE_ARGUMENTS,
-    )
-}
-
-// The command that replays a journal.
-fn replay_command<'a>(alloc: Global) -> Result<Command<'a>, Error> {
-    described(
-        alloc,
+        ASSEMBLE_ARGUMENTS
+    ),
+    described!(
         REPLAY,
         "Replays the journal on standard input, and tells whether it is a legal history",
-        &REPLAY_ARGUMENTS,
-    )
-}
-
-// The command that tells what a word means.
-fn explain_command<'a>(alloc: Global) -> Result<Command<'a>, Error> {
-    described(
-        alloc,
+        REPLAY_ARGUMENTS
+    ),
+    described!(
         EXPLAIN,
         "Tells what a rule, a refusal or a cause of a fault means, or what happened in a journal",
-        &EXPLAIN_ARGUMENTS,
-    )
-}
-
-// The command that tells the fields of a packet.
-fn decode_command<'a>(alloc: Global) -> Result<Command<'a>, Error> {
-    described(
-        alloc,
+        EXPLAIN_ARGUMENTS
+    ),
+    described!(
         DECODE,
         "Tells a packet's 64 bytes field by field, and the first of L1 to L3 that they break",
-        &DECODE_ARGUMENTS,
-    )
-}
-
-// The command that runs a load of threads.
-fn threads_command<'a>(alloc: Global) -> Result<Command<'a>, Error> {
-    described(
-        alloc,
+        DECODE_ARGUMENTS
+    ),
+    described!(
         THREADS,
         "Runs producers and lanes on threads over a policy, and reports what came of it",
-        &THREADS_ARGUMENTS,
-    )
-}
+        THREADS_ARGUMENTS
+    ),
+    described!(
+        COMPLETIONS,
+        "Prints a text by which a shell completes commands and options of this program",
+        COMPLETIONS_ARGUMENTS
+    ),
+];
 
 // A command as clap has it.
-fn command<'a>(alloc: Global, which: Which) -> Result<Command<'a>, Error> {
-    match which {
-        Which::Check => check_command(alloc),
-        Which::Run => run_command(alloc),
-        Which::Picture => picture_command(alloc),
-        Which::Kernel => kernel_command(alloc),
-        Which::Assemble => assemble_command(alloc),
-        Which::Replay => replay_command(alloc),
-        Which::Explain => explain_command(alloc),
-        Which::Decode => decode_command(alloc),
-        Which::Threads => threads_command(alloc),
-    }
+fn command<'a>(alloc: Global, described: &Described) -> Result<Command<'a>, Error> {
+    with_arguments(
+        alloc,
+        named(alloc, described.name, described.about),
+        described.arguments,
+    )
 }
 
 // A program with one command more.
-fn with<'a>(alloc: Global, program: Command<'a>, which: Which) -> Result<Command<'a>, Error> {
-    match command(alloc, which) {
+fn with<'a>(
+    alloc: Global,
+    program: Command<'a>,
+    described: &Described,
+) -> Result<Command<'a>, Error> {
+    match command(alloc, described) {
         Ok(command) => with_command(program, command),
         Err(error) => Err(error),
     }
@@ -560,11 +527,11 @@ fn with<'a>(alloc: Global, program: Command<'a>, which: Which) -> Result<Command
 fn with_commands<'a>(
     alloc: Global,
     program: Command<'a>,
-    commands: &[Which],
+    commands: &[Described],
 ) -> Result<Command<'a>, Error> {
     let mut program = program;
-    for which in commands {
-        program = with(alloc, program, *which)?;
+    for described in commands {
+        program = with(alloc, program, described)?;
     }
     Ok(program)
 }

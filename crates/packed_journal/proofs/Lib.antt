@@ -1,0 +1,5 @@
+mod Steps
+mod Tells
+mod NumberLaws
+mod PartLaws
+mod Written
