@@ -22,6 +22,8 @@ from trial import HERE, TOP, is_unproved, version
 BUILD = f"{TOP}/build"
 BENCH = f"{TOP}/crates/bench/out/bench"
 ARCHIVE = f"{TOP}/crates/hobbydresser_c/out/libhobbydresser_c.a"
+# the memory that a check takes at the most, in GB: the largest of a whole gate took 5.9
+MOST = 6
 PROVED = re.compile(r"brokerd [\d.]+ \(rattle-kit-\w+ logic [0-9a-f]{16}\)\n")
 
 
@@ -35,6 +37,15 @@ def told(words):
     found = re.match(r"(\d+) passed, (\d+) failed", last)
     passed, failed = (int(found[1]), int(found[2])) if found else (0, 1)
     return passed, max(failed, 1) if command.returncode else failed
+
+
+def checks_at_once():
+    """How many checks `rt ci` may have side by side: one a processor, where there is memory for the largest on each but one.
+
+    Its own estimate expects more than twice of what they take, and leaves a third of four processors without work."""
+    with open("/proc/meminfo", encoding="ascii") as it:
+        free = int(re.search(r"MemAvailable:\s+(\d+)", it.read())[1]) / 2**20
+    return max(1, min(len(os.sched_getaffinity(0)), int(free // MOST) + 1))
 
 
 def know_proved_libraries():
@@ -80,17 +91,18 @@ def try_versions(proved):
 
 
 def tell_cost(watch, since):
-    """Says what the proofs of each crate took, and all of this."""
-    dearest = sorted(watch.minutes().items(), key=lambda row: -row[1])
-    print("minutes of processor a proof: " + ", ".join(f"{crate} {taken:.1f}" for crate, taken in dearest))
+    """Says what the proofs, tests and edits of each crate took, which proofs decided the clock, and what all of this took."""
+    print("minutes of processor:", *watch.table(), sep="\n")
+    print("the proofs that decided the clock, with their minutes: " + ", ".join(f"{crate} {taken:.1f}" for crate, taken in watch.chain()))
     used, clock = resource.getrusage(resource.RUSAGE_CHILDREN), (time.monotonic() - since) / 60
     processor, memory = (used.ru_utime + used.ru_stime) / 60, used.ru_maxrss / 2**20
-    print(f"the gate took {clock:.0f} minutes of the clock and {processor:.0f} of processor on {os.cpu_count()} cores; one process took {memory:.1f} GB at the most")
+    print(f"the gate took {clock:.0f} minutes of the clock and {processor:.0f} of processor on {len(os.sched_getaffinity(0))} cores; one process took {memory:.1f} GB at the most")
 
 
 def main(program=None):
     counts, watch, since = [], None, time.monotonic()
     if not program:
+        os.environ.setdefault("RT_JOBS", str(checks_at_once()))
         with Watch() as watch:
             counts.append(told(["rt", "ci"]))
         build_archive()

@@ -13,7 +13,10 @@ import shutil
 import subprocess
 import sys
 import tempfile
+import threading
 import tomllib
+from concurrent.futures import ThreadPoolExecutor
+from itertools import count as numbers
 
 from c import INCLUDE, library_of_c
 from counted_kernels import ARGUMENTS, COUNTING, FAMILIES, IN_TURN, INC, MEETING, RETURNING, STORING, WORDS, family, in_turn, storing
@@ -31,6 +34,9 @@ FOR_PROVED = {
 ARCHIVE = f"{TOP}/crates/hobbydresser_c/out/libhobbydresser_c.a"
 # counts only what lies in the settling of a broker that has run, and in letting it go
 SETTLING = "--toggle-collect=bench::lane_speed::is_settled*"
+# how many rows are counted side by side
+AT_ONCE = 2
+
 
 def policy(regions, body, header=WORDS, length=8192):
     """A policy of one client, one agent, so many regions, the last of some length, and one kernel, that allows the client all of it."""
@@ -137,21 +143,25 @@ def hundredths(much, alone):
 
 
 class Counter:
-    """Runs commands under callgrind, their policies in a folder."""
+    """Runs commands under callgrind, their files in a folder. Rows may be counted side by side."""
 
     def __init__(self, brokerd, room):
         self.brokerd, self.room, self.wrong, self.is_unproved = brokerd, room, [], is_unproved(brokerd)
         self.has_library = os.path.exists(ARCHIVE) and not self.is_unproved
-        self.counted = {}
+        self.counted, self.numbers, self.alone = {}, numbers(), threading.Lock()
+
+    def path(self, ending):
+        """A file of the folder that nothing else has."""
+        return f"{self.room}/{next(self.numbers)}.{ending}"
 
     def policy(self, written):
-        path = f"{self.room}/policy.toml"
+        path = self.path("toml")
         with open(path, "w", encoding="utf-8") as it:
             it.write(written)
         return path
 
     def instructions(self, words, given=b"", options=()):
-        out = f"{self.room}/counted"
+        out = self.path("counted")
         ran = subprocess.run(["valgrind", "--tool=callgrind", f"--callgrind-out-file={out}", *options, *words], input=given, capture_output=True)
         found = re.search(rb"Collected : (\d+)", ran.stderr)
         if ran.returncode or not found:
@@ -179,9 +189,10 @@ class Counter:
 
     def far(self, offset):
         """A work-group of one item that writes four bytes so far behind the begin of 16 MB."""
-        if offset not in self.counted:
-            self.counted[offset] = self.groups(storing(0, offset), 1, 1 << 24)
-        return self.counted[offset]
+        with self.alone:
+            if offset not in self.counted:
+                self.counted[offset] = self.groups(storing(0, offset), 1, 1 << 24)
+            return self.counted[offset]
 
     def explained(self, written):
         """A run of 100,000 entries, a rotation and 10,000 refused lines with `--explain`, in hundredths of the run without it."""
@@ -193,7 +204,7 @@ class Counter:
         """An entry of a journal of packets: its line is read and held against its digest, its call made and compared."""
         words, journals = [self.policy(written)], []
         for count in (500, 1500):
-            file = f"{self.room}/{count}.journal"
+            file = self.path("journal")
             subprocess.run([self.brokerd, "run", *words, "--journal", file], input=text(packets(count)), capture_output=True)
             with open(file, "rb") as it:
                 journals.append(it.read())
@@ -234,12 +245,13 @@ class Counter:
     def through_library(self, others, told="no"):
         """A packet through the library for C, with so many others in flight, its changes told in this way."""
         driver = f"{self.room}/counted_driver"
-        if not os.path.exists(driver):
-            words = ["gcc", "-std=c11", "-O2", "-Wall", "-Wextra", "-Wpedantic", "-Werror", INCLUDE, "-o", driver, f"{HERE}/c_counted.c", ARCHIVE, library_of_c()]
-            built = subprocess.run(words, capture_output=True, text=True)
-            if built.returncode:
-                self.wrong.append(f"{HERE}/c_counted.c: {built.stderr[-300:]}")
-                return 0
+        with self.alone:
+            if not os.path.exists(driver):
+                words = ["gcc", "-std=c11", "-O2", "-Wall", "-Wextra", "-Wpedantic", "-Werror", INCLUDE, "-o", driver, f"{HERE}/c_counted.c", ARCHIVE, library_of_c()]
+                built = subprocess.run(words, capture_output=True, text=True)
+                if built.returncode:
+                    self.wrong.append(f"{HERE}/c_counted.c: {built.stderr[-300:]}")
+                    return 0
         few, many = (self.instructions([driver, str(count), str(others), told]) for count in (500, 1500))
         return (many - few) / 1000
 
@@ -309,12 +321,11 @@ def main():
         print("0 passed, 0 failed")
         return 0
     told, passed, failed = ceilings.pop("told"), 0, 0
-    with tempfile.TemporaryDirectory() as room:
+    with tempfile.TemporaryDirectory() as room, ThreadPoolExecutor(AT_ONCE) as pool:
         counter = Counter(brokerd, room)
-        for name, count in counter.rows():
-            if counter.is_unproved and name in FOR_PROVED:
-                continue
-            found, most = count(), ceilings.pop(name, 0)
+        rows = [row for row in counter.rows() if not counter.is_unproved or row[0] not in FOR_PROVED]
+        for (name, count), found in zip(rows, pool.map(lambda row: row[1](), rows)):
+            most = ceilings.pop(name, 0)
             if found > most and name.startswith("packet of a lane"):
                 found = min(found, count())
             is_within = 0 < found <= most
