@@ -3,7 +3,7 @@
 /// The page's text.
 pub const TEXT: &str = "# Running a kernel
 
-This page is for authors of kernels. It goes from a kernel's text to its writes in memory, and says at each step what may refuse it, and what helps. Other pages say how a text is written (`docs/kernel_text.md`), what a policy is (`docs/policy.md`), and how a packet is laid out (`docs/aql_packets.md`).
+This page is for authors of kernels. It goes from a kernel's text to its writes in memory, and says at each step what may refuse it, and what helps. Kernels compute with whole numbers; there is no floating point. Other pages say how [a text is written](kernel_text.md), what [a policy](policy.md) is, and how [a packet](aql_packets.md) is laid out.
 
 ## From a text to a run
 

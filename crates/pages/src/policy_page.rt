@@ -7,13 +7,8 @@ A policy says what exists in a broker, and which rights may be granted to whom. 
 
 The sample policy, `crates/brokerd/data/sample.toml`, is the running example. To check a policy:
 
-```
-(cd crates/brokerd && out/brokerd check data/sample.toml)
-```
-
-prints
-
-```
+```console
+$ brokerd check crates/brokerd/data/sample.toml
 clients 2
 agents 1
 regions 2
@@ -120,7 +115,7 @@ Then `grant alice region buf READ,WRITE` is answered `ok`, `grant alice region a
 
 ### Another policy for a broker that runs
 
-What may be granted can be changed while a broker runs, and what may exist can't. The line `reload N` of a script hands in the N-th of the further policies that the command line names. To take from bob what the sample allows him on `buf`, write the sample once more, with `version = 2` first and a deny row last:
+What may be granted can be changed while a broker runs, and what may exist can't. The line `reload N` of a script hands in the N-th of the further policies that the command line names; their files are read before the script begins, so one that is written later can't come in (a program may hand in any, by `reload` of the core or `hd_reload`). To take from bob what the sample allows him on `buf`, write the sample once more, with `version = 2` first and a deny row last:
 
 ```toml file=deny.toml
 [[deny]]
@@ -194,16 +189,16 @@ A refused call of the core changes nothing. The lines `publish`, `submit`, `peek
 | 2 UnknownQueue | calls about a queue | no open queue has this number: it was never opened, or it was closed |
 | 3 Denied RIGHT | `queue`, `write`, `read`, `signal`, `load`, `test` | the client lacks this right on the agent, region or signal, which may not exist, or the range leaves its region: a grant helps |
 | 4 Busy queue Q packet ID | `revoke`, `reload` | this packet in flight holds a right that is to be taken: finish it, or close its queue, then revoke or reload |
-| 5 NotAllowed | `grant` | no allow row of the policy covers one of the rights, or a deny row covers it: the policy has to be widened |
+| 5 NotAllowed | `grant` | no allow row of the policy covers one of the rights, or a deny row covers it: the policy has to be widened. Or the right is none of the object's kind |
 | 6 OutOfStep N | the packet processor's hand-over | the queue's next packet is N |
 | 7 QueueDown | `serve`, `stop` | the queue has an error or was stopped and launches nothing more; open another. For `stop`: it was stopped before |
 | 8 NotInFlight | `run`, `poll`, `finish` | no packet in flight has this id, or it is of a kind that the call doesn't take |
 | 9 NotFinished | `finish` | the packet has groups to run, or its barrier isn't ready |
-| 10 AuditFull | every call that would leave an entry, but those that take a packet out of flight | the audit has no room beside the places that are kept for packets in flight: hand it out (`rotate`), or open the broker with more. To finish packets makes no room, since each uses the place that was kept for it |
+| 10 AuditFull | every call that would leave an entry, but those that take a packet out of flight | the audit has no room beside the places that are kept for packets in flight: hand it out (`rotate`; `run --journal` does so by itself), or open the broker with more. To finish packets makes no room, since each uses the place that was kept for it |
 | 11 BadSize | `queue`, `write`, `read` | a queue's size is a power of two from 2 to 4,096 with 1 to 16 producers; a client reads or writes 1 to 65,536 bytes in one call |
 | 12 TooMany | `queue` | 64 queues are open: close one |
 | 13 UnknownObject | `grant`, `revoke` | the policy declares no object of this name or number |
-| 14 NotAStep | `submit`, and lines that make single steps | the ring has no producer of this number, or may not make this step now |
+| 14 NotAStep | lines on a ring: `submit`, and those that make single steps | the ring has no producer of this number, or may not make this step now |
 | 15 Spent | `submit`, `reserve` | the producer has reserved 2^40 ids; the ring's others may go on |
 | 16 OtherObjects | `reload` | the further policy declares other clients or objects than the first, or one of them with another key: only rows on rights may change |
 

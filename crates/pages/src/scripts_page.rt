@@ -37,7 +37,9 @@ audit 7
 6 run 1 0 group 0; write 0000000100000000 5a5a5a5a
 7 finish 1 0; signal 1 1 0; release 1 0
 ```
-`submit` publishes the packet under the id 0; `serve` has the packet processor judge and launch it; `run` does its work; `finish` completes it. `docs/aql_packets.md` tells the layout of the 64 bytes.
+`submit` publishes the packet under the id 0; `serve` has the packet processor judge and launch it; `run` does its work; `finish` completes it. [Packets](aql_packets.md) has the layout of the 64 bytes; [readable lines](assemble.md#the-lines) write a packet in words.
+
+A script speaks for all at once: the administrator, each client, each producer and the packet processor. Nobody checks who wrote a line, so it is for whoever may do all of it. There is no broker yet that processes of their own connect to; of programs that share one process speak [the library](embedding.md), [threads](threads.md) and [programs of `hsa.h`](hsa.md).
 
 ## Lines
 
@@ -83,7 +85,7 @@ Clients and objects go by their names in the policy; a name that isn't there sta
 | `audit` | the entries since the last `rotate`, or all | `audit N` and N lines |
 | `rotate` | hands out these entries, and goes on with an empty audit (`docs/audit.md`) | `rotated N` and N lines |
 
-ERROR is `queue Q packet ID rule RULE`, and for a rule of access ` group G item I line L` after it. A refusal is `refused N NAME`; two of them are of rings (`docs/rings.md`):
+ERROR is `queue Q packet ID rule RULE`, and for a rule of access ` group G item I line L` after it. A refusal is `refused N NAME`; two of them are of [rings](rings.md). A seat is the place of one producer, or of the processor, at a ring:
 
 - `14 NotAStep` is a step that its seat may not make now, a take without a packet that was read whole, or a header that would be cleared before its packet is launched or denied.
 - `15 Spent` is a producer that has reserved 2^40 ids.
@@ -108,7 +110,7 @@ A line of one request that is refused changes nothing; of a line of several the 
 | `refused 7 QueueDown` | `take`, `serve`, `stop` | read `errors Q`, mend the cause, open another queue; `close` gives back the place of the one that is down |
 | `refused 8 NotInFlight` | `run`, `poll`, `finish` | the packet was never launched, or has left; `run` is for dispatches, `poll` for barrier packets |
 | `refused 9 NotFinished` | `finish` | `run` until 0 are left, or `poll` until `ready` |
-| `refused 10 AuditFull` | what would leave an entry | hand the audit out (`rotate`), or begin anew with `--audit N`, up to 1,048,576; finishing packets makes no room |
+| `refused 10 AuditFull` | what would leave an entry | hand the audit out (`rotate`; `run --journal` does so by itself), or begin anew with `--audit N`, up to 1,048,576; finishing packets makes no room |
 | `refused 11 BadSize` | `queue`, `write`, `read` | a queue has 2 to 4,096 slots, a power of two, and 1 to 16 producers; a client writes and reads 1 to 65,536 bytes a line |
 | `refused 12 TooMany` | `queue` | 64 queues are open: use those, or `close` one |
 | `refused 13 UnknownObject` | `grant`, `revoke` | name an object of the policy of that kind, or declare it |
@@ -120,7 +122,7 @@ Some replies tell that nothing came of a line, or not yet:
 
 | Reply | Why | What to do |
 |---|---|---|
-| `empty` | nothing is published at the read index, or the producer whose ticket stands there has stopped | `publish`, and `serve` again |
+| `empty` | nothing is published at the read index, or the producer whose ticket stands there has stopped | `publish`, and `serve` again; where that producer is gone for good, the queue serves nothing more: `close` it |
 | `busy ticket T read R` | the ring has no room | `serve` it, then `publish` under the same ticket |
 | `not publishable T` | the packet's type is INVALID, which marks an empty slot | `publish` another under the same ticket |
 | `pending` | signals that the barrier packet depends on weren't seen at 0 yet | bring them there, and `poll` again |
@@ -164,7 +166,7 @@ Some replies tell that nothing came of a line, or not yet:
 | B1 | a signal below 0 that a barrier packet depends on | a negative value means an error: see to what was to signal it, store another value, and open another queue |
 
 ### The run ends
-The status is 0 where all lines were done or answered, and 2 where the command line isn't understood. Else one of these lines stands on standard error, with its status:
+The status is 0 where all lines were done or answered, and 2 where the command line isn't understood. Else one of these lines stands on standard error, with its status; there is no other:
 
 | Line | Status | What to do |
 |---|---|---|
@@ -223,10 +225,12 @@ A page is that of a whole script or there is none. Where a line has no form, or 
 ## Options of a run, and other commands
 
 - `brokerd run POLICY --strict` ends with status 1 after the first reply that tells that a line was refused or denied, or that a kernel or a poll faulted.
-- `brokerd run POLICY --explain` tells on standard error after each such reply why, and the line that mends it (`docs/explaining.md`).
+- `brokerd run POLICY --explain` tells on standard error after each such reply [why](explaining.md), and the line that mends it.
 - `brokerd explain L8`, or `explain QueueDown`, or `explain 7`, tells what a rule, a refusal or a cause means.
-- `brokerd run POLICY --readable` takes packets in words, and `drain`, which serves, runs and finishes until nothing moves. `brokerd assemble POLICY` turns such lines into those above (`docs/assemble.md`).
-- `brokerd run POLICY --json` writes each reply as an object of JSON (`docs/json.md`).
+- `brokerd run POLICY --readable` takes packets in words, and `drain`, which serves, runs and finishes until nothing moves. `brokerd assemble POLICY` turns such lines into those above ([readable lines](assemble.md)).
+- `brokerd run POLICY --json` writes each reply as an object of JSON ([its members](json.md#replies)).
+- `brokerd run POLICY --audit N` has room for N entries, 1 to 1,048,576; without it for 65,536.
+- `brokerd run POLICY --journal FILE` writes [a journal](audit.md#a-journal) as it goes. It goes with `--strict` and `--explain`, and neither with `--readable` nor with `--json`.
 
 ## Every form once
 
