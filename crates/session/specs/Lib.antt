@@ -1,3 +1,4 @@
 pub mod Records
 pub mod Requests
 pub mod Commands
+pub mod Pace

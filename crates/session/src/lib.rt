@@ -3,8 +3,12 @@
 
 mod commands;
 mod head;
+mod pace;
 mod requests;
+#[cfg(test)]
+mod tests;
 
 pub use commands::{Command, Permission, command_of};
 pub use head::Head;
+pub use pace::Pace;
 pub use requests::{Change, Greeting, Mirror, NewQueue, Part, Range, Request, request_of};
