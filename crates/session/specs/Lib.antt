@@ -2,3 +2,4 @@ pub mod Records
 pub mod Requests
 pub mod Commands
 pub mod Pace
+pub mod Judging
