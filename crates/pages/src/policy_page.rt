@@ -179,41 +179,20 @@ L1 to L3 are rules of a packet's layout. What a kernel then may touch is judged 
 
 An object that isn't declared fails the same rule as one without a grant. Where a grant is answered `refused 5 NotAllowed`, the policy itself has to be widened by an allow row, or a deny row has to go. `refused 13 UnknownObject` and `refused 1 UnknownClient` say that a name isn't declared.
 
-## What a refusal means
-A refused call of the core changes nothing. The lines `publish`, `submit`, `peek`, `retire` and `serve` make several steps on a ring, and the steps before the one that is refused stay made. A refused call is answered one of these numbers. Each call tries them in an order of its own (`crates/core_model/specs/Owed.antt`), 10 after all others but 0.
-
-| Refusal | Who meets it | What it means, and what helps |
-|---|---|---|
-| 0 OutOfMemory | an opening, a reservation (`reserve`, `submit`), a launch, a group, a client's write, a reload, a rotation, and a query that is answered by a list. Where the call is refused otherwise it isn't told, but for a group for which the audit has no room, and for the line `reload`, since the policy is copied first | memory was wanted and not to be had; the same call later counts as the first |
-| 1 UnknownClient | all calls of a client or about one | the policy declares no client of this name or number |
-| 2 UnknownQueue | calls about a queue | no open queue has this number: it was never opened, or it was closed |
-| 3 Denied RIGHT | `queue`, `write`, `read`, `signal`, `load`, `test` | the client lacks this right on the agent, region or signal, which may not exist, or the range leaves its region: a grant helps |
-| 4 Busy queue Q packet ID | `revoke`, `reload` | this packet in flight holds a right that is to be taken: finish it, or close its queue, then revoke or reload |
-| 5 NotAllowed | `grant` | no allow row of the policy covers one of the rights, or a deny row covers it: the policy has to be widened. Or the right is none of the object's kind |
-| 6 OutOfStep N | the packet processor's hand-over | the queue's next packet is N |
-| 7 QueueDown | `serve`, `stop` | the queue has an error or was stopped and launches nothing more; open another. For `stop`: it was stopped before |
-| 8 NotInFlight | `run`, `poll`, `finish` | no packet in flight has this id, or it is of a kind that the call doesn't take |
-| 9 NotFinished | `finish` | the packet has groups to run, or its barrier isn't ready |
-| 10 AuditFull | every call that would leave an entry, but those that take a packet out of flight | the audit has no room beside the places that are kept for packets in flight: hand it out (`rotate`; `run --journal` does so by itself), or open the broker with more. To finish packets makes no room, since each uses the place that was kept for it |
-| 11 BadSize | `queue`, `write`, `read` | a queue's size is a power of two from 2 to 4,096 with 1 to 16 producers; a client reads or writes 1 to 65,536 bytes in one call |
-| 12 TooMany | `queue` | 64 queues are open: close one |
-| 13 UnknownObject | `grant`, `revoke` | the policy declares no object of this name or number |
-| 14 NotAStep | lines on a ring: `submit`, and those that make single steps | the ring has no producer of this number, or may not make this step now |
-| 15 Spent | `submit`, `reserve` | the producer has reserved 2^40 ids; the ring's others may go on |
-| 16 OtherObjects | `reload` | the further policy declares other clients or objects than the first, or one of them with another key: only rows on rights may change |
+What each refusal means, and what helps, says [the page on scripts](scripts.md#a-line-is-refused). Each call tries them in an order of its own (`crates/core_model/specs/Owed.antt`), 10 after all others but 0.
 
 ## When a policy is refused
 
 `brokerd` writes the first fault to standard error, as `policy: N NAME KIND ROW`, and ends with status 1. KIND is the array and ROW the row, from 1; row 0 is the array as a whole. Faults before the arrays have neither.
 
-| Fault | Means |
-|---|---|
-| 1 NotToml | the file isn't UTF-8 text in TOML; numbers past 64 bits are refused so too |
-| 2 MissingKey | a row lacks a key |
-| 3 BadValue | a key that isn't known (as `deny` in version 1), a value that isn't right for its key, another version, or an array that isn't one of tables |
-| 4 UnknownName | an allow or deny row names a client or an object that isn't declared |
-| 5 DoubleName | a row has the name of an earlier row of its array |
-| 6 TooMany | the file is too long, an array has too many rows, or the regions are too long together (region, row 0) |
+| Fault | Means | What helps |
+|---|---|---|
+| 1 NotToml | the file isn't UTF-8 text in TOML; numbers past 64 bits are refused so too | mend the TOML, or its UTF-8 |
+| 2 MissingKey | a row lacks a key | add it |
+| 3 BadValue | a key that isn't known (as `deny` in version 1), a value that isn't right for its key, another version, or an array that isn't one of tables | take out the key, or mend the value; `version` is 1 or 2, and `deny` rows want 2 |
+| 4 UnknownName | an allow or deny row names a client or an object that isn't declared | declare it, or name another |
+| 5 DoubleName | a row has the name of an earlier row of its array | give one of the two another name |
+| 6 TooMany | the file is too long, an array has too many rows, or the regions are too long together (region, row 0) | fewer rows, a shorter file, or smaller regions |
 
 They are looked for in this order: the length of the file, its form, its version and keys, and then the arrays in the order of the table above, row by row. In a row, unknown keys come first, then each key in the table's order, then the name. So the sample with a further allow row for the object `nosuch` is refused with `policy: 4 UnknownName allow 7`.
 

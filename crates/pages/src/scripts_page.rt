@@ -100,7 +100,7 @@ A line of one request that is refused changes nothing; of a line of several the 
 
 | Reply | Comes to | What to do |
 |---|---|---|
-| `refused 0 OutOfMemory` | what would take memory | try again; what was refused was not done |
+| `refused 0 OutOfMemory` | what would take memory: `queue`, `reserve`, `submit`, a launch, `run`, `write`, `reload`, `rotate`, and lists. Where a line is refused otherwise too, that is told, but for a group for which the audit has no room, and for `reload` | try again; what was refused was not done, and the same line later counts as the first |
 | `refused 1 UnknownClient` | lines that name a client | name a client of the policy, or give it a `[[client]]` row |
 | `refused 2 UnknownQueue` | lines that name a queue | open one, and use the number that `queue` was answered; one that was closed is gone, and its number is given to none again |
 | `refused 3 Denied RIGHT` | `queue`, `write`, `read`, `signal`, `load`, `test` | grant RIGHT on the agent, region or signal; for `write` and `read` see also that the range ends inside its region |
@@ -108,9 +108,9 @@ A line of one request that is refused changes nothing; of a line of several the 
 | `refused 5 NotAllowed` | `grant` | no allow row covers one of the rights, a deny row covers it, or it is none of the object's kind: widen the policy, or ask for less |
 | `refused 6 OutOfStep N` | `take` of a packet that was launched or denied already | `retire` it; the next id is N |
 | `refused 7 QueueDown` | `take`, `serve`, `stop` | read `errors Q`, mend the cause, open another queue; `close` gives back the place of the one that is down |
-| `refused 8 NotInFlight` | `run`, `poll`, `finish` | the packet was never launched, or has left; `run` is for dispatches, `poll` for barrier packets |
+| `refused 8 NotInFlight` | `run`, `poll`, `finish` | the packet was never launched, has left, or is of another kind; `run` is for dispatches, `poll` for barrier packets |
 | `refused 9 NotFinished` | `finish` | `run` until 0 are left, or `poll` until `ready` |
-| `refused 10 AuditFull` | what would leave an entry | hand the audit out (`rotate`; `run --journal` does so by itself), or begin anew with `--audit N`, up to 1,048,576; finishing packets makes no room |
+| `refused 10 AuditFull` | what would leave an entry, but what takes a packet out of flight | hand the audit out (`rotate`; `run --journal` does so by itself), or begin anew with `--audit N`, up to 1,048,576; finishing packets makes no room, since each uses the place that was kept for it |
 | `refused 11 BadSize` | `queue`, `write`, `read` | a queue has 2 to 4,096 slots, a power of two, and 1 to 16 producers; a client writes and reads 1 to 65,536 bytes a line |
 | `refused 12 TooMany` | `queue` | 64 queues are open: use those, or `close` one |
 | `refused 13 UnknownObject` | `grant`, `revoke` | name an object of the policy of that kind, or declare it |
@@ -177,31 +177,7 @@ The status is 0 where all lines were done or answered, and 2 where the command l
 | `no memory` | 3 | give it more; the replies that stand are those of the lines before |
 | `read fault`, `write fault` | 3 | the policy or the script couldn't be read, or the replies couldn't be written |
 
-| A policy's fault | What to do |
-|---|---|
-| 1 NotToml | mend the TOML, or its UTF-8; a number has at most 64 bits |
-| 2 MissingKey | add the key that the row lacks |
-| 3 BadValue | take out the unknown key, or mend the value; `version` is 1 or 2, and `deny` rows want 2 |
-| 4 UnknownName | in an allow or deny row name a client or an object that is declared |
-| 5 DoubleName | give one of the two another name |
-| 6 TooMany | fewer rows, a shorter file, or smaller regions |
-
-| A text's fault (`read`) | What to do |
-|---|---|
-| 1 Lexeme | mend the byte there: no token is spelled so |
-| 2 Syntax | mend the token there: nothing goes on with it |
-| 3 NotInProfile | write it with instructions and types of `docs/kernel_text.md` |
-| 4 TooLong | a text has at most 65,536 bytes |
-
-| A module's fault (`check`) | What to do |
-|---|---|
-| 1 UnknownLabel | add the label, or branch to another |
-| 2 DoubleName | give one of the two another name |
-| 3 WrongRegister | `$c` for b1, `$s` for up to 32 bits, `$d` for 64 |
-| 4 WrongType | load an argument by a type as wide as it |
-| 5 UnknownArgument | declare it, before that line |
-| 6 TooLarge | keep to the limit of `docs/kernel_text.md`: registers 0 to 63, constants of their width, dimensions 0 to 2 |
-| 7 BadAddress | `[$d..]` for global memory, `[$s..]` or a variable for group memory, an argument for `ld_kernarg` |
+What each fault means, and what helps, stands with the texts: of [a policy](policy.md#when-a-policy-is-refused), of [a kernel's text](kernel_text.md#faults-of-a-text) (`read`), and of [a module](kernel_text.md#faults-of-a-module) (`check`).
 
 ## A picture of a run
 
