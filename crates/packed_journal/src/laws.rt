@@ -1,7 +1,11 @@
 //! The laws of the packed form.
 
-ghost use Rattle.std.specs.Prelude.{◌≡◌, ◌++◌, ℕ, ℤ, Bool, List, true, Some};
+ghost use Rattle.std.specs.Prelude.{◌≡◌, ◌++◌, ℕ, ℤ, Bool, List, Ok, Option, [], true, Some};
+ghost use Rattle.std.specs.Option.{unwrap_or};
+ghost use Rattle.core_model.specs.declared.entry.Entry.{Entry};
 ghost use Rattle.packed_journal.specs.Words.{Number, Signed, Bytes, Packet, Flags, Digest, fits, packed, number_at, signed_at, bytes_at, packet_at, flags_at, digest_at};
+ghost use Rattle.packed_journal.specs.Readings.{fit};
+ghost use Rattle.packed_journal.specs.Entries.{form_of_entry, kept_policy, read_entry, words_of_entry};
 
 /// What was written of a word that fits is read as what it tells, whatever stands behind it. It does nothing.
 pub fn law_written_words_are_read()
@@ -21,4 +25,16 @@ pub fn law_read_words_are_written()
     ensures packet { (read bytes rest : List ℕ) → packet_at bytes ≡ Some (read, rest) → bytes ≡ packed (Packet read) ++ rest }
     ensures flags { (flags : List Bool) (bytes rest : List ℕ) → flags_at bytes ≡ Some (flags, rest) → bytes ≡ packed (Flags flags) ++ rest }
     ensures digest { (read bytes rest : List ℕ) → digest_at bytes ≡ Some (read, rest) → bytes ≡ packed (Digest read) ++ rest }
+{}
+
+/// What was written of an entry, of words that fit, is read as the same entry, whatever stands behind it. So two entries that differ
+/// have forms that differ. It does nothing.
+pub fn law_written_entries_are_read()
+    ensures read { (entry : Entry) (policy rest : List ℕ) → fit (words_of_entry entry policy) ≡ true → read_entry (form_of_entry entry policy ++ rest) ≡ Ok ((entry, kept_policy entry.event policy), rest) }
+    ensures apart { (one other : Entry) (p q : List ℕ) → fit (words_of_entry one p) ≡ true → fit (words_of_entry other q) ≡ true → form_of_entry one p ≡ form_of_entry other q → (one ≡ other) × (kept_policy one.event p ≡ kept_policy other.event q) }
+{}
+
+/// What is read as an entry is written as the same bytes: an entry has one form. It does nothing.
+pub fn law_read_entries_are_written()
+    ensures { (bytes : List ℕ) (entry : Entry) (policy : Option (List ℕ)) (rest : List ℕ) → read_entry bytes ≡ Ok ((entry, policy), rest) → bytes ≡ form_of_entry entry (unwrap_or policy []) ++ rest }
 {}
