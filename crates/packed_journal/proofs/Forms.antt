@@ -111,6 +111,14 @@ bytes_form = record { back = back; tells = λ bytes. first bytes (read_number 64
     first bytes (Err why) e = tt
     first bytes (Ok read) e = second bytes read.0 read.1 (told_number 64 bytes read.0 read.1 e) (nat_le read.0 (length read.1)) refl
 
+pub bytes_back : (bs rest : List ℕ) → fits (Bytes bs) ≡ true → read_bytes (packed (Bytes bs) ++ rest) ≡ Ok (bs, rest)
+bytes_back bs rest f =
+    let fit_all : fit (Bytes bs ∷ []) ≡ true = rw f refl in
+    ap read_bytes (sym (one_word (Bytes bs) rest)) ∙ bytes_form.back bs rest fit_all
+
+pub bytes_told : (bs bytes rest : List ℕ) → read_bytes bytes ≡ Ok (bs, rest) → bytes ≡ packed (Bytes bs) ++ rest
+bytes_told bs bytes rest e = subst (WrittenSo (λ read. Bytes read ∷ []) bytes) e (bytes_form.tells bytes) ∙ one_word (Bytes bs) rest
+
 -- ---- two in turn, and what is made of what is read
 
 -- the words of two

@@ -135,10 +135,6 @@ signed_at bytes = and_then (number_at 64 bytes) (λ n rest. Some (signed_of n, r
 abbrev pub split_at : ℕ → List ℕ → Reading (List ℕ)
 split_at n bytes = if nat_le n (length bytes) then Some (take n bytes, drop n bytes) else None
 
--- bytes behind their count
-abbrev pub bytes_at : List ℕ → Reading (List ℕ)
-bytes_at bytes = and_then (number_at 64 bytes) split_at
-
 -- a word that isn't zero
 abbrev pub if_full : List ℕ → List ℕ → Reading (List ℕ)
 if_full word rest = if is_zero word then None else Some (word, rest)
