@@ -20,7 +20,7 @@ use Rattle.core_model.specs.declared.event.Event.TheVariants as event
 use Rattle.core_model.specs.declared.entry.Effect.{Effect}
 use Rattle.core_model.specs.declared.entry.Effect.TheVariants as effect
 use Rattle.core_model.specs.declared.entry.Entry.{Entry}
-use Rattle.packed_journal.specs.Words.{Word, Tag, Number, Signed, Bytes, Packet, Flags, Digest}
+use Rattle.packed_journal.specs.Words.{Word, Tag, Bytes, Packet, Flags, Digest}
 use Rattle.packed_journal.specs.Readings.{Read, bytes_of, fit, and_read, made, both, read_number, read_signed, read_bytes, read_packet, read_flags, read_digest, words_of_list, read_list}
 use Rattle.packed_journal.specs.Parts.{words_of_client, read_client, words_of_packet, read_queue, read_packet_named, words_of_rights_on, read_rights_on, words_of_rows, read_rows, words_of_operation, read_operation, words_of_error, read_error}
 use Rattle.packed_journal.specs.Entries.{Happened, words_of_event, kept_policy, read_event, number_of_cause, read_cause, words_of_outcome, read_outcome, words_of_effect, read_effect, words_of_entry, form_of_entry, read_entry}

@@ -1,32 +1,27 @@
 -- What entries are made of is read as it was written, and written as it was read.
-use Rattle.std.proofs.Common.{◌≡◌, ℕ, ◌<◌, Bool, true, false, List, [], ◌∷◌, ◌++◌, refl, sym, ap, ◌∙◌, subst, arith}
+use Rattle.std.proofs.Common.{◌≡◌, ℕ, Bool, true, false, List, [], ◌∷◌, ◌++◌, refl, sym, ap, ◌∙◌, subst, arith}
 use Rattle.std.specs.Prelude.{◌==◌, nat_lt, ℤ, Option, Some, None, Ok, Err, if◌then◌else◌}
 use Rattle.std.proofs.lemmas.Bool.Decides.{nat_tests}
-use Rattle.aql_packet.specs.declared.ids.ClientId.{ClientId}
 use Rattle.aql_packet.specs.declared.ids.QueueId.{QueueId}
 use Rattle.aql_packet.specs.declared.ids.PacketId.{PacketId}
 use Rattle.policy.specs.declared.object.Kind.{Kind}
 use Rattle.policy.specs.declared.object.Kind.TheVariants as kind
 use Rattle.policy.specs.declared.object.Object.{Object}
 use Rattle.policy.specs.declared.object.Object.TheVariants as object
-use Rattle.policy.specs.declared.rights.Rights.{Rights}
 use Rattle.policy.specs.declared.row.Grantee.{Grantee}
 use Rattle.policy.specs.declared.row.Grantee.TheVariants as grantee
 use Rattle.policy.specs.declared.row.Target.{Target}
 use Rattle.policy.specs.declared.row.Target.TheVariants as target
-use Rattle.policy.specs.declared.row.RightsRow.{RightsRow}
-use Rattle.policy.specs.declared.rows.PolicyRows.{PolicyRows}
 use Rattle.queue_error.specs.declared.rule.Rule.{Rule}
 use Rattle.queue_error.specs.declared.rule.Rule.TheVariants.{L1, L2, L3, L4, L5, L6, L7, L8, L9, L10, A1, A2, A3, A4, A5, A6, A7, B1}
 use Rattle.queue_error.specs.declared.error.FaultPlace.{FaultPlace}
 use Rattle.queue_error.specs.declared.error.SegmentAddress.{SegmentAddress}
 use Rattle.queue_error.specs.declared.error.SegmentAddress.TheVariants as segment
-use Rattle.queue_error.specs.declared.error.QueueError.{QueueError}
 use Rattle.signals.specs.declared.operation.SignalOp.{SignalOp}
 use Rattle.signals.specs.declared.operation.SignalOp.TheVariants as op
 use Rattle.packed_journal.specs.Words.{Word, Tag, Number, Signed}
 use Rattle.packed_journal.specs.Readings.{Read, bytes_of, fit, wrong, made, both, read_number, read_signed, words_of_list, read_list}
-use Rattle.packed_journal.specs.Parts.{words_of_client, read_client, words_of_packet, read_queue, read_packet_id, read_packet_named, words_of_object, read_object, words_of_rights, read_rights, words_of_rights_on, read_rights_on, words_of_grantee, read_grantee, number_of_kind, kind_numbered, named, read_kind, words_of_target, read_target, words_of_row, read_row, words_of_rows, read_rows, words_of_operation, operation_of, read_one_operand, read_operation, number_of_rule, rule_numbered, words_of_rule, read_rule, words_of_address, read_address, words_of_place, read_place, words_of_error, read_error}
+use Rattle.packed_journal.specs.Parts.{words_of_client, read_client, words_of_packet, read_queue, read_packet_id, read_packet_named, words_of_object, read_object, words_of_rights, read_rights, words_of_rights_on, read_rights_on, words_of_grantee, read_grantee, number_of_kind, named, read_kind, words_of_target, read_target, words_of_row, read_row, words_of_rows, read_rows, words_of_operation, operation_of, read_one_operand, read_operation, words_of_rule, read_rule, words_of_address, read_address, words_of_place, read_place, words_of_error, read_error}
 use Rattle.packed_journal.proofs.NumberLaws.{is_same}
 use Rattle.packed_journal.proofs.Forms.{WrittenSo, IsForm, number_form, signed_form, then_words, both_form, made_form, arm_back, arm_tells, tag_if, named_if, list_form}
 

@@ -1,14 +1,13 @@
 -- Bytes, packets, flags and digests are read as they were written, and written as they were read.
-use Rattle.std.proofs.Common.{◌≡◌, ℕ, zero, suc, ◌+◌, ◌-◌, ◌*◌, ◌/◌, ◌%◌, ◌<◌, ◌≤◌, Bool, true, false, List, [], ◌∷◌, ◌++◌, length, take, drop, Option, Some, None, refl, sym, ap, ◌∙◌, arith, append_assoc, append-nil, length-append, subst}
+use Rattle.std.proofs.Common.{◌≡◌, ℕ, zero, suc, ◌+◌, ◌*◌, ◌/◌, ◌%◌, ◌<◌, ◌≤◌, Bool, true, false, List, [], ◌∷◌, ◌++◌, length, take, drop, Some, None, refl, sym, ap, ◌∙◌, arith, append_assoc, length-append, subst}
 use Rattle.std.specs.Bool.{⊤}
-use Rattle.std.specs.Prelude.{◌^◌, nat_lt, nat_le, ◌==◌, ◌&&◌, not, if◌then◌else◌, option_map}
-use Rattle.std.specs.List.{list_all}
+use Rattle.std.specs.Prelude.{◌^◌, nat_lt, nat_le, ◌==◌, if◌then◌else◌}
 use Rattle.std.proofs.lemmas.Bool.Decides.{nat_tests}
-use Rattle.std.proofs.lemmas.List.{take-append-drop, take_at, drop_at, length-take-le, length-drop, drop_all}
-use Rattle.packed_journal.specs.Words.{Reading, Number, Bytes, Packet, Flags, Digest, and_then, where_some, packed_number, packed, fits, is_zero, mask_of, words_of, bits_of, byte_at, number_at, split_at, if_full, word_at, words_at, packet_at, flags_in, flags_of, flags_at, digest_at}
+use Rattle.std.proofs.lemmas.List.{take-append-drop, take_at, drop_at, length-take-le, length-drop}
+use Rattle.packed_journal.specs.Words.{Reading, Packet, Flags, Digest, and_then, packed, fits, is_zero, mask_of, words_of, bits_of, split_at, if_full, word_at, words_at, packet_at, flags_in, flags_at, digest_at}
 use Rattle.packed_journal.proofs.Steps.{no_mask, mask_step, no_words, words_zero, words_full, words_end, words_step, no_bits, bits_step, no_flags, flags_step}
-use Rattle.packed_journal.proofs.Tells.{Tells, told, tells_then, tells_if, tells_where}
-use Rattle.packed_journal.proofs.NumberLaws.{both_first, both_second, is_less, less_is, is_same, same_is, number_read, number_tells}
+use Rattle.packed_journal.proofs.Tells.{Tells, told, tells_if, tells_where}
+use Rattle.packed_journal.proofs.NumberLaws.{both_first, both_second, is_less, less_is, is_same, same_is}
 
 -- ---- so many bytes
 

@@ -1,8 +1,8 @@
 -- So many readings, one after the other: one more, none, and that what was written is read so.
-use Rattle.std.proofs.Common.{◌≡◌, ℕ, zero, suc, ◌-◌, ◌<◌, List, [], ◌∷◌, ◌++◌, refl, sym, ap, ◌∙◌, arith, append_assoc, append-nil}
-use Rattle.std.specs.Prelude.{Result, Ok, Err}
+use Rattle.std.proofs.Common.{◌≡◌, ℕ, zero, suc, ◌<◌, List, [], ◌∷◌, ◌++◌, refl, sym, ap, ◌∙◌, arith, append_assoc, append-nil}
+use Rattle.std.specs.Prelude.{Ok, Err}
 use Rattle.packed_journal.specs.declared.unread.Unread.{Unread}
-use Rattle.packed_journal.specs.Readings.{Read, and_read, times, read_number, read_list}
+use Rattle.packed_journal.specs.Readings.{Read, and_read, times}
 
 pub times_none : {X : Type 0} (one : List ℕ → Read X) (bytes : List ℕ) → times one zero bytes ≡ Ok ([], bytes)
 unfolding times

@@ -1,4 +1,4 @@
-use Rattle.std.proofs.Common.{[], ◌∷◌, ◌++◌, ap, ◌∙◌, rules}
+use Rattle.std.proofs.Common.{◌∷◌, ◌++◌, ap, ◌∙◌, rules}
 use Rattle.packed_journal.specs.Words.{Bytes, appended, packed, packed_number}
 use Rattle.packed_journal.proofs.Undone.{undone_all, joined_is}
 use Rattle.packed_journal.proofs.entry_writing.write_host_write.Goals as goal

@@ -1,4 +1,4 @@
-use Rattle.std.proofs.Common.{◌++◌, sym, ap, ◌∙◌, rules}
+use Rattle.std.proofs.Common.{sym, ap, ◌∙◌, rules}
 use Rattle.std.proofs.lemmas.List.Concat.{flat_map-append}
 use Rattle.packed_journal.specs.Words.{appended, packed}
 use Rattle.packed_journal.specs.Readings.{bytes_of, words_of_list}

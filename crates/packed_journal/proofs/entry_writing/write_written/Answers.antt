@@ -1,4 +1,4 @@
-use Rattle.std.proofs.Common.{[], ◌∷◌, ◌++◌, sym, ap, ◌∙◌, append-nil, rules}
+use Rattle.std.proofs.Common.{◌∷◌, ◌++◌, sym, ap, ◌∙◌, append-nil, rules}
 use Rattle.packed_journal.specs.Words.{Bytes, appended, packed, packed_number}
 use Rattle.packed_journal.proofs.Undone.{undone_all}
 use Rattle.packed_journal.proofs.entry_writing.write_written.Goals as goal
