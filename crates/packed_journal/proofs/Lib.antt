@@ -3,3 +3,9 @@ mod Tells
 mod NumberLaws
 mod PartLaws
 mod Written
+mod Undone
+mod Times
+mod Forms
+mod PartForms
+mod EntryForms
+mod Ranges

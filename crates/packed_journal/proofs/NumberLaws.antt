@@ -1,8 +1,8 @@
 -- Numbers are read as they were written, and written as they were read.
-use Rattle.std.proofs.Common.{◌≡◌, ℕ, zero, suc, ◌+◌, ◌-◌, ◌*◌, ◌/◌, ◌%◌, ◌<◌, ◌≤◌, Bool, true, false, List, [], ◌∷◌, ◌++◌, Option, Some, None, refl, sym, ap, ◌∙◌, arith}
-use Rattle.std.specs.Prelude.{◌^◌, nat_lt, nat_le, ◌==◌, ◌&&◌, not, ℤ, pos, negsuc, if◌then◌else◌, option_map}
+use Rattle.std.proofs.Common.{◌≡◌, ℕ, zero, suc, ◌+◌, ◌-◌, ◌*◌, ◌/◌, ◌%◌, ◌<◌, ◌≤◌, Bool, true, false, List, [], ◌∷◌, ◌++◌, Some, refl, sym, ap, ◌∙◌, arith}
+use Rattle.std.specs.Prelude.{◌^◌, nat_lt, ◌==◌, ◌&&◌, ℤ, pos, negsuc}
 use Rattle.std.proofs.lemmas.Bool.Decides.{nat_tests}
-use Rattle.packed_journal.specs.Words.{Reading, Number, Signed, and_then, where_some, number_within, packed_number, zigzag, is_signed, fits, with_low, number_in, within, number_at, signed_of, signed_at}
+use Rattle.packed_journal.specs.Words.{Number, Signed, where_some, number_within, packed_number, zigzag, is_signed, fits, with_low, number_in, within, number_at, signed_of, signed_at}
 use Rattle.packed_journal.proofs.Steps.{within_last, within_more, in_none, in_end, in_last, in_more}
 use Rattle.packed_journal.proofs.Tells.{Tells, tells_then, tells_where}
 

@@ -1,14 +1,13 @@
 -- Bytes, packets, flags and digests are read as they were written, and written as they were read.
-use Rattle.std.proofs.Common.{◌≡◌, ℕ, zero, suc, ◌+◌, ◌-◌, ◌*◌, ◌/◌, ◌%◌, ◌<◌, ◌≤◌, Bool, true, false, List, [], ◌∷◌, ◌++◌, length, take, drop, Option, Some, None, refl, sym, ap, ◌∙◌, arith, append_assoc, append-nil, length-append, subst}
+use Rattle.std.proofs.Common.{◌≡◌, ℕ, zero, suc, ◌+◌, ◌*◌, ◌/◌, ◌%◌, ◌<◌, ◌≤◌, Bool, true, false, List, [], ◌∷◌, ◌++◌, length, take, drop, Some, None, refl, sym, ap, ◌∙◌, arith, append_assoc, length-append, subst}
 use Rattle.std.specs.Bool.{⊤}
-use Rattle.std.specs.Prelude.{◌^◌, nat_lt, nat_le, ◌==◌, ◌&&◌, not, if◌then◌else◌, option_map}
-use Rattle.std.specs.List.{list_all}
+use Rattle.std.specs.Prelude.{◌^◌, nat_lt, nat_le, ◌==◌, if◌then◌else◌}
 use Rattle.std.proofs.lemmas.Bool.Decides.{nat_tests}
-use Rattle.std.proofs.lemmas.List.{take-append-drop, take_at, drop_at, length-take-le, length-drop, drop_all}
-use Rattle.packed_journal.specs.Words.{Reading, Number, Bytes, Packet, Flags, Digest, and_then, where_some, packed_number, packed, fits, is_zero, mask_of, words_of, bits_of, byte_at, number_at, split_at, bytes_at, if_full, word_at, words_at, packet_at, flags_in, flags_of, flags_at, digest_at}
+use Rattle.std.proofs.lemmas.List.{take-append-drop, take_at, drop_at, length-take-le, length-drop}
+use Rattle.packed_journal.specs.Words.{Reading, Packet, Flags, Digest, and_then, packed, fits, is_zero, mask_of, words_of, bits_of, split_at, if_full, word_at, words_at, packet_at, flags_in, flags_at, digest_at}
 use Rattle.packed_journal.proofs.Steps.{no_mask, mask_step, no_words, words_zero, words_full, words_end, words_step, no_bits, bits_step, no_flags, flags_step}
-use Rattle.packed_journal.proofs.Tells.{Tells, told, tells_then, tells_if, tells_where}
-use Rattle.packed_journal.proofs.NumberLaws.{both_first, both_second, is_less, less_is, is_same, same_is, number_read, number_tells}
+use Rattle.packed_journal.proofs.Tells.{Tells, told, tells_if, tells_where}
+use Rattle.packed_journal.proofs.NumberLaws.{both_first, both_second, is_less, less_is, is_same, same_is}
 
 -- ---- so many bytes
 
@@ -20,27 +19,6 @@ split_read bytes rest n e =
 
 pub split_tells : (n : ℕ) (bytes : List ℕ) → Tells (λ word. word) bytes (split_at n bytes)
 split_tells n bytes = tells_if (λ word. word) bytes (nat_le n (length bytes)) (Some (take n bytes, drop n bytes)) None (λ h. sym (take-append-drop n bytes)) (λ h. tt)
-
--- ---- bytes behind their count
-
-pub bytes_read : (bytes rest : List ℕ) → fits (Bytes bytes) ≡ true → bytes_at (packed (Bytes bytes) ++ rest) ≡ Some (bytes, rest)
-bytes_read bytes rest f =
-    let count : number_at 64 (packed_number (length bytes) ++ (bytes ++ rest)) ≡ Some (length bytes, bytes ++ rest) =
-    number_read 64 (length bytes) (bytes ++ rest) (rw f refl) in
-    rw (append_assoc (packed_number (length bytes)) bytes rest, count) (split_read bytes rest (length bytes) refl)
-
-pub bytes_tells : (bytes : List ℕ) → Tells (λ read. packed (Bytes read)) bytes (bytes_at bytes)
-bytes_tells bytes = tells_then packed_number (λ read. packed (Bytes read)) [] bytes (number_at 64 bytes) split_at (number_tells 64 bytes) behind
-  where
-    behind : (n : ℕ) (rest : List ℕ) → Tells (λ read. packed (Bytes read)) (packed_number n ++ rest) (split_at n rest)
-    behind n rest =
-        tells_if (λ read. packed (Bytes read)) (packed_number n ++ rest) (nat_le n (length rest)) (Some (take n rest, drop n rest)) None so (λ h. tt)
-      where
-        so : nat_le n (length rest) ≡ true → packed_number n ++ rest ≡ packed (Bytes (take n rest)) ++ drop n rest
-        so h =
-            let few : n ≤ length rest = grind (arith, nat_tests) in
-            let count : length (take n rest) ≡ n = length-take-le n rest few in
-            rw (count, append_assoc (packed_number n) (take n rest) (drop n rest), take-append-drop n rest) refl
 
 -- ---- packets
 

@@ -1,7 +1,7 @@
 -- One step of what is written and read.
-use Rattle.std.proofs.Common.{◌≡◌, ℕ, zero, suc, ◌+◌, ◌-◌, ◌*◌, ◌/◌, ◌%◌, Bool, true, false, List, [], ◌∷◌, ◌++◌, length, take, drop, Option, Some, None, refl, ap, ◌∙◌, sym}
+use Rattle.std.proofs.Common.{◌≡◌, ℕ, zero, suc, ◌+◌, ◌*◌, ◌/◌, ◌%◌, Bool, true, false, List, [], ◌∷◌, ◌++◌, take, drop, Some, None, refl}
 use Rattle.std.specs.Prelude.{nat_lt, ◌==◌, if◌then◌else◌}
-use Rattle.packed_journal.specs.Words.{Reading, and_then, where_some, number_within, mask_of, words_of, is_zero, bits_of, with_low, number_in, word_at, words_at, flags_in}
+use Rattle.packed_journal.specs.Words.{and_then, where_some, number_within, mask_of, words_of, is_zero, bits_of, with_low, number_in, word_at, words_at, flags_in}
 
 pub within_none : (n : ℕ) → number_within zero n ≡ []
 unfolding number_within

@@ -1,7 +1,7 @@
 -- What is read at the front of some bytes tells them: they are what is written of it, and the bytes behind it.
-use Rattle.std.proofs.Common.{◌≡◌, ℕ, Bool, true, false, List, [], ◌∷◌, ◌++◌, Option, Some, None, refl, ap, ◌∙◌, sym, subst}
+use Rattle.std.proofs.Common.{◌≡◌, ℕ, Bool, true, false, List, ◌++◌, Some, None, refl, sym, subst}
 use Rattle.std.specs.Bool.{⊤}
-use Rattle.std.specs.Prelude.{if◌then◌else◌, option_map}
+use Rattle.std.specs.Prelude.{if◌then◌else◌}
 use Rattle.packed_journal.specs.Words.{Reading, and_then, where_some}
 
 abbrev pub Tells : {X : Type 0} → (X → List ℕ) → List ℕ → Reading X → Type 0

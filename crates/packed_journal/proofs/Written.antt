@@ -1,6 +1,6 @@
 -- What a call has written and read, one step more.
-use Rattle.std.proofs.Common.{◌≡◌, ℕ, zero, suc, ◌+◌, ◌-◌, ◌*◌, ◌/◌, ◌%◌, ◌<◌, ◌≤◌, Bool, true, false, List, [], ◌∷◌, ◌++◌, length, take, drop, Option, Some, None, refl, sym, ap, ◌∙◌, arith, append_assoc, append-nil, length-append}
-use Rattle.std.specs.Prelude.{nat_lt, ◌==◌, if◌then◌else◌, option_map}
+use Rattle.std.proofs.Common.{◌≡◌, ℕ, zero, suc, ◌+◌, ◌-◌, ◌*◌, ◌/◌, ◌%◌, ◌<◌, ◌≤◌, Bool, true, false, List, [], ◌∷◌, ◌++◌, length, take, drop, Some, None, refl, sym, ap, ◌∙◌, arith, append_assoc, append-nil, length-append}
+use Rattle.std.specs.Prelude.{◌==◌, if◌then◌else◌, option_map}
 use Rattle.std.proofs.lemmas.Bool.Decides.{nat_tests}
 use Rattle.std.proofs.lemmas.List.{length-take-le, length-drop, take_all}
 use Rattle.std.proofs.lemmas.Slice.{take-put_mid}
@@ -68,14 +68,13 @@ mask_more (suc words) bit mask bytes word rest h w r b m =
 pub words_none : (out : List ℕ) (words : ℕ) (bytes : List ℕ) → words ≡ 0 → out ≡ out ++ words_of words bytes
 words_none out words bytes h = sym (ap (λ k. out ++ words_of k bytes) h ∙ ap (λ all. out ++ all) (no_words bytes) ∙ append-nil out)
 
-pub wrote_words : (out one new : List ℕ) (words : ℕ) (bytes word rest : List ℕ) → 0 < words → word ≡ take 8 bytes → rest ≡ drop 8 bytes →
-    one ≡ out ++ (if is_zero word then [] else word) → new ≡ one ++ words_of (words - 1) rest → new ≡ out ++ words_of words bytes
-wrote_words out one new zero bytes word rest h w r e f = absurd (omega (arith, h))
-wrote_words out one new (suc words) bytes word rest h w r e f =
+pub words_joined : (words : ℕ) (bytes word rest : List ℕ) → 0 < words → word ≡ take 8 bytes → rest ≡ drop 8 bytes →
+    (if is_zero word then [] else word) ++ words_of (words - 1) rest ≡ words_of words bytes
+words_joined zero bytes word rest h w r = absurd (omega (arith, h))
+words_joined (suc words) bytes word rest h w r =
     let less : suc words - 1 ≡ words = omega arith in
-    f ∙ ap (λ k. one ++ words_of k rest) less ∙ ap (λ x. one ++ words_of words x) r
-    ∙ ap (λ front. front ++ words_of words (drop 8 bytes)) (e ∙ ap (λ x. out ++ (if is_zero x then [] else x)) w)
-    ∙ append_assoc out (if is_zero (take 8 bytes) then [] else take 8 bytes) (words_of words (drop 8 bytes)) ∙ ap (λ all. out ++ all) (sym (words_more words bytes))
+    ap (λ k. (if is_zero word then [] else word) ++ words_of k rest) less ∙ ap (λ x. (if is_zero word then [] else word) ++ words_of words x) r
+    ∙ ap (λ x. (if is_zero x then [] else x) ++ words_of words (drop 8 bytes)) w ∙ sym (words_more words bytes)
 
 -- what was read before, and what is read
 abbrev pub behind : List ℕ → Reading (List ℕ) → Reading (List ℕ)

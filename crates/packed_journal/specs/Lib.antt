@@ -1,1 +1,4 @@
 pub mod Words
+pub mod Readings
+pub mod Parts
+pub mod Entries

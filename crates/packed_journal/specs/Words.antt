@@ -1,5 +1,5 @@
 -- The words of a journal: how each is packed into bytes, which fit, and what bytes are read as (own).
-use Rattle.std.specs.Prelude.{ℕ, zero, suc, ◌+◌, ◌-◌, ◌*◌, ◌/◌, ◌%◌, ◌^◌, nat_lt, nat_le, ◌==◌, ℤ, pos, negsuc, Bool, true, false, ◌&&◌, not, List, [], ◌∷◌, ◌++◌, length, take, drop, Option, Some, None, option_map, if◌then◌else◌}
+use Rattle.std.specs.Prelude.{ℕ, zero, suc, ◌+◌, ◌-◌, ◌*◌, ◌/◌, ◌%◌, ◌^◌, nat_lt, nat_le, ◌==◌, ℤ, pos, negsuc, Bool, true, ◌&&◌, List, [], ◌∷◌, ◌++◌, length, take, drop, Option, Some, None, option_map, Result, is_ok, if◌then◌else◌}
 use Rattle.std.specs.List.{list_all}
 use denote.Ref.{Bor}
 
@@ -63,6 +63,10 @@ packed (Bytes bs) = packed_number (length bs) ++ bs
 packed (Packet bs) = mask_of 8 bs ∷ words_of 8 bs
 packed (Flags fs) = bits_of fs ∷ []
 packed (Digest bs) = bs
+
+-- what stands behind some bytes to which a form was to be added: nothing where memory was refused
+abbrev pub appended : {A B : Type 0} → Result A B → List ℕ → List ℕ → List ℕ
+appended made old form = if is_ok made then old ++ form else old
 
 -- ---- what fits
 
@@ -130,10 +134,6 @@ signed_at bytes = and_then (number_at 64 bytes) (λ n rest. Some (signed_of n, r
 -- so many bytes
 abbrev pub split_at : ℕ → List ℕ → Reading (List ℕ)
 split_at n bytes = if nat_le n (length bytes) then Some (take n bytes, drop n bytes) else None
-
--- bytes behind their count
-abbrev pub bytes_at : List ℕ → Reading (List ℕ)
-bytes_at bytes = and_then (number_at 64 bytes) split_at
 
 -- a word that isn't zero
 abbrev pub if_full : List ℕ → List ℕ → Reading (List ℕ)

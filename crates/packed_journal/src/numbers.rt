@@ -1,31 +1,55 @@
 //! Numbers, seven bits a byte, and tags.
 
-ghost use Rattle.std.specs.Prelude.{◌≡◌, ◌++◌, ◌∷◌, ◌≤◌, [], OnOk};
-ghost use Rattle.packed_journal.specs.Words.{number_within, packed_number, zigzag, byte_at, with_low, number_in, within, number_at, signed_of, signed_at, seen};
+ghost use Rattle.std.specs.Prelude.{◌≡◌, ◌++◌, ◌+◌, ◌∷◌, ◌≤◌, [], vec_capacity, vec_len};
+ghost use Rattle.packed_journal.specs.Words.{appended, number_within, packed_number, zigzag, byte_at, with_low, number_in, within, number_at, signed_of, signed_at, seen};
 
 use std::alloc::AllocError;
 
-// Writes a number in at most so many bytes.
-fn write_within(out: &mut Vec<u8>, more: u8, number: u64) -> Result<(), AllocError>
-    ensures { OnOk result (out.new.items ≡ out.old.items ++ number_within more number) }
+// Puts a number in at most so many bytes, for which there is room.
+fn put_within(out: &mut Vec<u8>, more: u8, number: u64)
+    requires { vec_len out.old + more ≤ vec_capacity out.old }
+    ensures items { out.new.items ≡ out.old.items ++ number_within more number }
+    ensures len { vec_len out.new ≤ vec_len out.old + more }
+    ensures capacity { vec_capacity out.new ≡ vec_capacity out.old }
 {
     if more == 0 {
-        return Ok(());
+        return;
     }
     if number < 128 {
-        out.push(number as u8)?;
-        return Ok(());
+        out.push_reserved(number as u8);
+        return;
     }
-    out.push(128 + (number % 128) as u8)?;
-    write_within(out, more - 1, number / 128)?;
-    Ok(())
+    out.push_reserved(128 + (number % 128) as u8);
+    put_within(out, more - 1, number / 128);
 }
 
-/// Writes a number, in as few bytes as it needs.
-pub fn write_number(out: &mut Vec<u8>, number: u64) -> Result<(), AllocError>
-    ensures { OnOk result (out.new.items ≡ out.old.items ++ packed_number number) }
+// Puts a number, for whose ten bytes at most there is room.
+pub(crate) fn put_number(out: &mut Vec<u8>, number: u64)
+    requires { vec_len out.old + 10 ≤ vec_capacity out.old }
+    ensures items { out.new.items ≡ out.old.items ++ packed_number number }
+    ensures len { vec_len out.new ≤ vec_len out.old + 10 }
+    ensures capacity { vec_capacity out.new ≡ vec_capacity out.old }
 {
-    write_within(out, 10, number)
+    put_within(out, 10, number);
+}
+
+// Puts a signed number, for whose ten bytes at most there is room.
+pub(crate) fn put_signed(out: &mut Vec<u8>, value: i64)
+    requires { vec_len out.old + 10 ≤ vec_capacity out.old }
+    ensures items { out.new.items ≡ out.old.items ++ packed_number (zigzag value) }
+    ensures len { vec_len out.new ≤ vec_len out.old + 10 }
+    ensures capacity { vec_capacity out.new ≡ vec_capacity out.old }
+{
+    put_number(out, zigzag(value));
+}
+
+/// Writes a number, in as few bytes as it needs. Where memory is refused nothing changes.
+pub fn write_number(out: &mut Vec<u8>, number: u64) -> Result<(), AllocError>
+    ensures { out.new.items ≡ appended result out.old.items (packed_number number) }
+{
+    out.reserve(10)?;
+    put_number(out, number);
+    Ok(())
 }
 
 // The number that stands for a signed number.
@@ -39,18 +63,19 @@ fn zigzag(value: i64) -> u64
     }
 }
 
-/// Writes a signed number.
+/// Writes a signed number. Where memory is refused nothing changes.
 pub fn write_signed(out: &mut Vec<u8>, value: i64) -> Result<(), AllocError>
-    ensures { OnOk result (out.new.items ≡ out.old.items ++ packed_number (zigzag value)) }
+    ensures { out.new.items ≡ appended result out.old.items (packed_number (zigzag value)) }
 {
     write_number(out, zigzag(value))
 }
 
-/// Writes a tag.
+/// Writes a tag. Where memory is refused nothing changes.
 pub fn write_tag(out: &mut Vec<u8>, tag: u8) -> Result<(), AllocError>
-    ensures { OnOk result (out.new.items ≡ out.old.items ++ tag ∷ []) }
+    ensures { out.new.items ≡ appended result out.old.items (tag ∷ []) }
 {
-    out.push(tag)?;
+    out.reserve(1)?;
+    out.push_reserved(tag);
     Ok(())
 }
 

@@ -1,23 +1,41 @@
 //! Bytes, packets, flags and digests.
 
-ghost use Rattle.std.specs.Prelude.{◌≡◌, ◌++◌, ◌≤◌, ◌<◌, ◌^◌, ◌*◌, [], true, IfOk, IfSome, OnErr, OnOk, is_some, length, if◌then◌else◌, option_map};
-ghost use Rattle.packed_journal.specs.Words.{Bytes, Packet, Flags, packed, and_then, is_zero, mask_of, words_of, bits_of, split_at, bytes_at, if_full, word_at, words_at, packet_at, flags_of, flags_at, digest_at, seen};
+ghost use Rattle.std.specs.Prelude.{◌≡◌, ◌++◌, ◌≤◌, ◌<◌, ◌^◌, ◌*◌, [], IfSome, is_ok, length, take, if◌then◌else◌, option_map};
+ghost use Rattle.packed_journal.specs.Words.{Bytes, Packet, Flags, Digest, appended, packed, and_then, is_zero, mask_of, words_of, bits_of, split_at, if_full, word_at, words_at, packet_at, flags_of, flags_at, digest_at, seen};
 
-use crate::numbers::{byte_at, number_at, write_number};
-use sequences::Sequence;
-use std::alloc::{AllocError, Global};
+use crate::numbers::{byte_at, write_number, write_tag};
+use std::alloc::AllocError;
 
-/// Writes bytes behind their count.
-pub fn write_bytes(out: &mut Vec<u8>, bytes: &[u8]) -> Result<(), AllocError>
-    ensures { OnOk result (out.new.items ≡ out.old.items ++ packed (Bytes bytes.now)) }
+/// Takes what was added back, where memory was refused for what stands behind it.
+pub(crate) fn undone(
+    out: &mut Vec<u8>,
+    before: usize,
+    made: Result<(), AllocError>,
+) -> Result<(), AllocError>
+    ensures items { out.new.items ≡ (if is_ok result then out.old.items else take before out.old.items) }
+    ensures made { result ≡ made }
 {
-    write_number(out, bytes.len() as u64)?;
-    out.extend_from_slice(bytes)?;
-    Ok(())
+    match made {
+        Ok(()) => Ok(()),
+        Err(why) => {
+            out.truncate(before);
+            Err(why)
+        }
+    }
 }
 
-// So many bytes.
-fn split_at(count: u64, bytes: &[u8]) -> Option<(&[u8], &[u8])>
+/// Writes bytes behind their count. Where memory is refused nothing changes.
+pub fn write_bytes(out: &mut Vec<u8>, bytes: &[u8]) -> Result<(), AllocError>
+    ensures { out.new.items ≡ appended result out.old.items (packed (Bytes bytes.now)) }
+{
+    let before = out.len();
+    write_number(out, bytes.len() as u64)?;
+    let made = out.extend_from_slice(bytes);
+    undone(out, before, made)
+}
+
+/// So many bytes.
+pub(crate) fn split_at(count: u64, bytes: &[u8]) -> Option<(&[u8], &[u8])>
     ensures read { option_map (λ read. (read.0.now, read.1.now)) result ≡ split_at count bytes.now }
     ensures count { IfSome result (λ read. length read.0.now ≡ count) }
 {
@@ -26,20 +44,6 @@ fn split_at(count: u64, bytes: &[u8]) -> Option<(&[u8], &[u8])>
     } else {
         None
     }
-}
-
-/// Bytes behind their count. Memory is wanted only for bytes that are there.
-pub fn bytes_at(alloc: Global, bytes: &[u8]) -> Result<Option<(Sequence<u8>, &[u8])>, AllocError>
-    ensures read { IfOk result (λ read. seen read ≡ bytes_at bytes.now) }
-    ensures memory { OnErr result (is_some (bytes_at bytes.now) ≡ true) }
-{
-    let Some((count, rest)) = number_at(bytes) else {
-        return Ok(None);
-    };
-    let Some((read, rest)) = split_at(count, rest) else {
-        return Ok(None);
-    };
-    Ok(Some((Sequence::from_vec(Vec::from_slice(alloc, read)?), rest)))
 }
 
 // Whether all bytes of a word are zero.
@@ -73,34 +77,37 @@ fn mask_of(words: u8, bytes: &[u8]) -> u64
 
 // Writes a word of a packet, if it isn't zero.
 fn write_word(out: &mut Vec<u8>, word: &[u8]) -> Result<(), AllocError>
-    ensures { OnOk result (out.new.items ≡ out.old.items ++ (if is_zero word.now then [] else word.now)) }
+    ensures { out.new.items ≡ appended result out.old.items (if is_zero word.now then [] else word.now) }
 {
-    if !is_zero(word) {
-        out.extend_from_slice(word)?;
+    if is_zero(word) {
+        return Ok(());
     }
-    Ok(())
+    out.extend_from_slice(word)
 }
 
 // Writes those of so many words of a packet that aren't zero.
 fn write_words(out: &mut Vec<u8>, words: u8, bytes: &[u8]) -> Result<(), AllocError>
     requires { length bytes.now ≡ 8 * words }
-    ensures { OnOk result (out.new.items ≡ out.old.items ++ words_of words bytes.now) }
+    ensures { out.new.items ≡ appended result out.old.items (words_of words bytes.now) }
 {
     if words == 0 {
         return Ok(());
     }
+    let before = out.len();
     let (word, rest) = bytes.split_at(8);
     write_word(out, word)?;
-    write_words(out, words - 1, rest)?;
-    Ok(())
+    let made = write_words(out, words - 1, rest);
+    undone(out, before, made)
 }
 
-/// Writes a packet: which of its words aren't zero, and these.
+/// Writes a packet: which of its words aren't zero, and these. Where memory is refused nothing changes.
 pub fn write_packet(out: &mut Vec<u8>, bytes: &[u8; 64]) -> Result<(), AllocError>
-    ensures { OnOk result (out.new.items ≡ out.old.items ++ packed (Packet bytes.now)) }
+    ensures { out.new.items ≡ appended result out.old.items (packed (Packet bytes.now)) }
 {
-    out.push(mask_of(8, bytes) as u8)?;
-    write_words(out, 8, bytes)
+    let before = out.len();
+    write_tag(out, mask_of(8, bytes) as u8)?;
+    let made = write_words(out, 8, bytes);
+    undone(out, before, made)
 }
 
 // A word that isn't zero.
@@ -213,10 +220,16 @@ fn bits_of(flags: &[bool; 5]) -> u8
     bit(first) + 2 * (bit(second) + 2 * (bit(third) + 2 * (bit(fourth) + 2 * bit(fifth))))
 }
 
-/// Writes five flags.
+/// Writes five flags. Where memory is refused nothing changes.
 pub fn write_flags(out: &mut Vec<u8>, flags: &[bool; 5]) -> Result<(), AllocError>
-    ensures { OnOk result (out.new.items ≡ out.old.items ++ packed (Flags flags.now)) }
+    ensures { out.new.items ≡ appended result out.old.items (packed (Flags flags.now)) }
 {
-    out.push(bits_of(flags))?;
-    Ok(())
+    write_tag(out, bits_of(flags))
+}
+
+/// Writes a digest's 32 bytes. Where memory is refused nothing changes.
+pub fn write_digest(out: &mut Vec<u8>, digest: &[u8; 32]) -> Result<(), AllocError>
+    ensures { out.new.items ≡ appended result out.old.items (packed (Digest digest.now)) }
+{
+    out.extend_from_slice(digest)
 }

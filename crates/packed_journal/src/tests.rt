@@ -1,8 +1,9 @@
 //! Words as bytes, written by hand from the form's definition.
 
 use crate::{
-    byte_at, bytes_at, digest_at, flags_at, number_at, packet_at, signed_at, small_at, tiny_at,
-    write_bytes, write_flags, write_number, write_packet, write_signed, write_tag,
+    Unread, read_bytes, read_digest, read_flags, read_number, read_packet, read_signed, read_small,
+    read_tag, read_tiny, write_bytes, write_digest, write_flags, write_number, write_packet,
+    write_signed, write_tag,
 };
 use std::alloc::{AllocError, Global};
 use std::test::*;
@@ -48,39 +49,27 @@ fn written(alloc: Global) -> Result<Vec<u8>, AllocError> {
 }
 
 // Whether the words are read as what they tell.
-fn are_read(alloc: Global, bytes: &[u8]) -> Result<bool, AllocError> {
-    let Some((tag, rest)) = byte_at(bytes) else {
-        return Ok(false);
-    };
-    let Some((number, rest)) = number_at(rest) else {
-        return Ok(false);
-    };
-    let Some((signed, rest)) = signed_at(rest) else {
-        return Ok(false);
-    };
-    let Some((read, rest)) = bytes_at(alloc, rest)? else {
-        return Ok(false);
-    };
+fn are_read(bytes: &[u8]) -> Result<bool, Unread> {
+    let (tag, rest) = read_tag(bytes)?;
+    let (number, rest) = read_number(rest)?;
+    let (signed, rest) = read_signed(rest)?;
+    let (read, rest) = read_bytes(rest)?;
     let numbers = tag == 8 && number == 300 && signed == -2;
-    Ok(numbers && read.as_slice() == [90].as_slice() && are_last(rest))
+    Ok(numbers && read == [90].as_slice() && are_last(rest)?)
 }
 
 // Whether the packet and the flags are read.
-fn are_last(bytes: &[u8]) -> bool {
+fn are_last(bytes: &[u8]) -> Result<bool, Unread> {
     let wanted = packet();
-    match packet_at(bytes) {
-        Some(read) => read.0 == wanted && are_flags(read.1),
-        None => false,
-    }
+    let read = read_packet(bytes)?;
+    Ok(read.0 == wanted && are_flags(read.1)?)
 }
 
 // Whether the flags are read, and nothing stands behind them.
-fn are_flags(bytes: &[u8]) -> bool {
+fn are_flags(bytes: &[u8]) -> Result<bool, Unread> {
     let wanted = [false, true, false, false, true];
-    match flags_at(bytes) {
-        Some(read) => read.0 == wanted && read.1.is_empty(),
-        None => false,
-    }
+    let read = read_flags(bytes)?;
+    Ok(read.0 == wanted && read.1.is_empty())
 }
 
 #[test]
@@ -89,22 +78,55 @@ fn words_are_written_as_by_hand(rt: HostRuntime) -> Result<(), Fail> {
     Ok(())
 }
 
+// A digest, written.
+fn written_digest(alloc: Global) -> Result<Vec<u8>, AllocError> {
+    let mut out = Vec::new(alloc);
+    write_digest(&mut out, &[7; 32])?;
+    Ok(out)
+}
+
+#[test]
+fn a_digest_is_written_as_it_is(rt: HostRuntime) -> Result<(), Fail> {
+    assert!(rt; written_digest(rt.alloc())?.as_slice() == [7; 32].as_slice());
+    Ok(())
+}
+
 #[test]
 fn words_are_read_as_by_hand(rt: HostRuntime) -> Result<(), Fail> {
-    assert!(rt; are_read(rt.alloc(), &WORDS)?);
-    assert!(rt; small_at(&[172, 2]).is_some());
-    assert!(rt; tiny_at(&[63]).is_some());
-    assert!(rt; digest_at(&[7; 32]).is_some());
+    assert!(rt; are_read(&WORDS) == Ok(true));
+    assert!(rt; read_small(&[172, 2]).is_ok());
+    assert!(rt; read_tiny(&[63]).is_ok());
+    assert!(rt; read_digest(&[7; 32]).is_ok());
     Ok(())
 }
 
 #[test]
 fn other_bytes_are_refused(rt: HostRuntime) -> Result<(), Fail> {
-    assert!(rt; number_at(&LONG).is_none());
-    assert!(rt; number_at(&LARGE).is_none());
-    assert!(rt; tiny_at(&RIGHTS).is_none());
-    assert!(rt; packet_at(&ZERO).is_none());
-    assert!(rt; flags_at(&FLAGS).is_none());
-    assert!(rt; bytes_at(rt.alloc(), &SHORT)?.is_none());
+    assert!(rt; is_wrong(read_number(&LONG).err(), 2));
+    assert!(rt; is_wrong(read_number(&LARGE).err(), 10));
+    assert!(rt; is_wrong(read_tiny(&RIGHTS).err(), 1));
+    assert!(rt; is_wrong(read_packet(&ZERO).err(), 9));
+    assert!(rt; is_wrong(read_flags(&FLAGS).err(), 1));
     Ok(())
+}
+
+#[test]
+fn bytes_that_end_are_told(rt: HostRuntime) -> Result<(), Fail> {
+    assert!(rt; has_ended(read_tag(&[]).err()));
+    assert!(rt; has_ended(read_number(&[172]).err()));
+    assert!(rt; has_ended(read_bytes(&SHORT).err()));
+    assert!(rt; has_ended(read_packet(&[129, 7]).err()));
+    assert!(rt; has_ended(read_flags(&[]).err()));
+    assert!(rt; has_ended(read_digest(&[7; 31]).err()));
+    Ok(())
+}
+
+// Whether a word wasn't read, of which so many bytes are left.
+fn is_wrong(told: Option<Unread>, left: u64) -> bool {
+    told == Some(Unread::Wrong(left))
+}
+
+// Whether bytes ended within a word.
+fn has_ended(told: Option<Unread>) -> bool {
+    told == Some(Unread::Ended)
 }

@@ -1,6 +1,7 @@
-use Rattle.packed_journal.specs.Words.{Bytes, Flags, Packet, bytes_at, flags_at, number_at, packed, packed_number, packet_at, signed_at, zigzag}
+use Rattle.packed_journal.specs.Words.{Flags, Packet, flags_at, number_at, packed, packed_number, packet_at, signed_at, zigzag}
 use Rattle.packed_journal.proofs.NumberLaws.{number_tells, signed_tells}
-use Rattle.packed_journal.proofs.PartLaws.{bytes_tells, digest_told, flags_tells, packet_tells}
+use Rattle.packed_journal.proofs.PartLaws.{digest_told, flags_tells, packet_tells}
+use Rattle.packed_journal.proofs.Forms.{bytes_told}
 use Rattle.packed_journal.proofs.Tells.{told}
 use Rattle.packed_journal.proofs.laws.law_read_words_are_written.Goals as goal
 
@@ -11,7 +12,7 @@ pub returns-clause-signed : goal.returns-clause-signed
 returns-clause-signed c z bytes rest e = told (λ z. packed_number (zigzag z)) bytes (signed_at bytes) z rest (signed_tells bytes) e
 
 pub returns-clause-bytes : goal.returns-clause-bytes
-returns-clause-bytes c read bytes rest e = told (λ read. packed (Bytes read)) bytes (bytes_at bytes) read rest (bytes_tells bytes) e
+returns-clause-bytes c read bytes rest e = bytes_told read bytes rest e
 
 pub returns-clause-packet : goal.returns-clause-packet
 returns-clause-packet c read bytes rest e = told (λ read. packed (Packet read)) bytes (packet_at bytes) read rest (packet_tells bytes) e

@@ -1,5 +1,6 @@
 use Rattle.packed_journal.proofs.NumberLaws.{number_read, signed_read}
-use Rattle.packed_journal.proofs.PartLaws.{bytes_read, packet_read, flags_read, digest_read}
+use Rattle.packed_journal.proofs.PartLaws.{packet_read, flags_read, digest_read}
+use Rattle.packed_journal.proofs.Forms.{bytes_back}
 use Rattle.packed_journal.proofs.laws.law_written_words_are_read.Goals as goal
 
 pub returns-clause-number : goal.returns-clause-number
@@ -9,7 +10,7 @@ pub returns-clause-signed : goal.returns-clause-signed
 returns-clause-signed c z rest f = signed_read z rest f
 
 pub returns-clause-bytes : goal.returns-clause-bytes
-returns-clause-bytes c bytes rest f = bytes_read bytes rest f
+returns-clause-bytes c bytes rest f = bytes_back bytes rest f
 
 pub returns-clause-packet : goal.returns-clause-packet
 returns-clause-packet c bytes rest f = packet_read bytes rest f

@@ -1,5 +1,5 @@
 use Rattle.std.proofs.Common.{◌≡◌, ◌-◌, Some, None, refl, sym, ap, ◌∙◌, arith}
-use Rattle.packed_journal.specs.Words.{byte_at, number_in, with_low, seen}
+use Rattle.packed_journal.specs.Words.{number_in, with_low, seen}
 use Rattle.packed_journal.proofs.Written.{read_none, read_end, read_last, read_more}
 use Rattle.packed_journal.proofs.numbers.+number_in.Goals as goal
 

@@ -1,0 +1,6 @@
+use Rattle.std.proofs.Common.{arith}
+use Rattle.packed_journal.proofs.Ranges.{number_in_range}
+use Rattle.packed_journal.proofs.fitting.number_fits.Goals as goal
+
+pub returns : goal.returns
+returns c = number_in_range 64 c.args._number c.ranges._number.fits (omega (arith, c.ranges._number.fits))

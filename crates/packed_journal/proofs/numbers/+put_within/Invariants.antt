@@ -1,0 +1,4 @@
+use Rattle.packed_journal.proofs.numbers.+put_within.Given as goal
+
+abbrev pub decreases-put_within : goal.decreases-put_within
+decreases-put_within l = l.more

@@ -1,4 +1,0 @@
-use Rattle.packed_journal.proofs.numbers.+write_within.Given as goal
-
-abbrev pub decreases-write_within : goal.decreases-write_within
-decreases-write_within l = l.more
