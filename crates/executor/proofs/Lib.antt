@@ -15,6 +15,7 @@ mod GroupEnds
 mod ReadBytes
 mod WordLemmas
 mod MaskLemmas
+mod ChunkLemmas
 mod RightRuns
 mod Layers
 mod LockLemmas

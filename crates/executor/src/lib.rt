@@ -43,7 +43,6 @@ mod view;
 mod word;
 mod written;
 mod written_range;
-mod written_region;
 
 pub use dispatch::Dispatch;
 pub use fault::{ItemFault, RunFault};
