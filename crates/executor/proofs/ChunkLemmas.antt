@@ -1,22 +1,22 @@
 -- Chunks of pages, and chunks by ascending number.
-use Rattle.std.proofs.Common.{◌≡◌, ◌≢◌, ℕ, zero, suc, ◌+◌, ◌-◌, ◌*◌, ◌/◌, ◌%◌, ◌^◌, ◌<◌, ◌≤◌, ◌⊎◌, inl, inr, Bool, true, false, List, [], ◌∷◌, ◌++◌, length, take, drop, get_or, slice_set, refl, sym, ap, ◌∙◌, arith, subst, Option, Some, None}
+use Rattle.std.proofs.Common.{◌≡◌, ◌≢◌, ℕ, zero, suc, ◌+◌, ◌-◌, ◌*◌, ◌/◌, ◌%◌, ◌^◌, ◌<◌, ◌≤◌, ◌⊎◌, inl, inr, Bool, true, false, List, [], ◌∷◌, ◌++◌, length, get_or, slice_set, refl, sym, ap, ◌∙◌, arith, subst, Option, Some, None}
 use Rattle.std.specs.Prelude.{◌==◌, if◌then◌else◌, min, max}
 use Rattle.std.specs.List.{insert}
 use Rattle.std.specs.List.Sorted.{IsNonDecreasingBy, IsPartitionPoint}
 use Rattle.std.specs.Option.{option_and_then}
 use Rattle.std.proofs.lemmas.Bool.{cases_lt}
 use Rattle.std.proofs.lemmas.Bool.Decides.{nat_tests}
-use Rattle.std.proofs.lemmas.Grind.{common_steps}
 use Rattle.std.proofs.Common.{length-append, ltb, ltb-true, ltb-false}
 use Rattle.executor.specs.declared.page.Page.{Page}
 use Rattle.executor.specs.declared.written_range.WrittenRange.{WrittenRange}
-use Rattle.executor.specs.inner.Pages.{ChunkSeen, IsChunk, page_byte, page_at, page_of, chunk_byte, chunk_of, byte_at, unplaced, number_at, Rises, StandsAt, PlaceOf, Parts, IsWritten, in_blocks}
+use Rattle.executor.specs.inner.Pages.{ChunkSeen, IsChunk, page_byte, page_at, page_of, chunk_byte, chunk_of, byte_at, unplaced, number_at, Rises, StandsAt, PlaceOf, Parts, IsWritten}
 use Rattle.byteorder.specs.Endian.{little_number}
-use Rattle.executor.specs.Written.{laid, seen}
+use Rattle.executor.specs.Written.{laid, seen, AreRuns}
+use Rattle.executor.specs.Told.{runs_of}
 use Rattle.executor.specs.inner.Told.{Told, Gathers}
 use Rattle.executor.specs.inner.Words.{laid_if, or_below, seen_number}
 use Rattle.executor.proofs.Maps.{size_64, size_chunk, at_known, at_unknown, laid_same, seen_block, seen_no_block, level_stored}
-use Rattle.executor.proofs.RunLemmas.{told_at, told_skipped, gathers_none, gathers_gap, gathers_block}
+use Rattle.executor.proofs.RunLemmas.{told_all, told_at, told_nothing, told_runs, told_skipped, gathers_none, gathers_gap, gathers_block}
 use Rattle.executor.proofs.WordLemmas.{level_read, level_unread, level_overwritten}
 
 -- ---- lists
@@ -41,10 +41,6 @@ get_or_left : {X : Type 0} (xs ys : List X) (i : ℕ) (d : X) → i < length xs 
 get_or_left [] ys i d h = absurd (omega arith)
 get_or_left (x ∷ xs) ys zero d h = refl
 get_or_left (x ∷ xs) ys (suc i) d h = get_or_left xs ys i d (omega arith)
-
-get_or_last : {X : Type 0} (xs : List X) (y d : X) → get_or (xs ++ y ∷ []) (length xs) d ≡ y
-get_or_last [] y d = refl
-get_or_last (x ∷ xs) y d = get_or_last xs y d
 
 -- what a number is beside another
 by_equal : {P : Type 0} (a b : ℕ) → (a ≡ b → P) → (a ≢ b → P) → P
@@ -104,22 +100,6 @@ abbrev pub with_page : ChunkSeen → ℕ → Page → ChunkSeen
 with_page chunk place page = record { number = chunk.number; first = chunk.first; end = chunk.end; places = chunk.places; pages = slice_set chunk.pages place page }
 
 module _ (chunk : ChunkSeen) (is : IsChunk chunk) (index : ℕ) (page : Page) (own : 0 < get_or chunk.places index 0) where
-  pub chunk_kept : IsChunk (with_page chunk (get_or chunk.places index 0) page)
-  chunk_kept =
-      let same : length (slice_set chunk.pages (get_or chunk.places index 0) page) ≡ length chunk.pages = length_set chunk.pages (get_or chunk.places index 0) page in
-      record {
-        long = is.long;
-        count = ap (λ n. n + unplaced chunk.places) same ∙ is.count;
-        some = omega (arith, same, is.some);
-        empty = λ x. ap (λ p. page_byte p x) (get_or_set_other chunk.pages (get_or chunk.places index 0) 0 page _ (λ e. absurd (omega arith))) ∙ is.empty x;
-        within = λ i. omega (arith, same, is.within i);
-        apart = is.apart;
-        before = is.before;
-        behind = is.behind;
-        first_in = is.first_in;
-        end_in = is.end_in;
-      }
-
   pub page_changed : page_of (with_page chunk (get_or chunk.places index 0) page) index ≡ Some page
   page_changed = ap Some (get_or_set_same chunk.pages (get_or chunk.places index 0) page _ (is.within index))
 
@@ -139,9 +119,6 @@ module _ (chunk : ChunkSeen) (is : IsChunk chunk) (index : ℕ) (page : Page) (i
 
   there : (n : ℕ) → n ≢ index → get_or (slice_set chunk.places index (length chunk.pages)) n 0 ≡ get_or chunk.places n 0
   there n other = get_or_set_other chunk.places index n (length chunk.pages) 0 other
-
-  pub count_new : length chunk.pages < 2 ^ 8
-  count_new = omega (arith, is.count)
 
   pub chunk_new : IsChunk (with_new chunk index page)
   chunk_new =
@@ -172,24 +149,9 @@ module _ (chunk : ChunkSeen) (is : IsChunk chunk) (index : ℕ) (page : Page) (i
         end_in = omega (arith, is.end_in);
       }
 
-  pub bytes_new : (x : ℕ) → chunk_byte (with_new chunk index page) x ≡ chunk_byte chunk x
-  bytes_new x = by_equal (x / 64) index
-      (λ e.
-      let at : get_or (slice_set chunk.places index (length chunk.pages)) (x / 64) 0 ≡ length chunk.pages = ap (λ n. get_or (slice_set chunk.places index (length chunk.pages)) n 0) e ∙ here in
-      let old : get_or chunk.places (x / 64) 0 ≡ 0 = ap (λ n. get_or chunk.places n 0) e ∙ unknown in
-      ap (λ n. page_byte (page_at (chunk.pages ++ page ∷ []) n) (x % 64)) at
-      ∙ (ap (λ p. page_byte p (x % 64)) (get_or_last chunk.pages page _)
-      ∙ (empty (x % 64) ∙ sym (ap (λ n. page_byte (page_at chunk.pages n) (x % 64)) old ∙ is.empty (x % 64)))))
-      (λ other.
-      ap (λ n. page_byte (page_at (chunk.pages ++ page ∷ []) n) (x % 64)) (there (x / 64) other)
-      ∙ ap (λ p. page_byte p (x % 64)) (get_or_left chunk.pages (page ∷ []) (get_or chunk.places (x / 64) 0) _ (is.within (x / 64))))
-
   module _ (first end place : ℕ) (pages : List Page) (is_first : first ≡ min chunk.first index) (is_end : end ≡ max chunk.end (index + 1)) (is_place : place ≡ length chunk.pages) (are : pages ≡ chunk.pages ++ page ∷ []) where
     pub chunk_made : IsChunk (record { number = chunk.number; first = first; end = end; places = slice_set chunk.places index place; pages = pages })
     chunk_made = rw (is_first, is_end, is_place, are) chunk_new
-
-    pub bytes_made : (x : ℕ) → chunk_byte (record { number = chunk.number; first = first; end = end; places = slice_set chunk.places index place; pages = pages }) x ≡ chunk_byte chunk x
-    bytes_made x = rw (is_place, are) (bytes_new x)
 
 -- where no page was made nothing is written
 pub unplaced_byte : (chunk : ChunkSeen) → IsChunk chunk → (x : ℕ) → get_or chunk.places (x / 64) 0 ≡ 0 → chunk_byte chunk x ≡ None
@@ -281,9 +243,6 @@ module _ (chunks : List ChunkSeen) (last last_number begin limit place : ℕ) (o
     );
   }
 
-  pub old_found : (number : ℕ) → number_at chunks place ≡ number → chunk_of chunks number ≡ Some old
-  old_found number e = standing 0 limit chunks place number old is.rises (inside, e) was
-
   pub new_found : (number : ℕ) → number_at chunks place ≡ number → chunk_of (slice_set chunks place new) number ≡ Some new
   new_found number e =
       standing 0 limit (slice_set chunks place new) place number new written_set.rises
@@ -354,12 +313,28 @@ module _ (chunks : List ChunkSeen) (last last_number begin limit number place : 
       ∙ (empty (x % 2 ^ 13) ∙ sym (at_unknown chunk_byte (2 ^ 13) size_chunk (chunk_of chunks) x (ap (chunk_of chunks) e ∙ missing chunks number none))))
       (λ other. ap (option_and_then (λ c. chunk_byte c (x % 2 ^ 13))) (others_in chunks place (x / 2 ^ 13) new (λ e. other (e ∙ named))))
 
+module _ (value chunks : List ChunkSeen) (view : chunks ≡ value) (last last_number begin limit number place : ℕ) (new : ChunkSeen) (is : IsWritten chunks last last_number begin limit) (few : number < 2 ^ 51)
+    (parts : Parts value number place) (none : PlaceOf value number None) (named : new.number ≡ number) (items : List ChunkSeen) (are : items ≡ insert chunks place new) where
+  parts_before : Parts chunks number place
+  parts_before = subst (λ v. Parts v number place) (sym view) parts
+
+  none_before : PlaceOf chunks number None
+  none_before = subst (λ v. PlaceOf v number None) (sym view) none
+
+  pub made_kept : (first behind : ℕ) → first ≡ min begin number → behind ≡ max limit (number + 1) → IsWritten items place number first behind
+  made_kept first behind a b = rw (are, a, b) (written_in chunks last last_number begin limit number place new is few parts_before none_before named)
+
+  pub made_bytes : ((x : ℕ) → chunk_byte new x ≡ None) → (x : ℕ) → byte_at items x ≡ byte_at value x
+  made_bytes empty x =
+      ap (λ v. byte_at v x) are
+      ∙ (bytes_in chunks last last_number begin limit number place new is few parts_before none_before named empty x ∙ ap (λ v. byte_at v x) view)
+
+  pub made_stands : StandsAt items place number
+  made_stands = subst (λ v. StandsAt v place number) (sym are) (stands_in chunks last last_number begin limit number place new is few parts_before none_before named)
+
 -- ---- where a chunk stands
 pub place_past : (chunks : List ChunkSeen) (last last_number begin limit number : ℕ) → IsWritten chunks last last_number begin limit → limit ≤ number → PlaceOf chunks number None
 place_past chunks last last_number begin limit number is past = λ k h e. absurd (omega (arith, rises_below 0 limit chunks k is.rises h, e))
-
-pub place_before : (chunks : List ChunkSeen) (last last_number begin limit number : ℕ) → IsWritten chunks last last_number begin limit → number < begin → PlaceOf chunks number None
-place_before chunks last last_number begin limit number is before = λ k h e. absurd (omega (arith, is.begins k h, e))
 
 pub place_missed : (chunks : List ChunkSeen) (last last_number begin limit number place : ℕ) → IsWritten chunks last last_number begin limit → Parts chunks number place
     → (place < length chunks → number_at chunks place ≢ number) → PlaceOf chunks number None
@@ -395,32 +370,12 @@ parts_of chunks number place le point = record {
 }
 
 module _ (value chunks : List ChunkSeen) (view : chunks ≡ value) (last last_number begin limit : ℕ) (is : IsWritten chunks last last_number begin limit) (number : ℕ) where
-  pub place_last : number ≡ last_number → number < 2 ^ 51 → PlaceOf value number (Some last)
-  place_last e small =
-      subst (λ v. StandsAt v last number) view (subst (λ n. StandsAt chunks last n) (sym e) (is.last_is (omega (arith, e))))
-
-  pub place_less : number < begin → PlaceOf value number None
-  place_less less = subst (λ v. PlaceOf v number None) view (place_before chunks last last_number begin limit number is less)
-
   pub place_more : limit ≤ number → PlaceOf value number None
   place_more more = subst (λ v. PlaceOf v number None) view (place_past chunks last last_number begin limit number is more)
-
-  pub written_at : (known : ℕ) → StandsAt value known number → IsWritten chunks known number begin limit
-  written_at known stands = record {
-    rises = is.rises;
-    begins = is.begins;
-    few = is.few;
-    last_is = λ small. subst (λ v. StandsAt v known number) (sym view) stands;
-  }
 
   module _ (place : ℕ) (parts : Parts value number place) where
     parts_here : Parts chunks number place
     parts_here = subst (λ v. Parts v number place) (sym view) parts
-
-    pub missed_end : length chunks ≤ place → PlaceOf value number None
-    missed_end done =
-        subst (λ v. PlaceOf v number None) view
-        (place_missed chunks last last_number begin limit number place is parts_here (λ h e. absurd (omega arith)))
 
     module _ (chunk : ChunkSeen) (was : chunk ≡ get_or chunks place chunk) (inside : place < length chunks) where
       pub missed_other : chunk.number ≢ number → PlaceOf value number None
@@ -430,10 +385,6 @@ module _ (value chunks : List ChunkSeen) (view : chunks ≡ value) (last last_nu
 
       pub found_here : chunk.number ≡ number → PlaceOf value number (Some place)
       found_here e = subst (λ v. StandsAt v place number) view (inside, number_got chunks place chunk was inside ∙ e)
-
-pub written_none : (chunks : List ChunkSeen) → chunks ≡ [] → IsWritten chunks 0 (2 ^ 64 - 1) (2 ^ 64 - 1) 0
-written_none [] is = record { rises = omega arith; begins = λ k h. absurd (omega arith); few = omega arith; last_is = λ small. absurd (omega arith) }
-written_none (c ∷ chunks) is = absurd (omega (arith, ap length is))
 
 -- ---- runs
 -- the number behind that of the chunk before a place
@@ -504,6 +455,34 @@ nothing_behind chunks limit place rise done x p =
 pub floor_few : (chunks : List ChunkSeen) (limit place : ℕ) → Rises 0 limit chunks → limit ≤ 2 ^ 51 → floor_of 0 chunks place * 2 ^ 13 ≤ 2 ^ 64
 floor_few chunks limit place rise few = omega (arith, (floor_within 0 limit chunks place rise).1, few)
 
+module _ (value chunks : List ChunkSeen) (view : chunks ≡ value) (last last_number begin limit : ℕ) (is : IsWritten chunks last last_number begin limit) where
+  rise_here : Rises 0 limit value
+  rise_here = subst (λ v. Rises 0 limit v) view is.rises
+
+  module _ (place : ℕ) (chunk : ChunkSeen) (inside : place < length value) (was : chunk ≡ get_or chunks place chunk) where
+    pub number_few : chunk.number < 2 ^ 51
+    number_few =
+        let here : place < length chunks = omega (arith, inside, ap length view) in
+        omega (arith, rises_below 0 limit chunks place is.rises here, number_got chunks place chunk was here, is.few)
+
+    -- the runs of one chunk more
+    pub told_more : (number : ℕ) (before new : List WrittenRange) → number ≡ chunk.number → Told (byte_at value) (floor_of 0 value place * 2 ^ 13) before
+        → Gathers (number * 2 ^ 13) (2 ^ 13) (chunk_byte chunk) (2 ^ 13) before new → Told (byte_at value) (floor_of 0 value (place + 1) * 2 ^ 13) new
+    told_more number before new e told gathers =
+        told_chunk value limit place chunk before new rise_here inside (was ∙ ap (λ xs. get_or xs place chunk) view) told
+        (subst (λ n. Gathers (n * 2 ^ 13) (2 ^ 13) (chunk_byte chunk) (2 ^ 13) before new) e gathers)
+
+  -- the runs of all chunks
+  module _ (place : ℕ) (runs : List WrittenRange) (done : length value ≤ place) (told : Told (byte_at value) (floor_of 0 value place * 2 ^ 13) runs) where
+    pub all_told : AreRuns (byte_at value) runs
+    all_told = told_runs (byte_at value) (floor_of 0 value place * 2 ^ 13) runs told (nothing_behind value limit place rise_here done)
+
+    pub all_value : runs ≡ runs_of (byte_at value)
+    all_value = told_all (byte_at value) (floor_of 0 value place * 2 ^ 13) runs (floor_few value limit place rise_here is.few) (nothing_behind value limit place rise_here done) told
+
+pub told_begun : (chunks : List ChunkSeen) → Told (byte_at chunks) (floor_of 0 chunks 0 * 2 ^ 13) []
+told_begun chunks = subst (λ n. Told (byte_at chunks) (n * 2 ^ 13) []) (sym (floor_first 0 chunks)) (told_nothing (byte_at chunks))
+
 -- ---- what is read of one chunk
 got : {X : Type 0} (xs : List X) (i : ℕ) (x d : X) → x ≡ get_or xs i x → i < length xs → get_or xs i d ≡ x
 got [] i x d is h = absurd (omega arith)
@@ -536,9 +515,6 @@ module _ (value chunk : ChunkSeen) (view : chunk ≡ value) (is : IsChunk chunk)
 module _ (value chunk : ChunkSeen) (view : chunk ≡ value) (is : IsChunk chunk) (a place : ℕ) (named : get_or value.places (a / 64) 0 ≡ place) (own : 0 < place) (new : Page) where
   page_stands : get_or chunk.places (a / 64) 0 ≡ place
   page_stands = ap (λ v. get_or v.places (a / 64) 0) view ∙ named
-
-  pub chunk_stays : IsChunk (with_page chunk place new)
-  chunk_stays = subst (λ p. IsChunk (with_page chunk p new)) page_stands (chunk_kept chunk is (a / 64) new (subst (λ p. 0 < p) (sym page_stands) own))
 
   pub chunk_stored : (before : ChunkSeen) → ((x : ℕ) → chunk_byte value x ≡ chunk_byte before x) → (old : Page) → old ≡ get_or chunk.pages place old
       → (bytes : List ℕ) → a % 64 + length bytes ≤ 64 → ((y : ℕ) → page_byte new y ≡ laid (page_byte old) (a % 64) bytes y)
@@ -589,6 +565,9 @@ module _ (value chunks : List ChunkSeen) (view : chunks ≡ value) (last last_nu
         subst (λ v. new ≡ seen (byte_at v) a old) view (change ∙ seen_block chunk_byte (2 ^ 13) size_chunk (chunk_of chunks) a chunk old (omega arith) chunk_known)
 
     module _ (new : ChunkSeen) (same : new.number ≡ chunk.number) where
+      pub written_whole : IsWritten (slice_set chunks place new) last last_number begin limit
+      written_whole = written_set chunks last last_number begin limit place chunk new is stands_here.0 was same
+
       pub written_over : (low : List ℕ) (done : Bool) → a % 64 + length low ≤ 64 → ((y : ℕ) → chunk_byte new y ≡ laid_if done (chunk_byte chunk) (a % 2 ^ 13) low y)
           → (x : ℕ) → byte_at (slice_set chunks place new) x ≡ laid_if done (byte_at value) a low x
       written_over low done fits change x =

@@ -144,15 +144,6 @@ part_all at a (suc i) [] h = refl
 part_all at a zero (x ∷ old) h = absurd (omega arith)
 part_all at a (suc i) (x ∷ old) h = ap (λ v. unwrap_or (at a) x ∷ v) (part_all at (a + 1) i old (omega arith))
 
-pub length_part : (at : ℕ → Option ℕ) (a i : ℕ) (old : List ℕ) → length (seen_part at a i old) ≡ length old
-length_part at a zero old = refl
-length_part at a (suc i) [] = refl
-length_part at a (suc i) (x ∷ old) = ap suc (length_part at (a + 1) i old)
-
-pub length_seen : (at : ℕ → Option ℕ) (a : ℕ) (old : List ℕ) → length (seen at a old) ≡ length old
-length_seen at a [] = refl
-length_seen at a (x ∷ old) = ap suc (length_seen at (a + 1) old)
-
 pub seen_append : (at : ℕ → Option ℕ) (a b : ℕ) (xs ys : List ℕ) → b ≡ a + length xs → seen at a xs ++ seen at b ys ≡ seen at a (xs ++ ys)
 seen_append at a b [] ys is = let e : b ≡ a = omega arith in ap (λ p. seen at p ys) e
 seen_append at a b (x ∷ xs) ys is = ap (λ v. unwrap_or (at a) x ∷ v) (seen_append at (a + 1) b xs ys (omega arith))

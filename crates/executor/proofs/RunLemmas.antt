@@ -13,7 +13,7 @@ use Rattle.executor.specs.declared.written_range.WrittenRange.{WrittenRange}
 use Rattle.executor.specs.Written.{laid, all_laid, end_of, nothing, AreRuns}
 use Rattle.executor.specs.inner.Pages.{in_blocks}
 use Rattle.executor.specs.Told.{noted, runs_below, runs_of, with_byte}
-use Rattle.executor.specs.inner.Told.{adjoins_last, noted_all, Ascends, Follows, Told, Agrees, Gathers}
+use Rattle.executor.specs.inner.Told.{adjoins_last, noted_all, Ascends, Follows, Told, Gathers}
 use Rattle.executor.proofs.OnlyRuns.{only_runs}
 use Rattle.executor.proofs.Maps.{laid_inside, laid_below, laid_past, laid_same, laid_twice, by_range, at_known, IsSize}
 

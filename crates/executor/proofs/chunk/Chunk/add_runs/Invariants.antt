@@ -1,4 +1,4 @@
-use Rattle.std.proofs.Common.{ℕ, ◌*◌, ◌^◌, ◌-◌, ◌≤◌}
+use Rattle.std.proofs.Common.{◌*◌, ◌^◌, ◌-◌, ◌≤◌}
 use Rattle.executor.specs.inner.Pages.{chunk_byte}
 use Rattle.executor.specs.inner.Told.{Gathers}
 use Rattle.executor.proofs.chunk.Chunk.add_runs.Given as goal

@@ -1,4 +1,3 @@
-use Rattle.std.proofs.Common.{arith}
 use Rattle.executor.proofs.ChunkLemmas.{chunk_loaded}
 use Rattle.executor.proofs.chunk.Chunk.load.Goals as goal
 

@@ -1,4 +1,4 @@
-use Rattle.std.proofs.Common.{◌≡◌, ◌<◌, ◌/◌, get_or, take, refl, arith, rules}
+use Rattle.std.proofs.Common.{◌<◌, ◌/◌, get_or, take, arith, rules}
 use Rattle.std.specs.Int.{w64, to_le_bytes}
 use Rattle.executor.proofs.ChunkLemmas.{chunk_laid}
 use Rattle.executor.proofs.WordLemmas.{length_low}

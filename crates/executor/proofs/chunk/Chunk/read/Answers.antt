@@ -1,4 +1,3 @@
-use Rattle.std.proofs.Common.{arith}
 use Rattle.executor.proofs.ChunkLemmas.{chunk_read}
 use Rattle.executor.proofs.chunk.Chunk.read.Goals as goal
 

@@ -1,4 +1,3 @@
-use Rattle.std.proofs.Common.{arith}
 use Rattle.executor.proofs.ChunkLemmas.{chunk_stored}
 use Rattle.executor.proofs.chunk.Chunk.store.Goals as goal
 
