@@ -1,11 +1,13 @@
 -- Chunks of pages, and chunks by ascending number.
-use Rattle.std.proofs.Common.{◌≡◌, ◌≢◌, ℕ, zero, suc, ◌+◌, ◌-◌, ◌*◌, ◌/◌, ◌%◌, ◌^◌, ◌<◌, ◌≤◌, ◌⊎◌, inl, inr, Bool, true, false, List, [], ◌∷◌, ◌++◌, length, get_or, slice_set, refl, sym, ap, ◌∙◌, arith, subst, Option, Some, None}
+use Rattle.std.proofs.Common.{◌≡◌, ◌≢◌, ℕ, zero, suc, ◌+◌, ◌-◌, ◌*◌, ◌/◌, ◌%◌, ◌^◌, ◌<◌, ◌≤◌, ◌⊎◌, inl, inr, Bool, true, false, List, [], ◌∷◌, ◌++◌, length, get_or, slice_set, refl, sym, ap, ◌∙◌, arith, subst, Option, Some, None, bit_or}
 use Rattle.std.specs.Prelude.{◌==◌, if◌then◌else◌, min, max}
 use Rattle.std.specs.List.{insert}
 use Rattle.std.specs.List.Sorted.{IsNonDecreasingBy, IsPartitionPoint}
+use Rattle.std.specs.Int.{bit_at, w64}
 use Rattle.std.specs.Option.{option_and_then}
 use Rattle.std.proofs.lemmas.Bool.{cases_lt}
 use Rattle.std.proofs.lemmas.Bool.Decides.{nat_tests}
+use Rattle.std.proofs.lemmas.Nat.Bits.{bit_at_set_other, bit_at_set_same}
 use Rattle.std.proofs.Common.{length-append, ltb, ltb-true, ltb-false}
 use Rattle.executor.specs.declared.page.Page.{Page}
 use Rattle.executor.specs.declared.written_range.WrittenRange.{WrittenRange}
@@ -13,7 +15,7 @@ use Rattle.executor.specs.inner.Pages.{ChunkSeen, IsChunk, page_byte, page_at, p
 use Rattle.byteorder.specs.Endian.{little_number}
 use Rattle.executor.specs.Written.{laid, seen, AreRuns}
 use Rattle.executor.specs.Told.{runs_of}
-use Rattle.executor.specs.inner.Told.{Told, Gathers}
+use Rattle.executor.specs.inner.Told.{Told, Gathers, NextRun}
 use Rattle.executor.specs.inner.Words.{laid_if, or_below, seen_number}
 use Rattle.executor.proofs.Maps.{size_64, size_chunk, at_known, at_unknown, laid_same, seen_block, seen_no_block, level_stored}
 use Rattle.executor.proofs.RunLemmas.{told_all, told_at, told_nothing, told_runs, told_skipped, gathers_none, gathers_gap, gathers_block}
@@ -77,9 +79,9 @@ all_unplaced (zero ∷ places) all (suc i) = let one : unplaced (zero ∷ places
 all_unplaced (suc p ∷ places) all i = let same : unplaced (suc p ∷ places) ≡ 0 + unplaced places = rw (other_test (suc p) 0 (λ e. absurd (omega (arith, e)))) refl in absurd (omega (arith, few_unplaced places, all, same))
 
 -- the chunk in which no page was made
-pub chunk_empty : (number : ℕ) (places : List ℕ) (page : Page) (pages : List Page) → length places ≡ 128 → unplaced places ≡ 128 → pages ≡ page ∷ []
-    → ((x : ℕ) → page_byte page x ≡ None) → IsChunk (record { number = number; first = 128; end = 0; places = places; pages = pages })
-chunk_empty number places page pages long none is empty =
+pub chunk_empty : (number : ℕ) (touched places : List ℕ) (page : Page) (pages : List Page) → length touched ≡ 2 → length places ≡ 128 → unplaced places ≡ 128 → pages ≡ page ∷ []
+    → ((x : ℕ) → page_byte page x ≡ None) → IsChunk (record { number = number; touched = touched; places = places; pages = pages })
+chunk_empty number touched places page pages two long none is empty =
     let zeros : (i : ℕ) → get_or places i 0 ≡ 0 = all_unplaced places (none ∙ sym long) in
     let one : length pages ≡ 1 = ap length is in
     record {
@@ -89,15 +91,13 @@ chunk_empty number places page pages long none is empty =
       empty = λ x. ap (λ ps. page_byte (page_at ps 0) x) is ∙ empty x;
       within = λ i. omega (arith, zeros i, one);
       apart = λ i j some same. absurd (omega (arith, zeros i));
-      before = λ i h. zeros i;
-      behind = λ i h. zeros i;
-      first_in = omega arith;
-      end_in = omega arith;
+      words = two;
+      marked = λ i h e. zeros i;
     }
 
 -- a page of a chunk is changed
 abbrev pub with_page : ChunkSeen → ℕ → Page → ChunkSeen
-with_page chunk place page = record { number = chunk.number; first = chunk.first; end = chunk.end; places = chunk.places; pages = slice_set chunk.pages place page }
+with_page chunk place page = record { number = chunk.number; touched = chunk.touched; places = chunk.places; pages = slice_set chunk.pages place page }
 
 module _ (chunk : ChunkSeen) (is : IsChunk chunk) (index : ℕ) (page : Page) (own : 0 < get_or chunk.places index 0) where
   pub page_changed : page_of (with_page chunk (get_or chunk.places index 0) page) index ≡ Some page
@@ -111,7 +111,12 @@ module _ (chunk : ChunkSeen) (is : IsChunk chunk) (index : ℕ) (page : Page) (o
 -- a page of a chunk is made
 abbrev pub with_new : ChunkSeen → ℕ → Page → ChunkSeen
 with_new chunk index page =
-    record { number = chunk.number; first = min chunk.first index; end = max chunk.end (index + 1); places = slice_set chunk.places index (length chunk.pages); pages = chunk.pages ++ page ∷ [] }
+    record {
+      number = chunk.number;
+      touched = slice_set chunk.touched (index / 64) (bit_or (get_or chunk.touched (index / 64) 0) (1 * 2 ^ (index % 64) % 2 ^ 64));
+      places = slice_set chunk.places index (length chunk.pages);
+      pages = chunk.pages ++ page ∷ [];
+    }
 
 module _ (chunk : ChunkSeen) (is : IsChunk chunk) (index : ℕ) (page : Page) (inside : index < 128) (unknown : get_or chunk.places index 0 ≡ 0) (empty : (x : ℕ) → page_byte page x ≡ None) where
   here : get_or (slice_set chunk.places index (length chunk.pages)) index 0 ≡ length chunk.pages
@@ -119,6 +124,27 @@ module _ (chunk : ChunkSeen) (is : IsChunk chunk) (index : ℕ) (page : Page) (i
 
   there : (n : ℕ) → n ≢ index → get_or (slice_set chunk.places index (length chunk.pages)) n 0 ≡ get_or chunk.places n 0
   there n other = get_or_set_other chunk.places index n (length chunk.pages) 0 other
+
+  abbrev word : ℕ
+  word = bit_or (get_or chunk.touched (index / 64) 0) (1 * 2 ^ (index % 64) % 2 ^ 64)
+
+  abbrev marks : List ℕ
+  marks = slice_set chunk.touched (index / 64) word
+
+  own_mark : bit_at (get_or marks (index / 64) 0) (index % 64) ≡ 1
+  own_mark =
+      ap (λ k. bit_at k (index % 64)) (get_or_set_same chunk.touched (index / 64) word 0 (omega (arith, is.words)))
+      ∙ bit_at_set_same w64 (get_or chunk.touched (index / 64) 0) (index % 64) (omega arith)
+
+  other_marks : (i : ℕ) → i ≢ index → bit_at (get_or marks (i / 64) 0) (i % 64) ≡ bit_at (get_or chunk.touched (i / 64) 0) (i % 64)
+  other_marks i other = by_equal (i / 64) (index / 64)
+      (λ same.
+      let at : get_or marks (i / 64) 0 ≡ word = ap (λ k. get_or marks k 0) same ∙ get_or_set_same chunk.touched (index / 64) word 0 (omega (arith, is.words)) in
+      let apart : i % 64 ≢ index % 64 = λ f. other (omega (arith, same, f)) in
+      ap (λ k. bit_at k (i % 64)) at
+      ∙ (bit_at_set_other w64 (get_or chunk.touched (index / 64) 0) (index % 64) (omega arith) (i % 64) apart
+      ∙ ap (λ k. bit_at (get_or chunk.touched k 0) (i % 64)) (sym same)))
+      (λ far. ap (λ k. bit_at k (i % 64)) (get_or_set_other chunk.touched (index / 64) (i / 64) word 0 far))
 
   pub chunk_new : IsChunk (with_new chunk index page)
   chunk_new =
@@ -143,15 +169,15 @@ module _ (chunk : ChunkSeen) (is : IsChunk chunk) (index : ℕ) (page : Page) (i
             let at : get_or (slice_set chunk.places index (length chunk.pages)) j 0 ≡ length chunk.pages = ap (λ n. get_or (slice_set chunk.places index (length chunk.pages)) n 0) e ∙ here in
             absurd (omega (arith, at, same, there i other, is.within i)))
             (λ further. is.apart i j (omega (arith, some, there i other)) (sym (there i other) ∙ (same ∙ there j further))));
-        before = λ i h. there i (λ e. absurd (omega arith)) ∙ is.before i (omega arith);
-        behind = λ i h. there i (λ e. absurd (omega arith)) ∙ is.behind i (omega arith);
-        first_in = omega (arith, is.first_in);
-        end_in = omega (arith, is.end_in);
+        words = length_set chunk.touched (index / 64) word ∙ is.words;
+        marked = λ i h e. by_equal i index
+            (λ same. let zero : bit_at (get_or marks (index / 64) 0) (index % 64) ≡ 0 = ap (λ k. bit_at (get_or marks (k / 64) 0) (k % 64)) (sym same) ∙ e in absurd (omega (arith, zero, own_mark)))
+            (λ other. there i other ∙ is.marked i h (sym (other_marks i other) ∙ e));
       }
 
-  module _ (first end place : ℕ) (pages : List Page) (is_first : first ≡ min chunk.first index) (is_end : end ≡ max chunk.end (index + 1)) (is_place : place ≡ length chunk.pages) (are : pages ≡ chunk.pages ++ page ∷ []) where
-    pub chunk_made : IsChunk (record { number = chunk.number; first = first; end = end; places = slice_set chunk.places index place; pages = pages })
-    chunk_made = rw (is_first, is_end, is_place, are) chunk_new
+  module _ (place : ℕ) (pages : List Page) (is_place : place ≡ length chunk.pages) (are : pages ≡ chunk.pages ++ page ∷ []) where
+    pub chunk_made : IsChunk (record { number = chunk.number; touched = slice_set chunk.touched (index / 64) (bit_or (get_or chunk.touched (index / 64) 0) (1 * 2 ^ (index % 64) % 2 ^ 64)); places = slice_set chunk.places index place; pages = pages })
+    chunk_made = rw (is_place, are) chunk_new
 
 -- where no page was made nothing is written
 pub unplaced_byte : (chunk : ChunkSeen) → IsChunk chunk → (x : ℕ) → get_or chunk.places (x / 64) 0 ≡ 0 → chunk_byte chunk x ≡ None
@@ -359,7 +385,7 @@ numbers_rise floor limit chunks rise i j d le lt = at (cases_lt i j)
     at (inr p) = let e : i ≡ j = omega arith in omega (arith, ap (λ k. (get_or chunks k d).number) e)
 
 no_chunk : ChunkSeen
-no_chunk = record { number = 0; first = 0; end = 0; places = []; pages = [] }
+no_chunk = record { number = 0; touched = []; places = []; pages = [] }
 
 pub parts_of : (chunks : List ChunkSeen) (number place : ℕ) → place ≤ length chunks
     → IsPartitionPoint (λ (chunk : ChunkSeen). ltb chunk.number number ≡ true) (λ chunk. ltb chunk.number number ≡ false) chunks place → Parts chunks number place
@@ -373,6 +399,9 @@ module _ (value chunks : List ChunkSeen) (view : chunks ≡ value) (last last_nu
   pub place_more : limit ≤ number → PlaceOf value number None
   place_more more = subst (λ v. PlaceOf v number None) view (place_past chunks last last_number begin limit number is more)
 
+  pub found_at : (place : ℕ) (chunk : ChunkSeen) → chunk ≡ get_or chunks place chunk → place < length chunks → chunk.number ≡ number → StandsAt value place number
+  found_at place chunk was inside e = subst (λ v. StandsAt v place number) view (inside, number_got chunks place chunk was inside ∙ e)
+
   module _ (place : ℕ) (parts : Parts value number place) where
     parts_here : Parts chunks number place
     parts_here = subst (λ v. Parts v number place) (sym view) parts
@@ -382,9 +411,6 @@ module _ (value chunks : List ChunkSeen) (view : chunks ≡ value) (last last_nu
       missed_other other =
           subst (λ v. PlaceOf v number None) view
           (place_missed chunks last last_number begin limit number place is parts_here (λ h e. other (sym (number_got chunks place chunk was inside) ∙ e)))
-
-      pub found_here : chunk.number ≡ number → PlaceOf value number (Some place)
-      found_here e = subst (λ v. StandsAt v place number) view (inside, number_got chunks place chunk was inside ∙ e)
 
 -- ---- runs
 -- the number behind that of the chunk before a place
@@ -524,18 +550,39 @@ module _ (value chunk : ChunkSeen) (view : chunk ≡ value) (is : IsChunk chunk)
       (chunk_laid value chunk view is a old (subst (λ p. old ≡ get_or chunk.pages p old) (sym page_stands) was) new (subst (λ p. 0 < p) (sym page_stands) own) bytes fits change x
       ∙ laid_same (chunk_byte value) (chunk_byte before) a bytes x (same x))
 
--- the runs of the pages before one, and of one more
-pub pages_begun : (value chunk : ChunkSeen) → chunk ≡ value → IsChunk chunk → (base : ℕ) (runs : List WrittenRange) → Gathers base (2 ^ 13) (chunk_byte value) (chunk.first * 64) runs runs
-pages_begun value chunk view is base runs =
-    subst (λ v. Gathers base (2 ^ 13) (chunk_byte v) (chunk.first * 64) runs runs) view
-    (gathers_gap base (2 ^ 13) 0 (chunk.first * 64) (chunk_byte chunk) runs runs (gathers_none base (2 ^ 13) (chunk_byte chunk) runs) (omega arith) (omega (arith, is.first_in))
-    (λ x p q. unplaced_byte chunk is x (is.before (x / 64) (omega arith))))
+-- ---- the runs of the pages of a chunk
+run_few : (mask place first end : ℕ) → NextRun mask place first end → first ≤ 64
+run_few mask place first end run = at run.some
+  where
+    at : (first < end) ⊎ (first ≡ 64) → first ≤ 64
+    at (inl p) = omega (arith, p, run.ends)
+    at (inr e) = omega (arith, e)
 
-pub pages_done : (value chunk : ChunkSeen) → chunk ≡ value → IsChunk chunk → (base index : ℕ) (before runs : List WrittenRange) → chunk.end ≤ index → index ≤ 128
-    → Gathers base (2 ^ 13) (chunk_byte value) (index * 64) before runs → Gathers base (2 ^ 13) (chunk_byte value) (2 ^ 13) before runs
-pages_done value chunk view is base index before runs done few so_far =
-    gathers_gap base (2 ^ 13) (index * 64) (2 ^ 13) (chunk_byte value) before runs so_far (omega arith) (omega arith)
-    (λ x p q. ap (λ v. chunk_byte v x) (sym view) ∙ unplaced_byte chunk is x (is.behind (x / 64) (omega arith)))
+module _ (value chunk : ChunkSeen) (view : chunk ≡ value) (is : IsChunk chunk) where
+  -- where no bit is set there is no page
+  pub none_low : (index first end : ℕ) → NextRun (get_or chunk.touched 0 0) index first end → (i : ℕ) → index ≤ i → i < first → get_or value.places i 0 ≡ 0
+  none_low index first end run i p q =
+      let few : first ≤ 64 = run_few (get_or chunk.touched 0 0) index first end run in
+      let half : i / 64 ≡ 0 = omega arith in
+      let rest : i % 64 ≡ i = omega arith in
+      ap (λ v. get_or v.places i 0) (sym view)
+      ∙ is.marked i (omega arith) (ap (λ k. bit_at (get_or chunk.touched k 0) (i % 64)) half ∙ (ap (bit_at (get_or chunk.touched 0 0)) rest ∙ run.clear i p q))
+
+  pub none_high : (index first end : ℕ) → NextRun (get_or chunk.touched 1 0) index first end → (i : ℕ) → 64 + index ≤ i → i < 64 + first → get_or value.places i 0 ≡ 0
+  none_high index first end run i p q =
+      let few : first ≤ 64 = run_few (get_or chunk.touched 1 0) index first end run in
+      let half : i / 64 ≡ 1 = omega arith in
+      let rest : i % 64 ≡ i - 64 = omega arith in
+      ap (λ v. get_or v.places i 0) (sym view)
+      ∙ is.marked i (omega arith)
+      (ap (λ k. bit_at (get_or chunk.touched k 0) (i % 64)) half ∙ (ap (bit_at (get_or chunk.touched 1 0)) rest ∙ run.clear (i - 64) (omega arith) (omega arith)))
+
+  -- no page from one number on and below another
+  pub pages_skipped : (base from next : ℕ) (before runs : List WrittenRange) → from ≤ next → next ≤ 128 → ((i : ℕ) → from ≤ i → i < next → get_or value.places i 0 ≡ 0)
+      → Gathers base (2 ^ 13) (chunk_byte value) (from * 64) before runs → Gathers base (2 ^ 13) (chunk_byte value) (next * 64) before runs
+  pages_skipped base from next before runs le few none so_far =
+      gathers_gap base (2 ^ 13) (from * 64) (next * 64) (chunk_byte value) before runs so_far (omega arith) (omega arith)
+      (λ x p q. ap (λ v. chunk_byte v x) (sym view) ∙ unplaced_byte chunk is x (ap (λ v. get_or v.places (x / 64) 0) view ∙ none (x / 64) (omega arith) (omega arith)))
 
 pub pages_more : (value chunk : ChunkSeen) → chunk ≡ value → IsChunk chunk → (base index : ℕ) (page : Page) (before runs new : List WrittenRange)
     → page ≡ get_or chunk.pages (get_or chunk.places index 0) page → index < 128 → Gathers base (2 ^ 13) (chunk_byte value) (index * 64) before runs

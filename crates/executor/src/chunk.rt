@@ -6,7 +6,7 @@ ghost use Rattle.executor.specs.Written.{laid, seen};
 ghost use Rattle.executor.specs.inner.Told.{Gathers};
 ghost use Rattle.executor.specs.inner.Words.{laid_if, or_below, seen_number};
 
-use crate::page::Page;
+use crate::page::{Page, next_run};
 use crate::written_range::WrittenRange;
 use std::alloc::{AllocError, Global};
 use std::marker::Model;
@@ -17,15 +17,17 @@ const PAGE: usize = 64;
 /// How many pages a chunk has.
 const PAGES: usize = 128;
 
+/// How many pages there is room for at first.
+const FIRST_PAGES: usize = 4;
+
 /// What is written in 2^13 addresses from a multiple of 2^13 on: the pages that were written to. A contract
 /// sees its fields.
 #[derive(Drop, Debug)]
 pub struct Chunk {
     // The number of its first address, in chunks.
     number: u64,
-    // No page before this one was written to, and none from the end on.
-    first: usize,
-    end: usize,
+    // A bit for each page that there is, 64 pages a word.
+    touched: [u64; 2],
     // Where each page stands among those that there are. The first of these is empty, and stands for all that
     // weren't written to.
     places: [u8; PAGES],
@@ -37,9 +39,9 @@ impl Model for Chunk {
 
     ghost Value = { ChunkSeen };
 
-    ghost view = { λ x. record { number = x.number; first = x.first; end = x.end; places = x.places; pages = x.pages.items } };
+    ghost view = { λ x. record { number = x.number; touched = x.touched; places = x.places; pages = x.pages.items } };
 
-    ghost invariant = { λ x. IsChunk (record { number = x.number; first = x.first; end = x.end; places = x.places; pages = x.pages.items }) };
+    ghost invariant = { λ x. IsChunk (record { number = x.number; touched = x.touched; places = x.places; pages = x.pages.items }) };
 }
 
 impl Chunk {
@@ -48,12 +50,11 @@ impl Chunk {
         ensures number { IfOk result (λ chunk. chunk.number ≡ number) }
         ensures bytes { IfOk result (λ chunk. (x : ℕ) → chunk_byte chunk x ≡ None) }
     {
-        let mut pages = Vec::with_capacity(alloc, 2)?;
+        let mut pages = Vec::with_capacity(alloc, FIRST_PAGES)?;
         pages.push(Page::new())?;
         Ok(Chunk {
             number,
-            first: PAGES,
-            end: 0,
+            touched: [0; 2],
             places: [0; PAGES],
             pages,
         })
@@ -134,11 +135,11 @@ impl Chunk {
         requires { base + 2 ^ 13 ≤ 2 ^ 64 }
         ensures { OnOk result (Gathers base (2 ^ 13) (chunk_byte self.now) (2 ^ 13) runs.old.items runs.new.items) }
     {
-        let mut index = self.first;
-        while index < self.end {
+        let mut index = self.next_from(0);
+        while index < PAGES {
             let page = self.places[index] as usize;
             self.pages[page].add_runs(alloc, base + (index * PAGE) as u64, runs)?;
-            index += 1;
+            index = self.next_from(index + 1);
         }
         Ok(())
     }
@@ -159,8 +160,30 @@ impl Chunk {
         let page = self.pages.len();
         self.pages.push(Page::new())?;
         self.places[index] = page as u8;
-        self.first = self.first.min(index);
-        self.end = self.end.max(index + 1);
+        self.touched[index / 64] |= 1 << (index % 64);
         Ok(page)
+    }
+
+    /// The number of the next page that there is, from one on, or 128 where there is none.
+    #[inline(always)]
+    fn next_from(&self, index: usize) -> usize
+        requires { index ≤ 128 }
+        ensures begins { index ≤ result }
+        ensures ends { result ≤ 128 }
+        ensures none { (i : ℕ) → index ≤ i → i < result → get_or self.now.places i 0 ≡ 0 }
+    {
+        if index < 64 {
+            let (low, _) = next_run(self.touched[0], index);
+            if low < 64 {
+                return low;
+            }
+            let (high, _) = next_run(self.touched[1], 0);
+            return 64 + high;
+        }
+        if index < PAGES {
+            let (rest, _) = next_run(self.touched[1], index - 64);
+            return 64 + rest;
+        }
+        PAGES
     }
 }

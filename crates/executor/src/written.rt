@@ -1,5 +1,5 @@
 //! What a work-group has written.
-ghost use Rattle.std.specs.Prelude.{◌≡◌, ◌+◌, ◌%◌, ◌^◌, ◌<◌, ◌≤◌, ℕ, List, None, OnOk, OnErr, IfOk, length, nat_lt, take};
+ghost use Rattle.std.specs.Prelude.{◌≡◌, ◌+◌, ◌%◌, ◌^◌, ◌<◌, ◌≤◌, ℕ, List, None, OnOk, OnErr, IfOk, length, nat_lt, take, true};
 ghost use Rattle.std.specs.Int.{w64, to_le_bytes};
 ghost use Rattle.executor.specs.inner.Pages.{byte_at, BreaksOff, Parts, PlaceOf, StandsAt};
 ghost use Rattle.executor.specs.Written.{laid, seen, AreRuns};
@@ -20,13 +20,16 @@ const PAGE: usize = 64;
 /// How many addresses a chunk covers.
 const CHUNK: u64 = 1 << 13;
 
+/// How many chunks are found without a search, by the low bits of their numbers.
+const HINTS: usize = 16;
+
 /// No chunk's number.
 const NO_CHUNK: u64 = u64::MAX;
 
 /// What a work-group has written so far, over memory that stays as it is: a finite map from address to
 /// byte, which a contract sees by `byte_at`. It takes memory for the pages that were written to. A store or a
 /// load in the chunk that was written to last makes the same few look-ups whatever was written before: chunk,
-/// page, mask. Another chunk is found by halves.
+/// page, mask. Another chunk stands where one of its low bits did last, or is found by halves.
 #[derive(Drop, Debug)]
 pub struct WrittenBytes {
     // The chunks that were written to, by ascending number.
@@ -37,6 +40,8 @@ pub struct WrittenBytes {
     // No chunk has a number before this one, and none from the end on.
     begin: u64,
     end: u64,
+    // By the low bits of a number, where the chunk of such a number likely stands.
+    hints: [usize; HINTS],
 }
 
 impl Model for WrittenBytes {
@@ -61,6 +66,7 @@ impl WrittenBytes {
             last_number: NO_CHUNK,
             begin: NO_CHUNK,
             end: 0,
+            hints: [0; HINTS],
         }
     }
 
@@ -254,7 +260,22 @@ impl WrittenBytes {
         if number >= self.end {
             return None;
         }
+        let hint = self.hints[(number % HINTS as u64) as usize];
+        if self.stands_at(hint, number) {
+            return Some(hint);
+        }
         self.search(number)
+    }
+
+    /// Whether the chunk of a number stands at a place.
+    #[inline(always)]
+    fn stands_at(&self, place: usize, number: u64) -> bool
+        ensures { result ≡ true → StandsAt self.now place number }
+    {
+        if place >= self.chunks.len() {
+            return false;
+        }
+        self.chunks[place].number() == number
     }
 
     /// The same by halves.
@@ -291,6 +312,7 @@ impl WrittenBytes {
         if let Some(known) = self.place_of(number) {
             self.last = known;
             self.last_number = number;
+            self.hints[(number % HINTS as u64) as usize] = known;
             return Ok(known);
         }
         let place = self.place_from(number);
@@ -298,6 +320,7 @@ impl WrittenBytes {
         self.chunks.insert(place, chunk)?;
         self.last = place;
         self.last_number = number;
+        self.hints[(number % HINTS as u64) as usize] = place;
         self.begin = self.begin.min(number);
         self.end = self.end.max(number + 1);
         Ok(place)

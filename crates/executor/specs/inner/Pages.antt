@@ -19,12 +19,11 @@ page_byte page place = if bit_at page.mask place == 1 then slice_get page.bytes 
 abbrev pub in_blocks : {Block : Type 0} → (Block → ℕ → Option ℕ) → ℕ → (ℕ → Option Block) → ℕ → Option ℕ
 in_blocks byte_of size block_at x = option_and_then (λ block. byte_of block (x % size)) (block_at (x / size))
 
--- a chunk of 128 pages: its number, which pages may be written to, where the page of each number stands among those that
+-- a chunk of 128 pages: its number, a bit for each page that there is, 64 a word, where the page of each number stands among those that
 -- there are, and these
 pub record ChunkSeen : Type 0 where
   pub number : ℕ
-  pub first : ℕ
-  pub end : ℕ
+  pub touched : List ℕ
   pub places : List ℕ
   pub pages : List Page
 
@@ -53,10 +52,8 @@ pub record IsChunk (chunk : ChunkSeen) : Type 0 where
   pub empty : (x : ℕ) → page_byte (page_at chunk.pages 0) x ≡ None
   pub within : (i : ℕ) → get_or chunk.places i 0 < length chunk.pages
   pub apart : (i j : ℕ) → 0 < get_or chunk.places i 0 → get_or chunk.places i 0 ≡ get_or chunk.places j 0 → i ≡ j
-  pub before : (i : ℕ) → i < chunk.first → get_or chunk.places i 0 ≡ 0
-  pub behind : (i : ℕ) → chunk.end ≤ i → get_or chunk.places i 0 ≡ 0
-  pub first_in : chunk.first ≤ 128
-  pub end_in : chunk.end ≤ 128
+  pub words : length chunk.touched ≡ 2
+  pub marked : (i : ℕ) → i < 128 → bit_at (get_or chunk.touched (i / 64) 0) (i % 64) ≡ 0 → get_or chunk.places i 0 ≡ 0
 
 -- the chunk of a number
 abbrev pub chunk_of : List ChunkSeen → ℕ → Option ChunkSeen

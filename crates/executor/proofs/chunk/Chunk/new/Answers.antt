@@ -4,5 +4,5 @@ use Rattle.executor.proofs.chunk.Chunk.new.Goals as goal
 
 pub invariant_of-result : goal.invariant_of-result
 invariant_of-result c =
-    chunk_empty c.args.number _ c.new.result c.push.new.self.items refl refl
+    chunk_empty c.args.number _ _ c.new.result c.push.new.self.items refl refl refl
     (c.in_ok-push.ensures.items ∙ ap (λ ps. ps ++ c.new.result ∷ []) c.in_ok-pages.ensures.items) c.new.ensures
