@@ -28,13 +28,13 @@ const NO_CHUNK: u64 = u64::MAX;
 
 /// What a work-group has written so far, over memory that stays as it is: a finite map from address to
 /// byte, which a contract sees by `byte_at`. It takes memory for the pages that were written to. A store or a
-/// load in the chunk that was written to last makes the same few look-ups whatever was written before: chunk,
-/// page, mask. Another chunk stands where one of its low bits did last, or is found by halves.
+/// load in the chunk that got a page last makes the same few look-ups whatever was written before: chunk, page,
+/// mask. Another chunk is looked for where the last with the low bits of its number stood, then by halves.
 #[derive(Drop, Debug)]
 pub struct WrittenBytes {
     // The chunks that were written to, by ascending number.
     chunks: Vec<Chunk>,
-    // Where the chunk that was written to last stands, and its number.
+    // Where the chunk that was made or got a page last stands, and its number.
     last: usize,
     last_number: u64,
     // No chunk has a number before this one, and none from the end on.
@@ -278,7 +278,7 @@ impl WrittenBytes {
         self.chunks[place].number() == number
     }
 
-    /// The same by halves.
+    /// Where the chunk of a number stands, found by halves, if it is there.
     #[inline(never)]
     fn search(&self, number: u64) -> Option<usize>
         ensures { PlaceOf self.now number result }
