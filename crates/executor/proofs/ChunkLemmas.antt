@@ -18,7 +18,7 @@ use Rattle.executor.specs.Told.{runs_of}
 use Rattle.executor.specs.inner.Told.{Told, Gathers, NextRun}
 use Rattle.executor.specs.inner.Words.{laid_if, or_below, seen_number}
 use Rattle.executor.proofs.Maps.{size_64, size_chunk, at_known, at_unknown, laid_same, seen_block, seen_no_block, level_stored}
-use Rattle.executor.proofs.RunLemmas.{told_all, told_at, told_nothing, told_runs, told_skipped, gathers_none, gathers_gap, gathers_block}
+use Rattle.executor.proofs.RunLemmas.{told_all, told_at, told_nothing, told_runs, told_skipped, gathers_gap, gathers_block}
 use Rattle.executor.proofs.WordLemmas.{level_read, level_unread, level_overwritten}
 
 -- ---- lists

@@ -1,4 +1,4 @@
-use Rattle.std.proofs.Common.{◌≡◌, ◌<◌, ◌∙◌, length, sym, arith, eqb-true}
+use Rattle.std.proofs.Common.{◌<◌, ◌∙◌, length, sym, arith, eqb-true}
 use Rattle.executor.proofs.ChunkLemmas.{found_at}
 use Rattle.executor.proofs.written.WrittenBytes.stands_at.Goals as goal
 
