@@ -23,3 +23,6 @@ mod GroupFootprints
 mod AtomicFootprints
 mod TurnFootprints
 mod OrderedRuns
+mod PlaceLemmas
+mod FewLemmas
+mod RowLemmas

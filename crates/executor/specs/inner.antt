@@ -12,3 +12,5 @@ pub mod Stops
 pub mod ItemRuns
 pub mod Words
 pub mod Whole
+pub mod Few
+pub mod Rows

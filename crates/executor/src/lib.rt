@@ -37,6 +37,7 @@ mod number32;
 mod number64;
 mod page;
 mod registers;
+mod registers_set;
 mod rounds;
 mod values;
 mod view;
