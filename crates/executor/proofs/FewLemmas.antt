@@ -151,9 +151,10 @@ first_done x (a ∷ b ∷ c ∷ d ∷ e ∷ f ∷ g ∷ []) long rest = absurd (
 first_done x (a ∷ b ∷ c ∷ d ∷ e ∷ f ∷ g ∷ h ∷ xs) long rest = ap (λ ys. x ∷ x ∷ x ∷ x ∷ x ∷ x ∷ x ∷ x ∷ ys) rest
 
 -- an item that begins anew
-pub begun_anew : (P : Item → ℕ → Type 0) {i : Item} {executed : ℕ} → i ≡ fresh → executed ≡ 0 → P i executed → P fresh 0
-begun_anew P is none holds = subst (λ k. P fresh k) none (subst (λ i. P i _) is holds)
+pub begun_anew : (P : Item → ℕ → Type 0) (i : Item) (executed : ℕ) → i ≡ fresh → executed ≡ 0 → P i executed → P fresh 0
+begun_anew P i executed is none holds = subst (λ k. P fresh k) none (subst (λ j. P j executed) is holds)
 
-pub left_rest : (result : Bool) {steps : List Step} {before after : Registers} → result ≡ true → LeavesRest steps result before after → SetFew steps → RestIsZero before → RestIsZero after
-left_rest true well leaves few rest = leaves few rest
-left_rest false well leaves few rest = absurd cc
+pub left_rest : (result : Bool) (steps : List Step) (before after : Registers) → result ≡ true → LeavesRest steps result before after → SetFew steps → RestIsZero before
+    → RestIsZero after
+left_rest true steps before after well leaves few rest = leaves few rest
+left_rest false steps before after well leaves few rest = absurd cc

@@ -241,7 +241,7 @@ returns-then-next-steps-clause-comes c =
     let before = contents c.args.memory.now in
     let all : 65536 - left ≡ 65536 = omega arith in
     let there : next < length p.steps = omega (arith, ap length c.steps.ensures.value, c.if-next-steps.true) in
-    subst (λ (f : RunFault). ItemFails a p n first before f) (sym c.tell-then-next-steps.ensures)
+    subst (λ (f : RunFault). ItemFails a p n first before f) (sym c.tell_spent.ensures)
     (reached_breaks a p n first before (record { registers = r; next = next }) left m c.turns.invariant.1.0 A5 None
     (spent (context_of_item a n) p.steps (record { registers = r; next = next }) (65536 - left) m there all))
 
@@ -269,7 +269,7 @@ pub returns-in-Ended-clause-rest : goal.returns-in-Ended-clause-rest
 returns-in-Ended-clause-rest c = λ few rest. subst RestIsZero (sym c.in-Ended.ensures.0) (c.turns.invariant.1.1 few rest)
 
 pub returns-in-Ended-turn-clause-rest : goal.returns-in-Ended-turn-clause-rest
-returns-in-Ended-turn-clause-rest c = λ few rest. subst RestIsZero (sym c.cleared.ensures) cleared_rest
+returns-in-Ended-turn-clause-rest c = λ few rest. subst RestIsZero (sym c.cleared-stopped.ensures) cleared_rest
 
 pub returns-in-Arrived-clause-rest : goal.returns-in-Arrived-clause-rest
 returns-in-Arrived-clause-rest c =

@@ -1,4 +1,4 @@
-use Rattle.std.proofs.Common.{◌≡◌, ◌+◌, ◌∙◌, length, ap, arith, subst, sym}
+use Rattle.std.proofs.Common.{◌≡◌, ◌+◌, ◌∙◌, List, length, ap, arith, subst, sym}
 use Rattle.executor.specs.Group.{ready, context_of_item}
 use Rattle.executor.specs.Items.{Surroundings}
 use Rattle.executor.specs.inner.Few.{RestIsZero}
@@ -10,11 +10,17 @@ use Rattle.executor.specs.declared.item.StoppedItem.{StoppedItem}
 use Rattle.executor.proofs.FewLemmas.{begun_anew, cleared_rest, left_rest}
 use Rattle.executor.specs.declared.location.Extent.{Extent}
 use Rattle.executor.proofs.PlaceLemmas.{arguments_are, comes_ill, comes_well, item_is, moved_at, x_within, y_within, z_within}
-use Rattle.executor.proofs.RoundLemmas.{none_ran, first_fails, one_ran, all_ran}
+use Rattle.executor.proofs.RoundLemmas.{HaveRun, none_ran, first_fails, one_ran, all_ran}
 use Rattle.executor.proofs.rounds.run_to_first_barrier.Goals as goal
 
 pub items-init : goal.items-init
-items-init c = (none_ran (surroundings c.args.context.now) c.args.program.now c.args.count (contents c.args.memory.now), (c.first_of-own.ensures, λ few. subst (λ (s : StoppedItem). RestIsZero s.item.registers) (sym c.fresh-item.ensures) cleared_rest))
+items-init c =
+    let a = surroundings c.args.context.now in
+    let p = c.args.program.now in
+    let m = contents c.args.memory.now in (
+      subst (λ (xs : List StoppedItem). HaveRun a p c.args.count m 0 xs m) (sym c.new-stopped.ensures.items) (none_ran a p c.args.count m),
+      (c.first_of-own.ensures, λ few. subst (λ (s : StoppedItem). RestIsZero s.item.registers) (sym c.fresh-item.ensures) cleared_rest),
+    )
 
 pub run_item-requires-clause-arguments : goal.run_item-requires-clause-arguments
 run_item-requires-clause-arguments c =
@@ -30,7 +36,7 @@ returns-then-not-run_item-clause-err c =
     let m = contents c.items.memory in
     first_fails a p c.args.count (contents c.args.memory.now) c.items.number c.items.stopped.items m (omega arith) c.items.invariant.0 c.run_item.new.broken
     (comes_ill (surroundings c.items.own) a c.items.number c.items.invariant.1.0 p _ m c.run_item.result _ _ c.run_item.new.broken
-    (begun_anew (λ i k. ItemComes (surroundings c.items.own) p c.items.number (ready i k) m c.run_item.result (standing c.run_item.new.stopped) (contents c.run_item.new.memory) c.run_item.new.broken) c.begin_anew.ensures.item c.begin_anew.ensures.executed c.run_item.ensures.comes)
+    (begun_anew (λ i k. ItemComes (surroundings c.items.own) p c.items.number (ready i k) m c.run_item.result (standing c.run_item.new.stopped) (contents c.run_item.new.memory) c.run_item.new.broken) c.begin_anew.new.self.item c.begin_anew.new.self.executed c.begin_anew.ensures.item c.begin_anew.ensures.executed c.run_item.ensures.comes)
     c.if-not-run_item.true)
 
 pub id_behind-item_behind-requires-clause-x : goal.id_behind-item_behind-requires-clause-x
@@ -62,13 +68,13 @@ items-preserved c =
     let is = c.items.invariant.1.0 in (
       one_ran a p c.args.count (contents c.args.memory.now) n c.items.stopped.items m (omega arith) c.items.invariant.0 x now
           (comes_well own a n is p _ m c.run_item.result _ _ c.run_item.new.broken
-          (begun_anew (λ i k. ItemComes own p n (ready i k) m c.run_item.result (standing x) now c.run_item.new.broken) c.begin_anew.ensures.item c.begin_anew.ensures.executed c.run_item.ensures.comes)
+          (begun_anew (λ i k. ItemComes own p n (ready i k) m c.run_item.result (standing x) now c.run_item.new.broken) c.begin_anew.new.self.item c.begin_anew.new.self.executed c.begin_anew.ensures.item c.begin_anew.ensures.executed c.run_item.ensures.comes)
           c.if-not-run_item.false)
           c.keep_stopped.new.stopped.items c.in_ok-keep_stopped.ensures,
       (
         moved_at own a n is c.move_to.new.self c.id_behind-item_behind.result c.current_size.result c.item_id.result c.move_to.ensures c.current_size.ensures c.item_id.ensures
             (c.id_behind-item_behind.ensures n),
-        λ few. left_rest c.run_item.result c.if-not-run_item.false c.run_item.ensures.rest (c.sets_few-few.ensures few)
+        λ few. left_rest c.run_item.result p.steps c.begin_anew.new.self.item.registers x.item.registers c.if-not-run_item.false c.run_item.ensures.rest (c.sets_few-few.ensures few)
             (subst (λ (i : Item). RestIsZero i.registers) (sym c.begin_anew.ensures.item) cleared_rest),
       ),
     )
