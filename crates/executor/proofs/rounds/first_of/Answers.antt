@@ -1,4 +1,4 @@
-use Rattle.std.proofs.Common.{◌≡◌, ◌∙◌, ap}
+use Rattle.std.proofs.Common.{◌∙◌, ap}
 use Rattle.executor.specs.declared.location.Location.{Location}
 use Rattle.executor.specs.inner.Held.{surroundings}
 use Rattle.executor.proofs.PlaceLemmas.{first_at}

@@ -1,6 +1,5 @@
 use Rattle.std.proofs.Common.{◌≡◌, ◌+◌, ◌∙◌, List, length, ap, arith, subst, sym}
-use Rattle.executor.specs.Group.{ready, context_of_item}
-use Rattle.executor.specs.Items.{Surroundings}
+use Rattle.executor.specs.Group.{ready}
 use Rattle.executor.specs.inner.Few.{RestIsZero}
 use Rattle.executor.specs.inner.Held.{contents, surroundings}
 use Rattle.executor.specs.inner.ItemRuns.{ItemComes}
