@@ -26,3 +26,4 @@ mod OrderedRuns
 mod PlaceLemmas
 mod FewLemmas
 mod RowLemmas
+mod AtomicLemmas

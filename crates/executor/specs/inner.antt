@@ -14,3 +14,4 @@ pub mod Words
 pub mod Whole
 pub mod Few
 pub mod Rows
+pub mod Found

@@ -13,6 +13,7 @@ mod dispatch;
 mod fault;
 mod flat;
 mod flat_accesses;
+mod flat_atomics;
 mod flat_bits;
 mod flat_comparisons;
 mod flat_conversions;
