@@ -24,3 +24,7 @@ mod GroupFootprints
 mod AtomicFootprints
 mod TurnFootprints
 mod OrderedRuns
+mod PlaceLemmas
+mod FewLemmas
+mod RowLemmas
+mod AtomicLemmas
