@@ -53,15 +53,15 @@ module _ (a : Inside) (kept : IsCached a) where
   abbrev InForce : ArgumentBlock → Type 0
   InForce block = are_in_force a.grants block.client block.rights ≡ true
 
-  block-in_force : (block : ArgumentBlock) → Told a.blocks.items block → InForce block
+  block-in_force : (block : ArgumentBlock) → Told kept.blocks block → InForce block
   block-in_force block told =
       named-in_force a.grants block.client block.rights
       (λ on right is. forced-now a kept block.queue block.packet block.client on right
       (told block.queue block.packet block.client on right (and_from (is_block block.queue block.packet block) (is_named block.rights block.client block.client on right) (block-itself block) is)))
 
   -- so all that a start's packets come to hold is in force
-  pub blocks-in_force : All (λ (block : ArgumentBlock). are_in_force a.grants block.client block.rights ≡ true) a.blocks.items
-  blocks-in_force = All-weaker (Told a.blocks.items) InForce block-in_force a.blocks.items (each-told a.blocks.items)
+  pub blocks-in_force : All (λ (block : ArgumentBlock). are_in_force a.grants block.client block.rights ≡ true) kept.blocks
+  blocks-in_force = All-weaker (Told kept.blocks) InForce block-in_force kept.blocks (each-told kept.blocks)
 
 -- ---- the grants of a start
 

@@ -5,6 +5,7 @@ use Rattle.access_core.proofs.CachedMore.{IsCached-more, memory-still, queues-st
 use Rattle.access_core.proofs.QueueAt.{IsQuiet, flight-quiet}
 use Rattle.access_core.proofs.Granting.{revoke-due, revoke-held, revoke-refused}
 use Rattle.access_core.proofs.Calls.{due-by, met-refusal}
+use Rattle.access_core.proofs.Laid.{quiet-laid}
 use Rattle.access_core.proofs.HeldAfter.{blocks-still, held-still}
 use Rattle.access_core.proofs.Looking.{all-owned}
 use Rattle.access_core.proofs.Terms.{Call, ClientId, IsFirstTo, Object, Revoke, RevokeAnswers, Rights, has_block, lists_one, start_of}
@@ -41,6 +42,7 @@ invariant_of-self c =
     (record {
       same = ((refl, refl, refl), refl);
       audit = rw c.none.ensures at c.enter.ensures;
+      blocks = c.self.invariant.blocks;
       grants = record {
         granted = takes.taken;
         rules = takes.same_rules;
@@ -52,7 +54,7 @@ invariant_of-self c =
       memory = memory-still a.memory [] (λ x byte. refl);
       values = refl;
       queues = queues-still a c.self.invariant _ _ _ calm (λ all. refl);
-      block_room = c.self.invariant.block_room;
+      laid = quiet-laid a c.self.invariant;
     })
     _ (seen c.self.view_is) (revoke-due a c.self.invariant c.args.client c.args.object c.args.rights _ (seen c.self.view_is)
     (subst (RevokeAnswers c.self.inside.grants c.args.client c.args.object c.args.rights) c.in_default.is c.may_revoke.ensures)
