@@ -93,13 +93,10 @@ later-none from bs past = filter-none (λ (b : ArgumentBlock). nat_le from b.num
 
 -- the soonest is the first of them
 later-one : (from : ℕ) (bs : List ArgumentBlock) (one : ArgumentBlock) → Ascend by_number bs → Contains bs one → from ≤ one.number
-    → All (λ (b : ArgumentBlock). (b.number < from) ⊎ (one.number ≤ b.number)) bs → later from bs ≡ one ∷ later (one.number + 1) bs
+    → All (NotBefore from one) bs → later from bs ≡ one ∷ later (one.number + 1) bs
 later-one from [] one rises there late all = let less = there.1 in absurd (omega (arith, less))
 later-one from (x ∷ xs) one rises there late all = by_case (contains-cases x xs one there)
   where
-    abbrev Not : ArgumentBlock → Type 0
-    Not b = (b.number < from) ⊎ (one.number ≤ b.number)
-
     by_case : (x ≡ one) ⊎ Contains xs one → later from (x ∷ xs) ≡ one ∷ later (one.number + 1) (x ∷ xs)
     by_case (inl same) =
         let number = ap (λ (b : ArgumentBlock). b.number) same in
@@ -107,18 +104,18 @@ later-one from (x ∷ xs) one rises there late all = by_case (contains-cases x x
         let gone : nat_le (one.number + 1) x.number ≡ false = le-false (one.number + 1) x.number (omega (arith, number)) in
         let up : All (λ (b : ArgumentBlock). by_number x < by_number b) xs = rises.0 in
         let all_later = filter-every (λ (b : ArgumentBlock). nat_le from b.number) xs
-            (All-weaker (λ (b : ArgumentBlock). by_number x < by_number b) (λ (b : ArgumentBlock). nat_le from b.number ≡ true) (λ b above. le-true from b.number (omega (arith, above, number, late))) xs up) in
+        (All-weaker (λ (b : ArgumentBlock). by_number x < by_number b) (λ (b : ArgumentBlock). nat_le from b.number ≡ true) (λ b above. le-true from b.number (omega (arith, above, number, late))) xs up) in
         let all_behind = filter-every (λ (b : ArgumentBlock). nat_le (one.number + 1) b.number) xs
-            (All-weaker (λ (b : ArgumentBlock). by_number x < by_number b) (λ (b : ArgumentBlock). nat_le (one.number + 1) b.number ≡ true) (λ b above. le-true (one.number + 1) b.number (omega (arith, above, number))) xs up) in
+        (All-weaker (λ (b : ArgumentBlock). by_number x < by_number b) (λ (b : ArgumentBlock). nat_le (one.number + 1) b.number ≡ true) (λ b above. le-true (one.number + 1) b.number (omega (arith, above, number))) xs up) in
         rw (first, gone, all_later, all_behind) (ap (λ b. b ∷ xs) same)
     by_case (inr behind) =
         let above = All-contains (λ (b : ArgumentBlock). by_number x < by_number b) xs one rises.0 behind in
-        let past : x.number < from = not_late (All-head Not x xs all) above in
+        let past : x.number < from = not_late (All-head (NotBefore from one) x xs all) above in
         let first : nat_le from x.number ≡ false = le-false from x.number past in
         let gone : nat_le (one.number + 1) x.number ≡ false = le-false (one.number + 1) x.number (omega (arith, above)) in
-        rw (first, gone) (later-one from xs one rises.1 behind late (All-tail Not x xs all))
+        rw (first, gone) (later-one from xs one rises.1 behind late (All-tail (NotBefore from one) x xs all))
       where
-        not_late : Not x → x.number < one.number → x.number < from
+        not_late : NotBefore from one x → x.number < one.number → x.number < from
         not_late (inl past) above = past
         not_late (inr up) above = absurd (omega (arith, up, above))
 
