@@ -178,7 +178,7 @@ impl AccessCore {
         match self.may_take(queue, packet, bytes)? {
             Decision::Wait(cause) => Ok(Taken::Waiting(cause)),
             Decision::Deny(rule) => Ok(self.deny(queue, packet, bytes, rule)),
-            Decision::Launch(launching) => self.launch(alloc, queue, packet, bytes, launching),
+            Decision::Launch(launching) => self.launch(alloc, queue, packet, bytes, &launching),
         }
     }
 
@@ -272,9 +272,9 @@ impl AccessCore {
         queue: QueueId,
         packet: PacketId,
         bytes: &[u8; 64],
-        launching: Launching,
+        launching: &Launching,
     ) -> Result<Taken, Refusal>
-        requires { Decides self.old.history queue packet bytes.now (Decision.Launch launching) }
+        requires { Decides self.old.history queue packet bytes.now (Decision.Launch launching.now) }
         ensures met { MeetsOrLacks (Event.Take queue packet bytes.now) self.old.history self.new.history (map_ok Outcome.Taken result) }
         ensures places { self.new.places ≡ self.old.places }
     {
@@ -289,16 +289,16 @@ impl AccessCore {
         queue: QueueId,
         packet: PacketId,
         bytes: &[u8; 64],
-        launching: Launching,
+        launching: &Launching,
         mut rights: Sequence<(Object, Rights)>,
     ) -> Result<Taken, Refusal>
-        requires decided { Decides self.old.history queue packet bytes.now (Decision.Launch launching) }
+        requires decided { Decides self.old.history queue packet bytes.now (Decision.Launch launching.now) }
         requires empty { rights ≡ [] }
         ensures met { MeetsOrLacks (Event.Take queue packet bytes.now) self.old.history self.new.history (map_ok Outcome.Taken result) }
         ensures places { self.new.places ≡ self.old.places }
     {
         let block = self.argument_block(alloc, launching.asked.packet())?;
-        self.list_rights(alloc, &launching, block.as_slice(), &mut rights)?;
+        self.list_rights(alloc, launching, block.as_slice(), &mut rights)?;
         let given = ArgumentBlock {
             queue,
             packet,

@@ -34,7 +34,7 @@ place_next-requires-clause-above c =
 pub argument_block-requires : goal.argument_block-requires
 argument_block-requires c =
     subst (λ p. IsBlockPlaced c.args.self.now.history p) (sym c.packet.ensures)
-    (block-placed c.args.self.now.history c.args.queue c.args.packet c.args.bytes.now c.args.launching.asked.packet c.requires.decided.0 c.requires.decided.1)
+    (block-placed c.args.self.now.history c.args.queue c.args.packet c.args.bytes.now c.args.launching.now.asked.packet c.requires.decided.0 c.requires.decided.1)
 
 pub place_next-requires-clause-sound : goal.place_next-requires-clause-sound
 place_next-requires-clause-sound c = c.self.invariant.sound
@@ -42,16 +42,16 @@ place_next-requires-clause-sound c = c.self.invariant.sound
 pub invariant_of-self : goal.invariant_of-self
 invariant_of-self c =
     let a = c.self.inside in
-    let p = c.args.launching.asked.packet in
+    let p = c.args.launching.now.asked.packet in
     let can = can-take a c.self.invariant c.args.queue (subst (λ h. TakesNext h c.args.queue) (sym (seen c.self.view_is)) c.requires.decided.3) in
     let owing = owed-inside a c.self.invariant _ (seen c.self.view_is) _ _ _ c.requires.decided.0 in
     let next = IsNext-from_owed (start_of a) a.audit.items c.args.queue c.args.packet c.args.bytes.now _ _ owing in
-    let owned : owner (start_of a) a.audit.items c.args.queue ≡ Some (opening_of c.args.launching) =
-    subst (λ h. owner (beginning h) h.entries c.args.queue ≡ Some (opening_of c.args.launching)) (sym (seen c.self.view_is)) c.requires.decided.4 in
+    let owned : owner (start_of a) a.audit.items c.args.queue ≡ Some (opening_of c.args.launching.now) =
+    subst (λ h. owner (beginning h) h.entries c.args.queue ≡ Some (opening_of c.args.launching.now)) (sym (seen c.self.view_is)) c.requires.decided.4 in
     let launches : launched_by (Take c.args.queue c.args.packet c.args.bytes.now) (outcome.Taken Launched) ≡ Some (record { queue = c.args.queue; id = c.args.packet; packet = p }) =
     ap (option_map (λ (x : Packet). record { queue = c.args.queue; id = c.args.packet; packet = x })) c.requires.decided.1 in
     let within : lies_in_regions (region_lengths a.start.policy) p ≡ true = subst (λ h. lies_in_regions (region_lengths (beginning h).policy) p ≡ true) (sym (seen c.self.view_is)) c.requires.decided.2 in
-    let block : ArgumentBlock = block_laid c.args.queue c.args.packet c.args.launching.client (c.entries_before.result + c.len.result) c.in_ok-list_rights.rights c.in_ok-block.block in
+    let block : ArgumentBlock = block_laid c.args.queue c.args.packet c.args.launching.now.client (c.entries_before.result + c.len.result) c.in_ok-list_rights.rights c.in_ok-block.block in
     let number_is : c.entries_before.result + c.len.result ≡ a.start.before + length a.audit.items =
     (λ i. (c.entries_before.ensures.before ∙ sym (ap (λ (h : History). (beginning h).before) (seen c.self.view_is))) i + c.len.ensures i) in
     IsCached-more a _ (Take c.args.queue c.args.packet c.args.bytes.now) (outcome.Taken Launched) [] c.self.invariant
@@ -59,9 +59,9 @@ invariant_of-self c =
       same = ((refl, refl, refl), refl);
       audit = rw c.none.ensures at c.enter.ensures;
       blocks = c.self.invariant.blocks ++ block ∷ [];
-      grants = grants-launched a c.self.invariant _ _ (λ client on right b. refl) (λ rows. refl) (opening_of c.args.launching) c.args.queue c.args.packet p _ _ _ launches
+      grants = grants-launched a c.self.invariant _ _ (λ client on right b. refl) (λ rows. refl) (opening_of c.args.launching.now) c.args.queue c.args.packet p _ _ _ launches
           (flight-launched (start_of a) a.audit.items c.args.queue c.args.packet c.args.bytes.now p c.requires.decided.1)
-          (c.in_ok-list_rights.ensures ∙ ap (λ (h : History). map as_rights (rights_at_launch (beginning h) h.entries (opening_of c.args.launching) p)) (sym (seen c.self.view_is)))
+          (c.in_ok-list_rights.ensures ∙ ap (λ (h : History). map as_rights (rights_at_launch (beginning h) h.entries (opening_of c.args.launching.now) p)) (sym (seen c.self.view_is)))
           owned
           (c.in_ok-block.ensures ∙ ap (λ q. arguments_of (beginning c.args.self.now.history) c.args.self.now.history.entries q) c.packet.ensures
           ∙ ap (λ (h : History). arguments_of (beginning h) h.entries p) (sym (seen c.self.view_is)));
@@ -78,7 +78,7 @@ pub returns-in_err-block-clause-met : goal.returns-in_err-block-clause-met
 returns-in_err-block-clause-met c =
     inr (record {
       may = rw c.requires.decided.0 refl;
-      asks = launch-asks c.args.self.now.history c.args.queue c.args.packet c.args.bytes.now (opening_of c.args.launching) c.args.launching.asked.packet
+      asks = launch-asks c.args.self.now.history c.args.queue c.args.packet c.args.bytes.now (opening_of c.args.launching.now) c.args.launching.now.asked.packet
           (due c.args.self.now.history (Take c.args.queue c.args.packet c.args.bytes.now)) c.requires.decided.4 c.requires.decided.1;
       reply_is = search rules;
       history_is = refl;
@@ -88,7 +88,7 @@ pub returns-in_err-list_rights-clause-met : goal.returns-in_err-list_rights-clau
 returns-in_err-list_rights-clause-met c =
     inr (record {
       may = rw c.requires.decided.0 refl;
-      asks = launch-asks c.args.self.now.history c.args.queue c.args.packet c.args.bytes.now (opening_of c.args.launching) c.args.launching.asked.packet
+      asks = launch-asks c.args.self.now.history c.args.queue c.args.packet c.args.bytes.now (opening_of c.args.launching.now) c.args.launching.now.asked.packet
           (due c.args.self.now.history (Take c.args.queue c.args.packet c.args.bytes.now)) c.requires.decided.4 c.requires.decided.1;
       reply_is = search rules;
       history_is = refl;
