@@ -34,11 +34,11 @@ module _ (key : ArgumentBlock → ℕ) where
   -- some of them taken out
   pub ascend-some : (test : ArgumentBlock → Bool) (bs : List ArgumentBlock) → Ascend key bs → Ascend key (filter test bs)
   ascend-some test [] rises = tt
-  ascend-some test (x ∷ xs) rises = by_test (test x)
+  ascend-some test (x ∷ xs) rises = by_test (ascend-some test xs rises.1) (test x)
     where
-      by_test : (b : Bool) → Ascend key (if b then x ∷ filter test xs else filter test xs)
-      by_test true = (All-filter test (λ c. key x < key c) xs rises.0, ascend-some test xs rises.1)
-      by_test false = ascend-some test xs rises.1
+      by_test : Ascend key (filter test xs) → (b : Bool) → Ascend key (if b then x ∷ filter test xs else filter test xs)
+      by_test rest true = (All-filter test (λ c. key x < key c) xs rises.0, rest)
+      by_test rest false = rest
 
   -- one taken out where it lies
   pub out-at : (bs : List ArgumentBlock) (i : ℕ) (one : ArgumentBlock) (n : ℕ) → Ascend key bs → slice_get bs i ≡ Some one → key one ≡ n → remove bs i ≡ filter (λ b. not (key b == n)) bs
@@ -102,7 +102,7 @@ pub as-many : (ps : List Place) (bs : List ArgumentBlock) → AreOfPlaces ps bs 
 as-many [] [] are = refl
 as-many [] (b ∷ bs) are = absurd cc
 as-many (p ∷ ps) [] are = absurd cc
-as-many (p ∷ ps) (b ∷ bs) are = let rest : AreOfPlaces ps bs = cc in ap (λ n. n + 1) (as-many ps bs rest)
+as-many (p ∷ ps) (b ∷ bs) are = let rest : AreOfPlaces ps bs = cc in let same = as-many ps bs rest in omega (arith, same)
 
 -- ids of both are below the same
 pub ids-below : (n : ℕ) (ps : List Place) (bs : List ArgumentBlock) → AreOfPlaces ps bs → All (λ (p : Place). p.id.0 < n) ps → All (λ (b : ArgumentBlock). b.packet.0 < n) bs

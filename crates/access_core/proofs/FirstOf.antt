@@ -39,7 +39,7 @@ module _ (test : ArgumentBlock → Bool) where
 
   pub first-sorted : (bs : List ArgumentBlock) → AreSorted bs → IsFirstTo (has_block test bs) (option_map packet_of (find test bs))
   first-sorted [] sorted = λ queue id. refl
-  first-sorted (b ∷ bs) sorted = by_test (test b) refl
+  first-sorted (b ∷ bs) sorted = by_test (first-sorted bs sorted.1) (test b) refl
     where
       up : (queue : QueueId) (id : PacketId) → has_block test (b ∷ bs) queue id ≡ true → IsUpTo b.queue b.packet queue id
       up queue id is =
@@ -50,9 +50,10 @@ module _ (test : ArgumentBlock → Bool) where
           by_case c named_is (inl same) = itself b queue id (ap (is_block queue id) same ∙ named_is)
           by_case c named_is (inr there) = named b c queue id (All-contains (IsBefore b) bs c sorted.0 there) named_is
 
-      by_test : (x : Bool) → test b ≡ x → IsFirstTo (has_block test (b ∷ bs)) (option_map packet_of (if x then Some b else find test bs))
-      by_test true is = ((λ i. (block-itself b i && is i) || has_block test bs b.queue b.packet), up)
-      by_test false is = first_same (has_block test bs) (has_block test (b ∷ bs)) (option_map packet_of (find test bs)) (fails b bs is) (first-sorted bs sorted.1)
+      by_test : IsFirstTo (has_block test bs) (option_map packet_of (find test bs)) → (x : Bool) → test b ≡ x
+          → IsFirstTo (has_block test (b ∷ bs)) (option_map packet_of (if x then Some b else find test bs))
+      by_test more true is = ((λ i. (block-itself b i && is i) || has_block test bs b.queue b.packet), up)
+      by_test more false is = first_same (has_block test bs) (has_block test (b ∷ bs)) (option_map packet_of (find test bs)) (fails b bs is) more
 
 -- ---- the blocks of queues are sorted
 
@@ -110,6 +111,15 @@ least-found test queues ascending sound = first-sorted test (all_blocks queues) 
 drop-at : {X : Type 0} (xs : List X) (i : ℕ) (x : X) → i < length xs → get_or xs i x ≡ x → drop i xs ≡ x ∷ drop (i + 1) xs
 drop-at xs i x less is = drop_more xs i x less ∙ ap (λ y. y ∷ drop (i + 1) xs) is
 
-pub walk : (test : ArgumentBlock → Bool) (queues : List Queue) (i : ℕ) (q : Queue) → i < length queues → get_or queues i q ≡ q
-    → find test (all_blocks (drop i queues)) ≡ option_or (find test q.blocks) (find test (all_blocks (drop (i + 1) queues)))
-walk test queues i q less is = ap (λ qs. find test (all_blocks qs)) (drop-at queues i q less is) ∙ find-append test q.blocks (all_blocks (drop (i + 1) queues))
+module _ (test : ArgumentBlock → Bool) (queues : List Queue) (i : ℕ) (q : Queue) (less : i < length queues) (is : get_or queues i q ≡ q)
+    (so_far : find test (all_blocks (drop i queues)) ≡ find test (all_blocks queues)) where
+  walk : find test (all_blocks (drop i queues)) ≡ option_or (find test q.blocks) (find test (all_blocks (drop (i + 1) queues)))
+  walk = ap (λ qs. find test (all_blocks qs)) (drop-at queues i q less is) ∙ find-append test q.blocks (all_blocks (drop (i + 1) queues))
+
+  -- one that the next queue has is the first
+  pub walk-found : (b : ArgumentBlock) → find test q.blocks ≡ Some b → Some b ≡ find test (all_blocks queues)
+  walk-found b found = sym (sym so_far ∙ walk ∙ ap (λ o. option_or o (find test (all_blocks (drop (i + 1) queues)))) found)
+
+  -- where it has none, those behind it are looked at
+  pub walk-on : find test q.blocks ≡ None → find test (all_blocks (drop (i + 1) queues)) ≡ find test (all_blocks queues)
+  walk-on none = sym (walk ∙ ap (λ o. option_or o (find test (all_blocks (drop (i + 1) queues)))) none) ∙ so_far

@@ -95,10 +95,10 @@ later-none from bs past = filter-none (λ (b : ArgumentBlock). nat_le from b.num
 later-one : (from : ℕ) (bs : List ArgumentBlock) (one : ArgumentBlock) → Ascend by_number bs → Contains bs one → from ≤ one.number
     → All (NotBefore from one) bs → later from bs ≡ one ∷ later (one.number + 1) bs
 later-one from [] one rises there late all = let less = there.1 in absurd (omega (arith, less))
-later-one from (x ∷ xs) one rises there late all = by_case (contains-cases x xs one there)
+later-one from (x ∷ xs) one rises there late all = by_case (λ behind. later-one from xs one rises.1 behind late (All-tail (NotBefore from one) x xs all)) (contains-cases x xs one there)
   where
-    by_case : (x ≡ one) ⊎ Contains xs one → later from (x ∷ xs) ≡ one ∷ later (one.number + 1) (x ∷ xs)
-    by_case (inl same) =
+    by_case : (Contains xs one → later from xs ≡ one ∷ later (one.number + 1) xs) → (x ≡ one) ⊎ Contains xs one → later from (x ∷ xs) ≡ one ∷ later (one.number + 1) (x ∷ xs)
+    by_case more (inl same) =
         let number = ap (λ (b : ArgumentBlock). b.number) same in
         let first : nat_le from x.number ≡ true = le-true from x.number (omega (arith, number, late)) in
         let gone : nat_le (one.number + 1) x.number ≡ false = le-false (one.number + 1) x.number (omega (arith, number)) in
@@ -108,12 +108,12 @@ later-one from (x ∷ xs) one rises there late all = by_case (contains-cases x x
         let all_behind = filter-every (λ (b : ArgumentBlock). nat_le (one.number + 1) b.number) xs
         (All-weaker (λ (b : ArgumentBlock). by_number x < by_number b) (λ (b : ArgumentBlock). nat_le (one.number + 1) b.number ≡ true) (λ b above. le-true (one.number + 1) b.number (omega (arith, above, number))) xs up) in
         rw (first, gone, all_later, all_behind) (ap (λ b. b ∷ xs) same)
-    by_case (inr behind) =
+    by_case more (inr behind) =
         let above = All-contains (λ (b : ArgumentBlock). by_number x < by_number b) xs one rises.0 behind in
         let past : x.number < from = not_late (All-head (NotBefore from one) x xs all) above in
         let first : nat_le from x.number ≡ false = le-false from x.number past in
         let gone : nat_le (one.number + 1) x.number ≡ false = le-false (one.number + 1) x.number (omega (arith, above)) in
-        rw (first, gone) (later-one from xs one rises.1 behind late (All-tail (NotBefore from one) x xs all))
+        rw (first, gone) (more behind)
       where
         not_late : NotBefore from one x → x.number < one.number → x.number < from
         not_late (inl past) above = past
@@ -147,7 +147,7 @@ pub record AreTold (queues : List Queue) (blocks : List ArgumentBlock) (origins 
   pub left : turns + length (later from blocks) ≡ length blocks
 
 pub told-none : (queues : List Queue) (blocks : List ArgumentBlock) → AreTold queues blocks [] 0 0
-told-none queues blocks = record { so_far = ap (filter_map (packet_origin queues)) (later-all blocks); left = ap length (later-all blocks) }
+told-none queues blocks = record { so_far = ap (filter_map (packet_origin queues)) (later-all blocks); left = let all = ap length (later-all blocks) in omega (arith, all) }
 
 one_told : (o : Option PacketOrigin) (more : List PacketOrigin) → option_to_list o ++ more ≡ cons_option o more
 one_told None more = refl

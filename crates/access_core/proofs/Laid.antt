@@ -48,7 +48,7 @@ left-other queue m id (b ∷ bs) other = grind (arith, left-other queue m id bs 
 
 module _ (queues : List Queue) (n : ℕ) (blocks : List ArgumentBlock) (laid : AreLaid queues n blocks) (queue : QueueId) (q : Queue) (found : queue_in queues queue ≡ Some q) (ascending : AscendFrom 0 queues) where
   -- its own blocks
-  its-own : q.blocks ≡ filter (is_of queue) blocks
+  pub its-own : q.blocks ≡ filter (is_of queue) blocks
   its-own = ap blocks_in (sym found) ∙ laid.in_queues queue
 
   -- those that lie in each queue, where one has others

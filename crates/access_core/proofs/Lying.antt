@@ -34,17 +34,17 @@ contains-whole test xs x there = All-contains (Contains xs) (filter test xs) x (
 
 contains-left : {X : Type 0} (test : X → Bool) (xs : List X) (x : X) → Contains xs x → test x ≡ true → Contains (filter test xs) x
 contains-left test [] x there is = let below = there.1 in absurd (omega (arith, below))
-contains-left test (y ∷ xs) x there is = by_case (contains-cases y xs x there)
+contains-left test (y ∷ xs) x there is = by_case (λ rest. contains-left test xs x rest is) (contains-cases y xs x there)
   where
     behind : (b : Bool) → Contains (filter test xs) x → Contains (if b then y ∷ filter test xs else filter test xs) x
     behind true rest = contains-behind y (filter test xs) x rest
     behind false rest = rest
 
-    by_case : (y ≡ x) ⊎ Contains xs x → Contains (filter test (y ∷ xs)) x
-    by_case (inl same) =
+    by_case : (Contains xs x → Contains (filter test xs) x) → (y ≡ x) ⊎ Contains xs x → Contains (filter test (y ∷ xs)) x
+    by_case more (inl same) =
         let passes : test y ≡ true = ap test same ∙ is in
         subst (λ b. Contains (if b then y ∷ filter test xs else filter test xs) x) (sym passes) (subst (λ z. Contains (z ∷ filter test xs) x) (sym same) (contains-head x (filter test xs)))
-    by_case (inr rest) = behind (test y) (contains-left test xs x rest is)
+    by_case more (inr rest) = behind (test y) (more rest)
 
 -- one of a list that passes
 pub record Passing {X : Type 0} (test : X → Bool) (xs : List X) : Type 0 where
@@ -54,12 +54,12 @@ pub record Passing {X : Type 0} (test : X → Bool) (xs : List X) : Type 0 where
 
 pub any-one : {X : Type 0} (test : X → Bool) (xs : List X) → list_any test xs ≡ true → Passing test xs
 any-one test [] any = absurd cc
-any-one test (x ∷ xs) any = first (test x) refl any
+any-one test (x ∷ xs) any = first (any-one test xs) (test x) refl any
   where
-    first : (b : Bool) → test x ≡ b → (b || list_any test xs) ≡ true → Passing test (x ∷ xs)
-    first true is any = record { one = x; there = contains-head x xs; passes = is }
-    first false is any =
-        let later = any-one test xs any in
+    first : (list_any test xs ≡ true → Passing test xs) → (b : Bool) → test x ≡ b → (b || list_any test xs) ≡ true → Passing test (x ∷ xs)
+    first more true is any = record { one = x; there = contains-head x xs; passes = is }
+    first more false is any =
+        let later = more any in
         record { one = later.one; there = contains-behind x xs later.one later.there; passes = later.passes }
 
 pub one-any : {X : Type 0} (test : X → Bool) (xs : List X) (x : X) → Contains xs x → test x ≡ true → list_any test xs ≡ true
@@ -91,31 +91,28 @@ number-itself q = grind arith
 
 lies-in : (below : ℕ) (queues : List Queue) → AscendFrom below queues → (block : ArgumentBlock) → Contains (all_blocks queues) block → LiesIn queues block
 lies-in below [] ascending block there = let less = there.1 in absurd (omega (arith, less))
-lies-in below (x ∷ xs) ascending block there = by_case (Contains-append_cases x.blocks (all_blocks xs) block there)
+lies-in below (x ∷ xs) ascending block there = by_case (lies-in x.number.0 xs ascending.1 block) (Contains-append_cases x.blocks (all_blocks xs) block there)
   where
-    by_case : Contains x.blocks block ⊎ Contains (all_blocks xs) block → LiesIn (x ∷ xs) block
-    by_case (inl here) = record { q = x; found = rw (number-itself x) refl; there = here }
-    by_case (inr behind) =
-        let later = lies-in x.number.0 xs ascending.1 block behind in
-        record { q = later.q; found = by_test (has_number later.q.number x) refl later.found; there = later.there }
+    by_case : (Contains (all_blocks xs) block → LiesIn xs block) → Contains x.blocks block ⊎ Contains (all_blocks xs) block → LiesIn (x ∷ xs) block
+    by_case more (inl here) = record { q = x; found = rw (number-itself x) refl; there = here }
+    by_case more (inr behind) =
+        let later = more behind in
+        record { q = later.q; found = by_test later.q.number later.q (has_number later.q.number x) refl later.found; there = later.there }
       where
-        by_test : {n : QueueId} {o : Option Queue} (b : Bool) → has_number n x ≡ b → queue_in xs n ≡ o → (if b then Some x else queue_in xs n) ≡ o
-        by_test {n} false is found = found
-        by_test {n} true is found = let none : queue_in xs n ≡ None = none-above xs n x.number.0 ascending.1 (same n is) in found-there none found
-          where
-            same : (n : QueueId) → has_number n x ≡ true → n.0 ≤ x.number.0
-            same n is = grind arith
+        same : (n : QueueId) → has_number n x ≡ true → n.0 ≤ x.number.0
+        same n is = grind arith
 
-            found-there : {n : QueueId} {o : Option Queue} → queue_in xs n ≡ None → queue_in xs n ≡ o → Some x ≡ o
-            found-there none found = absurd cc
+        by_test : (n : QueueId) (q : Queue) (b : Bool) → has_number n x ≡ b → queue_in xs n ≡ Some q → (if b then Some x else queue_in xs n) ≡ Some q
+        by_test n q false is found = found
+        by_test n q true is found = let none : queue_in xs n ≡ None = none-above xs n x.number.0 ascending.1 (same n is) in absurd cc
 
 lies-there : (queues : List Queue) (n : QueueId) (q : Queue) (block : ArgumentBlock) → queue_in queues n ≡ Some q → Contains q.blocks block → Contains (all_blocks queues) block
 lies-there [] n q block found there = absurd cc
-lies-there (x ∷ xs) n q block found there = by_test (has_number n x) found
+lies-there (x ∷ xs) n q block found there = by_test (λ behind. lies-there xs n q block behind there) (has_number n x) found
   where
-    by_test : (b : Bool) → (if b then Some x else queue_in xs n) ≡ Some q → Contains (x.blocks ++ all_blocks xs) block
-    by_test true found = let same : x ≡ q = cc in Contains-append_left x.blocks (all_blocks xs) block (subst (λ (y : Queue). Contains y.blocks block) (sym same) there)
-    by_test false found = Contains-append_right x.blocks (all_blocks xs) block (lies-there xs n q block found there)
+    by_test : (queue_in xs n ≡ Some q → Contains (all_blocks xs) block) → (b : Bool) → (if b then Some x else queue_in xs n) ≡ Some q → Contains (x.blocks ++ all_blocks xs) block
+    by_test more true found = let same : x ≡ q = cc in Contains-append_left x.blocks (all_blocks xs) block (subst (λ (y : Queue). Contains y.blocks block) (sym same) there)
+    by_test more false found = Contains-append_right x.blocks (all_blocks xs) block (more found)
 
 module _ (queues : List Queue) (n : ℕ) (blocks : List ArgumentBlock) (laid : AreLaid queues n blocks) (ascending : AscendFrom 0 queues) where
   pub is-among : (block : ArgumentBlock) → Contains (all_blocks queues) block → Contains blocks block

@@ -113,8 +113,21 @@ pub(crate) fn least_holder(
     requires ascending { AscendFrom 0 queues.now }
     ensures { IsFirstTo (has_block (lists_one client object rights) (all_blocks queues.now)) result }
 {
-    let block = first_holding(queues, client, object, rights)?;
-    Some((block.queue, block.packet))
+    match first_holding(queues, client, object, rights) {
+        None => None,
+        Some(block) => Some((block.queue, block.packet)),
+    }
+}
+
+// The first of a queue's blocks that lists a right that rows don't allow.
+fn first_of_queue<'a>(queue: &'a Queue, rows: &PolicyRows) -> Option<&'a ArgumentBlock>
+    ensures { option_copied result ≡ find (lists_denied rows.now) queue.now.blocks }
+{
+    queue
+        .blocks
+        .as_slice()
+        .iter()
+        .find(|block| lists_denied(block, rows))
 }
 
 // The first of all blocks that lists a right that rows don't allow, queue by queue.
@@ -122,12 +135,7 @@ fn first_denied<'a>(queues: &'a [Queue], rows: &PolicyRows) -> Option<&'a Argume
     ensures { option_copied result ≡ find (lists_denied rows.now) (all_blocks queues.now) }
 {
     for queue in queues {
-        if let Some(block) = queue
-            .blocks
-            .as_slice()
-            .iter()
-            .find(|block| lists_denied(block, rows))
-        {
+        if let Some(block) = first_of_queue(queue, rows) {
             return Some(block);
         }
     }
@@ -160,6 +168,8 @@ pub(crate) fn least_denied(
     if grants.are_allowed_by(rows) {
         return None;
     }
-    let block = first_denied(queues, rows)?;
-    Some((block.queue, block.packet))
+    match first_denied(queues, rows) {
+        None => None,
+        Some(block) => Some((block.queue, block.packet)),
+    }
 }

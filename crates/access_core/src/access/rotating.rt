@@ -193,7 +193,7 @@ fn sooner<'a>(
     other: Option<&'a ArgumentBlock>,
     block: &'a ArgumentBlock,
 ) -> Option<&'a ArgumentBlock>
-    ensures { option_copied result ≡ sooner from (option_copied other) block.now }
+    ensures { option_copied result ≡ sooner from (option_copied other.entry) block.now }
 {
     if block.number < from {
         return other;
@@ -216,7 +216,7 @@ fn soonest<'a>(
     other: Option<&'a ArgumentBlock>,
     blocks: &'a [ArgumentBlock],
 ) -> Option<&'a ArgumentBlock>
-    ensures { option_copied result ≡ fold (sooner from) (option_copied other) blocks.now }
+    ensures { option_copied result ≡ fold (sooner from) (option_copied other.entry) blocks.now }
 {
     let mut next = other;
     for block in blocks {

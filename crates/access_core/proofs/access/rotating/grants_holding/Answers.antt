@@ -1,5 +1,5 @@
 -- What the next queue's blocks list is in force, and is held behind that of those before it.
-use Rattle.std.proofs.Common.{◌≡◌, ◌∙◌, ap, sym, subst, true, All}
+use Rattle.std.proofs.Common.{◌≡◌, ◌∙◌, ap, sym, subst, take, true, All}
 use Rattle.access_core.specs.inner.Origins.{IsHolding}
 use Rattle.access_core.proofs.BlockRights.{blocks-more, blocks-of, copy-holds, holding-joined, still-in_force}
 use Rattle.access_core.proofs.Terms.{All-weaker, ArgumentBlock, all_blocks, are_in_force, take_all}
@@ -19,8 +19,9 @@ hold_all-requires c =
 pub loop-queue-preserved : goal.loop-queue-preserved
 loop-queue-preserved c =
     let queue = c.queue-item.result in
-    subst (λ blocks. IsHolding c.args.grants.now blocks _) (sym (blocks-more c.args.queues.now c.loop-queue.queue-index queue c.loop-queue-test.true (sym c.queue-item.is)))
-    (holding-joined c.args.grants.now c.loop-queue.holding _ (all_blocks _) queue.blocks c.loop-queue.invariant (subst (λ blocks. IsHolding c.loop-queue.holding blocks _) c.as_slice.ensures c.in_ok-hold_all.ensures))
+    subst (λ blocks. IsHolding c.args.grants.now blocks c.hold_all.new.holding) (sym (blocks-more c.args.queues.now c.loop-queue.queue-index queue c.loop-queue-test.true (sym c.queue-item.is)))
+    (holding-joined c.args.grants.now c.loop-queue.holding c.hold_all.new.holding (all_blocks (take c.loop-queue.queue-index c.args.queues.now)) queue.blocks c.loop-queue.invariant
+    (subst (λ blocks. IsHolding c.loop-queue.holding blocks c.hold_all.new.holding) c.as_slice.ensures c.in_ok-hold_all.ensures))
 
 pub returns : goal.returns
 returns c = subst (λ queues. IsHolding c.args.grants.now (all_blocks queues) c.loop-queue.holding) (take_all c.loop-queue.queue-index c.args.queues.now c.loop-queue-test.false) c.loop-queue.invariant
