@@ -1,5 +1,5 @@
 -- Blocks whose ids or numbers ascend: one more behind them, one taken out, and where one of them lies.
-use Rattle.std.proofs.Common.{◌≡◌, ℕ, zero, suc, ◌+◌, ◌<◌, ◌==◌, Bool, true, false, not, List, [], ◌∷◌, ◌++◌, length, map, filter, find, refl, sym, ◌∙◌, ap, subst, option_map, Option, Some, None, arith, slice_get, All, if◌then◌else◌}
+use Rattle.std.proofs.Common.{◌≡◌, ℕ, zero, suc, ◌+◌, ◌<◌, ◌==◌, Bool, true, false, not, List, [], ◌∷◌, ◌++◌, length, filter, find, refl, sym, ◌∙◌, ap, subst, option_map, Some, arith, slice_get, All, if◌then◌else◌}
 use Rattle.std.specs.List.{remove}
 use Rattle.std.proofs.lemmas.Bool.{eq-eqb}
 use Rattle.access_core.specs.inner.ArgumentBlocks.{AreOfPlaces, Ascend}

@@ -1,5 +1,5 @@
 -- What is cached stays what the history says when an entry is put behind it and the fields follow.
-use Rattle.std.proofs.Common.{◌≡◌, ℕ, ◌+◌, ◌≤◌, List, [], ◌∷◌, length, sym, ◌∙◌, ap, subst, refl, true, false, Some, None, arith, length-append, map, fold}
+use Rattle.std.proofs.Common.{◌≡◌, ℕ, ◌+◌, ◌≤◌, List, [], ◌∷◌, length, sym, ◌∙◌, ap, subst, refl, true, false, Some, None, arith, length-append, fold}
 use Rattle.std.proofs.Common.{All}
 use Rattle.access_core.proofs.Terms.{AreBlocksOf, AreLaid, ArgumentBlock, ClientId, Effect, Event, History, HoldsNone, InFlight, Inside, IsCached, IsEntered, IsSound, Ledger, Object, Outcome}
 use Rattle.access_core.proofs.Terms.{Owed}

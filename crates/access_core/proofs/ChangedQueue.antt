@@ -1,5 +1,5 @@
 -- One queue of the list changed: what is kept of it, and of the others.
-use Rattle.std.proofs.Common.{◌≡◌, ℕ, zero, suc, ◌+◌, ◌<◌, ◌≤◌, Bool, true, false, List, [], ◌∷◌, length, map, All, refl, sym, ◌∙◌, ap, subst, eqb-true, option_map, Option}
+use Rattle.std.proofs.Common.{◌≡◌, ℕ, zero, suc, ◌≤◌, Bool, true, false, List, [], ◌∷◌, length, map, All, refl, sym, ◌∙◌, ap, subst, eqb-true, option_map, Option}
 use Rattle.std.proofs.Common.{Some, None, arith, ◌==◌, get_or, slice_get, slice_set, if◌then◌else◌}
 use Rattle.access_core.proofs.Terms.{All-cons, All-head, All-tail, AscendFrom, Entry, IsQueueIndex, IsSound, IsThere, PacketId, Queue, QueueId, QueueView, Start, cached_openings, cached_queue, cached_view, changed_if, error_places, found-all, found-passes}
 use Rattle.access_core.proofs.Terms.{freed_by, has_number, length-map, places_freed, slice_get-get_or, queue_at, queue_in, with_queue}

@@ -1,6 +1,6 @@
 -- The first block that passes, queue by queue, is of the least packet that has one.
-use Rattle.std.proofs.Common.{◌≡◌, ℕ, ◌+◌, ◌<◌, ◌≤◌, ◌==◌, ◌&&◌, ◌||◌, ◌⊎◌, inl, inr, Bool, true, false, List, [], ◌∷◌, ◌++◌, drop, length, find, get_or, refl, sym, ◌∙◌, ap, option_map, Option, Some, None, arith, All, if◌then◌else◌}
-use Rattle.std.proofs.lemmas.Bool.{and_parts, eqb-true}
+use Rattle.std.proofs.Common.{◌≡◌, ℕ, ◌+◌, ◌<◌, ◌&&◌, ◌||◌, ◌⊎◌, inl, inr, Bool, true, false, List, [], ◌∷◌, ◌++◌, drop, length, find, get_or, refl, sym, ◌∙◌, ap, option_map, Some, None, arith, All, if◌then◌else◌}
+use Rattle.std.proofs.lemmas.Bool.{and_parts}
 use Rattle.std.proofs.lemmas.List.{drop_more}
 use Rattle.std.proofs.lemmas.List.Elements.{All-append, All-contains}
 use Rattle.std.proofs.lemmas.List.Folds.{find-append}
@@ -9,7 +9,7 @@ use Rattle.std.specs.List.{Contains}
 use Rattle.grants.proofs.HoldLemmas.{first_same}
 use Rattle.access_core.specs.inner.ArgumentBlocks.{Ascend, IsOfQueue, by_packet}
 use Rattle.access_core.proofs.Lying.{any-one, contains-cases}
-use Rattle.access_core.proofs.Terms.{All-cons, All-head, All-nil, All-tail, All-weaker, ArgumentBlock, AscendFrom, ClientId, IsFirstTo, IsSound, IsUpTo, PacketId, Queue, QueueId, all_blocks, has_block, is_block, list_any, packet_of}
+use Rattle.access_core.proofs.Terms.{All-cons, All-head, All-nil, All-tail, All-weaker, ArgumentBlock, AscendFrom, ClientId, IsFirstTo, IsSound, IsUpTo, PacketId, Queue, QueueId, all_blocks, has_block, is_block, packet_of}
 
 -- one block's packet comes up to another's
 abbrev IsBefore : ArgumentBlock → ArgumentBlock → Type 0

@@ -1,5 +1,5 @@
 -- Blocks in the order of launches: the next is the one with the lowest number of those that aren't told yet.
-use Rattle.std.proofs.Common.{◌≡◌, ℕ, ◌+◌, ◌<◌, ◌≤◌, ◌⊎◌, inl, inr, Bool, true, false, not, List, [], ◌∷◌, ◌++◌, length, filter, fold, refl, sym, ◌∙◌, ap, subst, Option, Some, None, arith, All, nat_le, nat_lt, if◌then◌else◌}
+use Rattle.std.proofs.Common.{◌≡◌, ℕ, ◌+◌, ◌<◌, ◌≤◌, ◌⊎◌, inl, inr, Bool, true, false, List, [], ◌∷◌, ◌++◌, length, filter, fold, refl, sym, ◌∙◌, ap, subst, Option, Some, None, arith, All, nat_le, nat_lt, if◌then◌else◌}
 use Rattle.std.specs.List.{Contains, filter_map}
 use Rattle.std.specs.Prelude.{option_to_list}
 use Rattle.std.specs.List.{cons_option}
@@ -10,7 +10,7 @@ use Rattle.access_core.specs.inner.ArgumentBlocks.{Ascend, by_number}
 use Rattle.access_core.specs.inner.Origins.{AreInOrder, packet_origin, sooner}
 use Rattle.access_core.proofs.Ascending.{filter-every, filter-none}
 use Rattle.access_core.proofs.Lying.{all-alike, contains-cases}
-use Rattle.access_core.proofs.Terms.{All-cons, All-head, All-nil, All-push, All-tail, All-weaker, ArgumentBlock, Queue, all_blocks, append-nil, ltb-false, ltb-true}
+use Rattle.access_core.proofs.Terms.{All-head, All-nil, All-push, All-tail, All-weaker, ArgumentBlock, Queue, all_blocks, append-nil, ltb-false, ltb-true}
 
 -- ---- the soonest of a list
 

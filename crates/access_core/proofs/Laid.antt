@@ -1,7 +1,7 @@
 -- The argument blocks of packets in flight lie in their queues, whatever is entered.
-use Rattle.std.proofs.Common.{◌≡◌, ℕ, ◌+◌, ◌<◌, ◌==◌, ◌&&◌, Bool, true, false, not, List, [], ◌∷◌, ◌++◌, length, filter, map, refl, sym, ◌∙◌, ap, Option, Some, None, arith, All, if◌then◌else◌}
+use Rattle.std.proofs.Common.{◌≡◌, ℕ, ◌+◌, ◌<◌, ◌==◌, Bool, true, false, not, List, [], ◌∷◌, ◌++◌, length, filter, refl, sym, ◌∙◌, ap, Option, Some, None, arith, All, if◌then◌else◌}
 use Rattle.std.proofs.lemmas.Bool.{eq-eqb, eqb-true}
-use Rattle.access_core.specs.inner.ArgumentBlocks.{Ascend, AreOfPlaces, blocks_in, by_number, is_of}
+use Rattle.access_core.specs.inner.ArgumentBlocks.{blocks_in, by_number, is_of}
 use Rattle.access_core.specs.inner.CachedQueue.{AreLaid}
 use Rattle.access_core.specs.inner.QueueChanges.{with_launched, without_block}
 use Rattle.access_core.specs.declared.access.leaving.Leaving.{Leaving}

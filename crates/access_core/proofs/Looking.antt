@@ -1,5 +1,5 @@
 -- Where no packet need be looked at: a queue of another client, or without packets, lists nothing, and what is in force and allowed may be held.
-use Rattle.std.proofs.Common.{arith, ◌≡◌, ◌<◌, List, [], ◌∷◌, ◌++◌, refl, sym, ◌∙◌, ap, Bool, true, false, None, ◌&&◌, ◌==◌, All, find, length, nat_lt, if◌then◌else◌}
+use Rattle.std.proofs.Common.{arith, ◌≡◌, List, [], ◌∷◌, ◌++◌, refl, sym, ◌∙◌, ap, Bool, true, false, None, ◌&&◌, ◌==◌, All, find, length, nat_lt, if◌then◌else◌}
 use Rattle.grants.specs.Ledger.{AllowsInForce}
 use Rattle.policy.specs.declared.rows.PolicyRows.{PolicyRows}
 use Rattle.access_core.specs.inner.ArgumentBlocks.{AreInForce, IsOfQueue}

@@ -1,7 +1,6 @@
 -- Who stands against a revocation or a reload, by the rights that argument blocks list.
-use Rattle.std.proofs.Common.{arith, ◌≡◌, ℕ, ◌+◌, ◌<◌, List, [], ◌∷◌, refl, sym, ◌∙◌, ap, Bool, true, false, ◌&&◌, ◌||◌, not, take, get_or, length}
+use Rattle.std.proofs.Common.{arith, ◌≡◌, List, [], ◌∷◌, refl, sym, ◌∙◌, ap, Bool, true, false, ◌&&◌, ◌||◌, not}
 use Rattle.std.proofs.lemmas.Bool.{and_from}
-use Rattle.std.proofs.lemmas.List.Folds.{list_any_more}
 use Rattle.policy.proofs.PairLemmas.{same_pair_is, same_pair_itself}
 use Rattle.policy.specs.Pairs.{is_one_of, same_pair}
 use Rattle.policy.specs.Rights.{each_right}
@@ -10,7 +9,7 @@ use Rattle.policy.specs.declared.rows.PolicyRows.{PolicyRows}
 use Rattle.core_model.proofs.Declared.{any-right}
 use Rattle.access_core.proofs.Least.{any-found, found-any}
 use Rattle.access_core.proofs.Terms.{ArgumentBlock, ClientId, Object, PacketId, QueueId, Right, Rights, all_rights, and_parts, found-passes, has, has_block, is_block, is_given}
-use Rattle.access_core.proofs.Terms.{list_all, list_any, lists_denied, lists_right, same_packet}
+use Rattle.access_core.proofs.Terms.{list_all, list_any, lists_denied, lists_right}
 
 -- ---- rights that rows don't allow
 
