@@ -80,6 +80,14 @@ impl ArgumentBlocks {
         self.blocks.as_slice()
     }
 
+    /// The block at an index.
+    pub fn at(&self, index: usize) -> &ArgumentBlock
+        requires { index < length self.now }
+        ensures { slice_get self.now index ≡ Some result.now }
+    {
+        &self.blocks[index]
+    }
+
     /// Puts the block of a packet that is launched behind the others. It takes no memory.
     pub fn push(&mut self, block: ArgumentBlock)
         requires { length self.old < most_in_flight }

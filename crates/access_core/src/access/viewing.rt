@@ -49,7 +49,7 @@ impl AccessCore {
         ensures arguments { result.now.bytes ≡ arguments (beginning self.now.history) self.now.history.entries queue found.packet }
     {
         let kept = &self.queues[open_index(self.queues.as_slice(), queue)];
-        &kept.blocks.as_slice()[found.index]
+        kept.blocks.at(found.index)
     }
 
     // The regions on which a right is listed, in order, each with the rights that are, and all its bytes.
