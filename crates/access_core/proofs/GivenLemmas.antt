@@ -1,5 +1,5 @@
 -- What a packet in flight was given lies at the index of its place.
-use Rattle.std.proofs.Common.{◌≡◌, ℕ, ◌==◌, List, [], ◌∷◌, Bool, true, filter, find, get_or, refl, sym, subst, ◌∙◌, ap, Some, Option, arith, slice_get, if◌then◌else◌}
+use Rattle.std.proofs.Common.{◌≡◌, ℕ, ◌==◌, List, [], ◌∷◌, Bool, true, filter, find, get_or, refl, sym, subst, ◌∙◌, ap, Some, None, Option, arith, slice_get, if◌then◌else◌}
 use Rattle.std.proofs.lemmas.Bool.{eq-eqb}
 use Rattle.core_model.specs.History.{beginning}
 use Rattle.core_model.specs.Holds.{arguments}
