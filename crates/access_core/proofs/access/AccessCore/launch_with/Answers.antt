@@ -51,7 +51,7 @@ invariant_of-self c =
     let launches : launched_by (Take c.args.queue c.args.packet c.args.bytes.now) (outcome.Taken Launched) ≡ Some (record { queue = c.args.queue; id = c.args.packet; packet = p }) =
     ap (option_map (λ (x : Packet). record { queue = c.args.queue; id = c.args.packet; packet = x })) c.requires.decided.1 in
     let within : lies_in_regions (region_lengths a.start.policy) p ≡ true = subst (λ h. lies_in_regions (region_lengths (beginning h).policy) p ≡ true) (sym (seen c.self.view_is)) c.requires.decided.2 in
-    let block : ArgumentBlock = block_laid c.args.queue c.args.packet c.args.launching.now.client (c.entries_before.result + c.len.result) c.in_ok-list_rights.rights c.in_ok-block.block in
+    let block : ArgumentBlock = block_laid c.args.queue c.args.packet c.args.launching.now.client (c.entries_before.result + c.len.result) c.list_rights.new.rights c.in_ok-block.block in
     let number_is : c.entries_before.result + c.len.result ≡ a.start.before + length a.audit.items =
     (λ i. (c.entries_before.ensures.before ∙ sym (ap (λ (h : History). (beginning h).before) (seen c.self.view_is))) i + c.len.ensures i) in
     IsCached-more a _ (Take c.args.queue c.args.packet c.args.bytes.now) (outcome.Taken Launched) [] c.self.invariant
