@@ -25,3 +25,5 @@ pub mod Runs
 pub mod Numbers
 pub mod Turning
 pub mod Showing
+pub mod TurnsMade
+pub mod Gathering

@@ -11,7 +11,7 @@ ghost use Rattle.core_model.specs.Legal.{IsWhole};
 ghost use Rattle.core_model.specs.Queues.{closes_queue, owner};
 ghost use Rattle.core_model.specs.declared.origin.Opening.{Opening};
 ghost use Rattle.client_threads.specs.declared.client_end.ClientEnd.{ClientEnd};
-ghost use Rattle.client_threads.specs.Boards.{Compared, PassSeen};
+ghost use Rattle.client_threads.specs.Boards.{Compared, FrontSeen};
 ghost use Rattle.client_threads.specs.HandedOver.{AreSettledWith, KeepsAll};
 ghost use Rattle.client_threads.specs.Opening.{IsOpened};
 ghost use Rattle.client_threads.specs.Rings.{IsOf, QueueRing};
@@ -21,11 +21,11 @@ ghost use Rattle.client_threads.specs.Sections.{AllFollow, IsFirst, last_of, who
 
 /// What is of a broker stays so when a queue is opened, and the queue's ends and its lane are of it.
 pub fn law_opened_queues_belong()
-    ensures kept { (old new : List QueueRing) (size producers : ℕ) (front : PassSeen) (queue : QueueId) (ends : List ClientEnd) (lane : LaneSeen) →
+    ensures kept { (old new : List QueueRing) (size producers : ℕ) (front : FrontSeen) (queue : QueueId) (ends : List ClientEnd) (lane : LaneSeen) →
         IsOpened old size producers front queue ends lane new → (q : ℕ) (table : TableId) → IsOf old q table → IsOf new q table }
-    ensures ends { (old new : List QueueRing) (size producers : ℕ) (front : PassSeen) (queue : QueueId) (ends : List ClientEnd) (lane : LaneSeen) →
+    ensures ends { (old new : List QueueRing) (size producers : ℕ) (front : FrontSeen) (queue : QueueId) (ends : List ClientEnd) (lane : LaneSeen) →
         IsOpened old size producers front queue ends lane new → All (λ end. IsEndOf new end) ends }
-    ensures lane { (old new : List QueueRing) (size producers : ℕ) (front : PassSeen) (queue : QueueId) (ends : List ClientEnd) (lane : LaneSeen) →
+    ensures lane { (old new : List QueueRing) (size producers : ℕ) (front : FrontSeen) (queue : QueueId) (ends : List ClientEnd) (lane : LaneSeen) →
         IsOpened old size producers front queue ends lane new → IsLaneOf front.board new lane }
 {}
 

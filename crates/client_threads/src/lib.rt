@@ -19,6 +19,7 @@ mod room;
 mod serving;
 mod settled_parts;
 mod settling;
+mod still;
 
 pub use advancing::{Advanced, advance_one};
 pub use board::Front;
@@ -36,4 +37,5 @@ pub use pending::PendingPacket;
 pub use room::Room;
 pub use serving::{ServeAnswer, serve_one};
 pub use settled_parts::{PartFault, SettledParts, UnsettledPart};
-pub use settling::{SettleAllFault, SettledQueue, Settlement, UnsettledBroker, settle_all};
+pub use settling::{SettleAllFault, SettledQueue, Settlement, settle_all};
+pub use still::{StillBroker, UnsettledBroker};
