@@ -13,6 +13,7 @@ use Rattle.ring.specs.Passes.{RingSeen}
 use Rattle.client_threads.specs.Lanes.{LaneSeen, share_of}
 use Rattle.client_threads.specs.Rings.{IsRingOf, QueueRing, ring_of}
 use Rattle.client_threads.specs.Running.{EachGoesOn, GoesOn, IsLaneOf}
+use Rattle.client_threads.specs.inner.Gatherings.{IsOnBoard}
 use Rattle.client_threads.specs.inner.Turns.{HasSeen, Looks, StandsIn, StaysOn}
 
 pub goes_on_none : (lane : LaneSeen) → GoesOn lane lane
@@ -97,3 +98,6 @@ shares_stay opened board rings (x ∷ xs) (y ∷ ys) same each =
 
 pub all_seen : (board : TableId) (rings : List QueueRing) (lanes : List LaneSeen) → All (λ lane. IsLaneOf board rings lane) lanes → All (HasSeen board) lanes
 all_seen board rings lanes all = λ k d lt. let one = all k d lt in record { board_is = one.board_is; stands = one.stands }
+
+pub all_on_board : (board : TableId) (rings : List QueueRing) (lanes : List LaneSeen) → All (λ lane. IsLaneOf board rings lane) lanes → All (IsOnBoard board) lanes
+all_on_board board rings lanes all = λ k d lt. (all k d lt).board_is

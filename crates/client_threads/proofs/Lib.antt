@@ -27,3 +27,5 @@ pub mod Turning
 pub mod Showing
 pub mod TurnsMade
 pub mod Gathering
+pub mod OwnEntries
+pub mod Places

@@ -83,7 +83,7 @@ step_by e a b f true is =
     f.goes in
     subst (λ (w : List Entry). IsPrefix (e ++ a.entries) (w ++ b.entries)) (sym (append-nil e)) (behind e a.entries b.entries p)
 
-step : (e : List Entry) (a b : Core) → Follows a.history b.history → IsPrefix (e ++ a.history.entries) ((e ++ gone a b) ++ b.history.entries)
+pub step : (e : List Entry) (a b : Core) → Follows a.history b.history → IsPrefix (e ++ a.history.entries) ((e ++ gone a b) ++ b.history.entries)
 step e a b f = step_by e a.history b.history f (b.history.origin.before == a.history.origin.before) refl
 
 pub grows : (e : List Entry) (core : Core) (left : List Core) → AllFollow core left → IsPrefix (e ++ core.history.entries) (whole e core left)

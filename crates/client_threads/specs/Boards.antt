@@ -1,5 +1,5 @@
 -- What the passes of a board know: on it stands each state in which a section left the core, and whose section that was (own).
-use Rattle.std.specs.Prelude.{◌≡◌, ◌⊎◌, ◌≤◌, ℕ, zero, suc, ◌+◌, ◌-◌, true, false, List, [], ◌∷◌, ◌++◌, length}
+use Rattle.std.specs.Prelude.{◌≡◌, ◌⊎◌, ◌≤◌, ℕ, zero, suc, ◌+◌, ◌-◌, ◌==◌, if◌then◌else◌, true, false, List, [], ◌∷◌, ◌++◌, length}
 use Rattle.std.specs.List.{sum_by}
 use mathlib.Core.Option.{some}
 use mathlib.Core.List.{IsPrefix}
@@ -39,6 +39,10 @@ sum_to f (suc n) = sum_to f n + f n
 -- each number below n stands among these, once, and no other: whatever is summed over them
 abbrev pub AreAllBelow : ℕ → List ℕ → Type 0
 AreAllBelow n places = (f : ℕ → ℕ) → sum_by f places ≡ sum_to f n
+
+-- how often a place stands among these
+abbrev pub times : ℕ → List ℕ → ℕ
+times k places = sum_by (λ j. if j == k then 1 else 0) places
 
 -- what the rule says of one view: only the seat with this number writes, and it knows all; any other knows a beginning; who has no
 -- share has no place

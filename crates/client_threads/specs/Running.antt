@@ -4,7 +4,17 @@ use Rattle.atomic_table.specs.Seated.{TableId}
 use Rattle.ring.specs.Passes.{RingSeen}
 use Rattle.ring.specs.Showing.{HasPeeked}
 use Rattle.ring.specs.declared.processor.Peeked.TheVariants as peeked
+use Rattle.aql_packet.specs.declared.ids.PacketId.{PacketId}
+use Rattle.aql_packet.specs.declared.ids.QueueId.{QueueId}
+use Rattle.ring.specs.declared.processor.Shown.{Shown}
 use Rattle.core_model.specs.History.{History}
+use Rattle.core_model.specs.Legal.{entry_of}
+use Rattle.core_model.specs.declared.call.Call.TheVariants.{Finish, Poll, RunNext}
+use Rattle.core_model.specs.declared.entry.Effect.{Effect}
+use Rattle.core_model.specs.declared.entry.Entry.{Entry}
+use Rattle.core_model.specs.declared.event.Event.{Event}
+use Rattle.core_model.specs.declared.event.Event.TheVariants.{Call, Take}
+use Rattle.core_model.specs.declared.outcome.Outcome.{Outcome}
 use Rattle.access_core.specs.Cores.{Core}
 use Rattle.client_threads.specs.declared.advancing.Advanced.TheVariants.{Idle}
 use Rattle.client_threads.specs.declared.client_end.ClientEnd.{ClientEnd}
@@ -56,6 +66,22 @@ IsTurn opened ring old answer new = IsIdleTurn ring old answer new ⊎ IsBusyTur
 abbrev pub AreTurns : Core → RingSeen → LaneSeen → List LaneAnswer → LaneSeen → Type 0
 AreTurns opened ring old [] new = new ≡ old
 AreTurns opened ring old (answer ∷ rest) new = (mid : LaneSeen) × IsTurn opened ring old answer mid × AreTurns opened ring mid rest new
+
+-- at most this call's entry was entered
+abbrev pub IsAtMost : Event → List Entry → Type 0
+IsAtMost event entries = (entries ≡ []) ⊎ (told : Outcome) × (effects : List Effect) × (entries ≡ entry_of event told effects ∷ [])
+
+-- a call for a packet that is in flight
+abbrev pub IsCallFor : QueueId → PacketId → Event → Type 0
+IsCallFor queue id event = (event ≡ Call (Finish queue id)) ⊎ ((event ≡ Call (Poll queue id)) ⊎ (event ≡ Call (RunNext queue id)))
+
+-- entries were added: at most a take of this queue, and then at most one call for a packet of it
+pub record EntersOwn (queue : QueueId) (before after : History) : Type 0 where
+  pub taken : List Entry
+  pub advanced : List Entry
+  pub history : after ≡ record before { entries = before.entries ++ (taken ++ advanced) }
+  pub take_is : (taken ≡ []) ⊎ (shown : Shown) × IsAtMost (Take queue shown.id shown.bytes) taken
+  pub call_is : (advanced ≡ []) ⊎ (id : PacketId) × (event : Event) × IsCallFor queue id event × IsAtMost event advanced
 
 -- a lane went on: it is of its queue and ring, with its share; what it served begins with what it had served, and it keeps what it kept, and
 -- what came then

@@ -413,7 +413,7 @@ pub(crate) fn settle_in_rooms(
 /// they differ. Refused in this order: a front is missing; a pass is missing; the first of all parts doesn't begin with
 /// nothing before it, a later one doesn't begin where the one before it ends, or the audit doesn't begin where the last ends
 /// (without parts: the audit has entries before it); memory isn't to be had. All then comes back as it was.
-#[tactic(auto, using(crate::proofs::Readiness::all_ready))]
+#[tactic(auto, using(crate::proofs::Readiness::all_ready, crate::proofs::GoingOn::all_seen, crate::proofs::GoingOn::all_on_board, crate::proofs::Gathering::closed_of, crate::proofs::Gathering::end_of))]
 pub fn settle_all<B: Room>(
     alloc: Global,
     broker: Broker<B>,

@@ -202,6 +202,7 @@ impl<B: Room> StillBroker<B> {
     }
 
     // Settles it in rooms that were got for it. All fronts come back.
+    #[tactic(auto, using(crate::proofs::Gathering::gathered_all))]
     pub(crate) fn settle(
         self,
         front: Front,

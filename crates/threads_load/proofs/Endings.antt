@@ -9,12 +9,13 @@ use Rattle.core_model.specs.History.{Part, beginning}
 use Rattle.core_model.specs.Legal.{IsLegalPart, IsOpening}
 use Rattle.core_model.specs.Rotation.{entries_in}
 use Rattle.core_model.specs.declared.entry.Entry.{Entry}
+use Rattle.client_threads.specs.Boards.{FrontSeen}
 use Rattle.client_threads.specs.Lanes.{LaneSeen}
 use Rattle.client_threads.specs.Rings.{QueueRing}
 use Rattle.client_threads.specs.declared.client_end.ClientEnd.{ClientEnd}
 use Rattle.client_threads.specs.declared.settling.Settlement.{Settlement}
 use Rattle.client_threads.specs.declared.settling.Settlement.TheVariants as settlement
-use Rattle.client_threads.specs.Settling.{IsEnd, IsLedTo, IsSettlement, core_of}
+use Rattle.client_threads.specs.Settling.{IsClosed, IsLedTo, IsSettlement, core_of}
 use Rattle.client_threads.specs.Takes.{AllAgree}
 use Rattle.threads_load.specs.declared.load.Ended.{Ended}
 use Rattle.threads_load.specs.declared.load.Load.{Load}
@@ -44,24 +45,24 @@ ends_as plan wanted parts rings ends lanes (settlement.Mismatch core queue id) e
     let entries = entries_in parts ++ core.history.entries in
     (is.0, subst (λ (e : Ending). EndsAs entries lanes (are_finished entries wanted (length plan)) e) (sym by) is.1)
 
-pub ends_load : (opened : Core) (plan : List PlannedQueue) (wanted : ℕ) (seen : List Core) (parts : List Part) (rings : List QueueRing) (ends : List ClientEnd) (lanes : List LaneSeen) (came : Settlement) (ended : Ended)
+pub ends_load : (opened : Core) (plan : List PlannedQueue) (wanted : ℕ) (front : FrontSeen) (parts : List Part) (rings : List QueueRing) (ends : List ClientEnd) (lanes : List LaneSeen) (came : Settlement) (ended : Ended)
     → All (IsLegalPart opened.history.kernels) parts
-    → WasLeft seen (λ left. HasAllAllowed left.history) → HasQueues (core_of came) plan → AreOf (length plan) lanes
-    → IsSettlement rings parts ends lanes came → IsEnd opened seen lanes (core_of came)
+    → WasLeft front.left (λ left. HasAllAllowed left.history) → HasQueues (core_of came) plan → AreOf (length plan) lanes
+    → IsSettlement rings parts ends lanes came → IsClosed opened front lanes (core_of came)
     → ended.core ≡ core_of came → parts_in ended ≡ parts → AreCounts (entries_in (parts_in ended) ++ ended.core.history.entries) (length plan) ended.counts.items
     → EndsBy plan wanted parts came ended.ending → EndsLoad opened plan wanted ended
-ends_load opened plan wanted seen parts rings ends lanes came ended legal granted queues are is end core_is parts_are counts by =
+ends_load opened plan wanted front parts rings ends lanes came ended legal granted queues are is end core_is parts_are counts by =
     let both = ends_as plan wanted parts rings ends lanes came ended.ending is by in
     let own : EndsWith opened plan wanted parts (core_of came) ended.ending = record {
       legal = both.0.legal;
       parts_legal = legal;
       lead = both.0.lead;
-      seen = seen;
+      front = front;
       lanes = lanes;
       granted = granted;
       queues = queues;
       lanes_are = are;
-      end = end;
+      closed = end;
       ends = both.1;
     } in
     record {
@@ -85,13 +86,13 @@ pub tells_load : {E : Type 0} (policy : Declared) (kernels : List Kernel) (packe
 tells_load policy kernels packets producers plan opened (Ok load) opens is told = (opened, opens, subst (λ (p : List PlannedQueue). TellsPlan opened p (wanted_of packets producers) load) is told)
 tells_load policy kernels packets producers plan opened (Err why) opens is told = tt
 
-pub finishes : {F : Type 0} (opened : Core) (plan : List PlannedQueue) (wanted : ℕ) (seen : List Core) (parts : List Part) (rings : List QueueRing) (ends : List ClientEnd) (lanes : List LaneSeen) (came : Settlement) (made : Result Ended F)
+pub finishes : {F : Type 0} (opened : Core) (plan : List PlannedQueue) (wanted : ℕ) (front : FrontSeen) (parts : List Part) (rings : List QueueRing) (ends : List ClientEnd) (lanes : List LaneSeen) (came : Settlement) (made : Result Ended F)
     → All (IsLegalPart opened.history.kernels) parts
-    → WasLeft seen (λ left. HasAllAllowed left.history) → HasQueues (core_of came) plan → AreOf (length plan) lanes
-    → IsSettlement rings parts ends lanes came → IsEnd opened seen lanes (core_of came)
+    → WasLeft front.left (λ left. HasAllAllowed left.history) → HasQueues (core_of came) plan → AreOf (length plan) lanes
+    → IsSettlement rings parts ends lanes came → IsClosed opened front lanes (core_of came)
     → IfOk made (λ ended. ended.core ≡ core_of came) → IfOk made (λ ended. parts_in ended ≡ parts)
     → IfOk made (λ ended. AreCounts (entries_in (parts_in ended) ++ ended.core.history.entries) (length plan) ended.counts.items) → IfOk made (λ ended. EndsBy plan wanted parts came ended.ending)
     → IfOk made (EndsLoad opened plan wanted)
-finishes opened plan wanted seen parts rings ends lanes came (Ok ended) legal granted queues are is end core_is parts_are counts by =
-    ends_load opened plan wanted seen parts rings ends lanes came ended legal granted queues are is end core_is parts_are counts by
-finishes opened plan wanted seen parts rings ends lanes came (Err why) legal granted queues are is end core_is parts_are counts by = tt
+finishes opened plan wanted front parts rings ends lanes came (Ok ended) legal granted queues are is end core_is parts_are counts by =
+    ends_load opened plan wanted front parts rings ends lanes came ended legal granted queues are is end core_is parts_are counts by
+finishes opened plan wanted front parts rings ends lanes came (Err why) legal granted queues are is end core_is parts_are counts by = tt

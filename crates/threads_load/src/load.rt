@@ -1,6 +1,6 @@
 //! The load, from a policy to its report.
 
-ghost use Rattle.std.specs.Prelude.{◌≡◌, ℕ, [], ◌++◌, All, IfOk, List, Ok, OnOk, length, map};
+ghost use Rattle.std.specs.Prelude.{◌≡◌, ◌≢◌, ℕ, [], ◌++◌, All, IfErr, IfOk, List, Ok, OnOk, length, map};
 ghost use Rattle.core_model.specs.History.{Part};
 ghost use Rattle.core_model.specs.declared.entry.Entry.{Entry};
 ghost use Rattle.core_model.specs.Legal.{IsLegalPart, IsOpening};
@@ -8,7 +8,9 @@ ghost use Rattle.core_model.specs.Rotation.{entries_in};
 ghost use Rattle.access_core.specs.Cores.{Core};
 ghost use Rattle.access_core.specs.Opening.{program_of};
 ghost use Rattle.client_threads.specs.Sections.{IsSection};
-ghost use Rattle.client_threads.specs.Settling.{IsEnd, IsSettlement, core_of};
+ghost use Rattle.client_threads.specs.Boards.{all_shares};
+ghost use Rattle.client_threads.specs.Settling.{IsClosed, IsSettlement, core_of};
+ghost use Rattle.client_threads.specs.declared.settling.SettleAllFault.{SettleAllFault};
 ghost use Rattle.threads_load.specs.Counts.{AreCounts};
 ghost use Rattle.threads_load.specs.Grantings.{HasAllAllowed};
 ghost use Rattle.threads_load.specs.Loads.{EndsBy, EndsLoad, TellsLoad, TellsPlan, ending_if, parts_in, wanted_of};
@@ -147,12 +149,15 @@ fn ended_by(settlement: Settlement, out: HandedOut, wanted: u64) -> Result<Ended
     }
 }
 
-// Why a broker was not settled.
-fn fault_of<B: Room>(back: UnsettledBroker<B>) -> LoadFault {
+// Why a broker was not settled, all of whose fronts are there.
+fn fault_of<B: Room>(back: UnsettledBroker<B>) -> LoadFault
+    requires { back.fault ≢ SettleAllFault.MissingFront }
+{
     match back.fault {
         SettleAllFault::OutOfMemory => LoadFault::OutOfMemory,
         SettleAllFault::MissingPass => LoadFault::MissingPass,
         SettleAllFault::NotNext => LoadFault::NotNext,
+        SettleAllFault::MissingFront => unreachable!(),
     }
 }
 
@@ -164,7 +169,8 @@ fn settle<B: Room>(
 ) -> Result<Settlement, UnsettledBroker<B>>
     requires { IsStageWith B.board out.now.settled stage }
     ensures settled { IfOk result (IsSettlement stage.broker (parts_of out.now) stage.ends.items stage.lanes.items) }
-    ensures end { IfOk result (λ settlement. IsEnd B.opened stage.front.left stage.lanes.items (core_of settlement)) }
+    ensures closed { IfOk result (λ settlement. IsClosed B.opened stage.front stage.lanes.items (core_of settlement)) }
+    ensures refused { IfErr result (λ back. back.fault ≢ SettleAllFault.MissingFront) }
 {
     let Stage {
         broker,
@@ -172,11 +178,10 @@ fn settle<B: Room>(
         ends,
         lanes,
     } = stage;
-    let mut front = front;
     settle_all(
         alloc,
         broker,
-        &mut front,
+        front,
         &out.settled,
         out.left(),
         ends,
@@ -227,17 +232,18 @@ pub fn open_broker(
 fn grant_alone<B: Room>(broker: &mut Broker<B>, front: &mut Front) -> Result<(), Refusal>
     requires { front.old.board ≡ B.board }
     ensures front { front.new.board ≡ B.board }
-    ensures section { IsSection B.opened front.old.left front.new.left (λ before after. OnOk result (HasAllAllowed after.history)) }
+    ensures section { IsSection B.opened front.old front.new (λ before after. OnOk result (HasAllAllowed after.history)) }
     ensures rings { broker.new ≡ broker.old }
 {
     broker.with_core_alone(front, |core| grant_all(core))
 }
 
-/// Gives a broker its name, and grants all that its policy allows. The front has seen that.
+/// Gives a broker its name, and grants all that its policy allows, in a section. The front has seen that, and has all
+/// shares.
 pub fn name_broker<B: Room>(unnamed: UnnamedBroker) -> Result<(Broker<B>, Front), LoadFault>
     requires { (unnamed.board ≡ B.board) × (unnamed.core ≡ B.opened) }
     ensures rings { IfOk result (λ named. named.0 ≡ []) }
-    ensures front { IfOk result (λ named. named.1.board ≡ B.board) }
+    ensures front { IfOk result (λ named. (named.1.board ≡ B.board) × (named.1.share ≡ all_shares)) }
     ensures granted { IfOk result (λ named. WasLeft named.1.left (λ left. HasAllAllowed left.history)) }
 {
     let (mut broker, mut front) = unnamed.named::<B>();

@@ -171,11 +171,10 @@ fn unsettled<B: Room>(alloc: Global, stage: Stage<B>) -> Option<(SettleAllFault,
         ends,
         lanes,
     } = stage;
-    let mut front = front;
     match settle_all(
         alloc,
         broker,
-        &mut front,
+        front,
         &SettledParts::none(),
         &[],
         ends,
@@ -184,8 +183,8 @@ fn unsettled<B: Room>(alloc: Global, stage: Stage<B>) -> Option<(SettleAllFault,
         Err(back) => Some((
             back.fault,
             Stage {
-                broker: back.broker,
-                front,
+                broker: back.broker.again(),
+                front: back.front,
                 ends: back.ends,
                 lanes: back.lanes,
             },
