@@ -19,12 +19,12 @@ use Rattle.client_threads.specs.Settling.{IsClosed, IsLedTo, IsSettlement, core_
 use Rattle.client_threads.specs.Takes.{AllAgree}
 use Rattle.threads_load.specs.declared.load.Ended.{Ended}
 use Rattle.threads_load.specs.declared.load.Load.{Load}
-use Rattle.threads_load.specs.declared.load.TheConstants.{PLACES}
 use Rattle.threads_load.specs.declared.plan.PlannedQueue.{PlannedQueue}
 use Rattle.threads_load.specs.declared.report.Ending.{Ending}
 use Rattle.threads_load.specs.Counts.{AreCounts, are_finished}
 use Rattle.threads_load.specs.Grantings.{HasAllAllowed}
 use Rattle.threads_load.specs.Loads.{EndsAs, EndsBy, EndsLoad, EndsWith, TellsLoad, TellsPlan, ending_if, parts_in, wanted_of}
+use Rattle.threads_load.specs.Limits.{load_places}
 use Rattle.threads_load.specs.Plans.{planned}
 use Rattle.threads_load.specs.Reports.{text_of_report}
 use Rattle.threads_load.specs.Stages.{AreOf, HasQueues, WasLeft}
@@ -81,7 +81,7 @@ tells_plan opened plan wanted ended bytes report (Ok load) text ends told is =
     let own : bytes (text load) ≡ text_of_report (beginning ended.core.history) (entries_in (parts_in ended)) ended.core.history.entries plan ended.ending = subst (λ r. IfOk r (λ x. bytes x ≡ text_of_report (beginning ended.core.history) (entries_in (parts_in ended)) ended.core.history.entries plan ended.ending)) is.0 told in
     (parts_in ended, ended.core, subst (λ e. EndsWith opened plan wanted (parts_in ended) ended.core e) (sym is.1) ends.ends, subst (λ e. bytes (text load) ≡ text_of_report (beginning ended.core.history) (entries_in (parts_in ended)) ended.core.history.entries plan e) (sym is.1) own)
 
-pub tells_load : {E : Type 0} (policy : Declared) (kernels : List Kernel) (packets producers : ℕ) (plan : List PlannedQueue) (opened : Core) (result : Result Load E) → IsOpening opened.history policy (map program_of kernels) PLACES → plan ≡ planned policy
+pub tells_load : {E : Type 0} (policy : Declared) (kernels : List Kernel) (packets producers : ℕ) (plan : List PlannedQueue) (opened : Core) (result : Result Load E) → IsOpening opened.history policy (map program_of kernels) load_places → plan ≡ planned policy
     → IfOk result (TellsPlan opened plan (wanted_of packets producers)) → IfOk result (TellsLoad policy kernels packets producers)
 tells_load policy kernels packets producers plan opened (Ok load) opens is told = (opened, opens, subst (λ (p : List PlannedQueue). TellsPlan opened p (wanted_of packets producers) load) is told)
 tells_load policy kernels packets producers plan opened (Err why) opens is told = tt

@@ -16,12 +16,12 @@ use Rattle.client_threads.specs.Settling.{IsClosed}
 use Rattle.client_threads.specs.Takes.{AllAgree, IsLeastMismatch}
 use Rattle.threads_load.specs.declared.load.Ended.{Ended}
 use Rattle.threads_load.specs.declared.load.Load.{Load}
-use Rattle.threads_load.specs.declared.load.TheConstants.{PLACES}
 use Rattle.threads_load.specs.declared.plan.PlannedQueue.{PlannedQueue}
 use Rattle.threads_load.specs.declared.report.Ending.{Ending}
 use Rattle.threads_load.specs.declared.report.Ending.TheVariants as ending
 use Rattle.threads_load.specs.Counts.{AreCounts, are_finished}
 use Rattle.threads_load.specs.Grantings.{HasAllAllowed}
+use Rattle.threads_load.specs.Limits.{load_places}
 use Rattle.threads_load.specs.Plans.{planned}
 use Rattle.threads_load.specs.Reports.{text_of_report}
 use Rattle.threads_load.specs.Stages.{AreOf, HasQueues, WasLeft}
@@ -82,4 +82,4 @@ TellsPlan opened plan wanted load =
 -- opened over them, with the queues that the policy plans (own)
 abbrev pub TellsLoad : Declared → List Kernel → ℕ → ℕ → Load → Type 0
 TellsLoad policy kernels packets producers load =
-    (opened : Core) × IsOpening opened.history policy (map program_of kernels) PLACES × TellsPlan opened (planned policy) (wanted_of packets producers) load
+    (opened : Core) × IsOpening opened.history policy (map program_of kernels) load_places × TellsPlan opened (planned policy) (wanted_of packets producers) load

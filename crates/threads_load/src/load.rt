@@ -14,10 +14,10 @@ ghost use Rattle.client_threads.specs.declared.settling.SettleAllFault.{SettleAl
 ghost use Rattle.threads_load.specs.Counts.{AreCounts};
 ghost use Rattle.threads_load.specs.Grantings.{HasAllAllowed};
 ghost use Rattle.threads_load.specs.Loads.{EndsBy, EndsLoad, TellsLoad, TellsPlan, ending_if, parts_in, wanted_of};
+ghost use Rattle.threads_load.specs.Limits.{load_packets, load_places};
 ghost use Rattle.threads_load.specs.Rounds.{parts_of};
 ghost use Rattle.threads_load.specs.Stages.{IsReady, IsStage, IsStageWith, WasLeft};
 ghost use Rattle.threads_load.specs.declared.plan.PlannedQueue.{PlannedQueue};
-ghost use Rattle.threads_load.specs.declared.limits.TheConstants.{PACKETS};
 
 use crate::counting::{PacketCounts, are_finished, count_none, count_on};
 use crate::fault::LoadFault;
@@ -364,7 +364,7 @@ fn run_plan<R: Threads + Wait + Sync, W: Watch>(
     terms: LoadTerms,
     watch: &mut W,
 ) -> Result<Ended, LoadFault>
-    ensures { IfOk result (λ ended. (opened : Core) × IsOpening opened.history policy (map program_of kernels.items) PLACES × EndsLoad opened plan.now (wanted_of terms.packets terms.producers) ended) }
+    ensures { IfOk result (λ ended. (opened : Core) × IsOpening opened.history policy (map program_of kernels.items) load_places × EndsLoad opened plan.now (wanted_of terms.packets terms.producers) ended) }
 {
     let wanted = terms.packets.saturating_mul(terms.producers);
     let gate = LoadGate::within(alloc, plan.len(), wanted, terms.limits)?;
@@ -387,9 +387,10 @@ pub fn run_load<R: Threads + Wait + Sync>(
     kernels: Vec<Kernel>,
     producers: u64,
 ) -> Result<Load, LoadFault>
-    ensures { IfOk result (TellsLoad policy kernels.items PACKETS producers) }
+    ensures { IfOk result (TellsLoad policy kernels.items load_packets producers) }
 {
-    run_load_within(rt, alloc, policy, kernels, producers, LoadLimits::in_all())
+    let terms = LoadTerms::of(producers, None);
+    run_load_watched(rt, alloc, policy, kernels, terms, &mut Unwatched)
 }
 
 /// Runs the load just so, with other limits than 10,000,000 turns of each lane and as many tries of each producer.
@@ -401,7 +402,7 @@ pub fn run_load_within<R: Threads + Wait + Sync>(
     producers: u64,
     limits: LoadLimits,
 ) -> Result<Load, LoadFault>
-    ensures { IfOk result (TellsLoad policy kernels.items PACKETS producers) }
+    ensures { IfOk result (TellsLoad policy kernels.items load_packets producers) }
 {
     let terms = LoadTerms {
         producers,

@@ -10,6 +10,7 @@ ghost use Rattle.client_threads.specs.Sections.{IsSection};
 ghost use Rattle.core_model.specs.declared.outcome.Outcome.{Outcome};
 ghost use Rattle.policy.specs.Results.{map_ok};
 ghost use Rattle.threads_load.specs.Grantings.{HasAllAllowed};
+ghost use Rattle.threads_load.specs.Limits.{load_slots};
 ghost use Rattle.threads_load.specs.Stages.{AreOf, HasQueues, HaveShares, IsReady, IsStage, WasLeft};
 ghost use Rattle.threads_load.specs.declared.plan.PlannedQueue.{PlannedQueue};
 
@@ -43,8 +44,8 @@ fn open_queue<B: Room>(
     requires front { (front.old.board ≡ B.board) × (1 < front.old.share) }
     ensures front { front.new.board ≡ B.board }
     ensures section { IsSection B.opened front.old (before_lane result front.new) (λ before after.
-        OpensQueue (opening_event planned.client planned.agent 16 producers) before.history (map_ok (λ o. Outcome.Opened o.0) result) after.history) }
-    ensures opened { IfOk result (λ o. IsOpened broker.old 16 producers (fresh_of front.new) o.0 o.1.items o.2 broker.new) }
+        OpensQueue (opening_event planned.client planned.agent load_slots producers) before.history (map_ok (λ o. Outcome.Opened o.0) result) after.history) }
+    ensures opened { IfOk result (λ o. IsOpened broker.old load_slots producers (fresh_of front.new) o.0 o.1.items o.2 broker.new) }
     ensures refused { IfErr result (λ _. broker.new ≡ broker.old) }
 {
     broker.open_queue(

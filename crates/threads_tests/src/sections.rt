@@ -1,6 +1,6 @@
 //! What happens while a thread is inside the core, and what one section leaves to the next.
 
-ghost use Rattle.std.specs.Prelude.{◌≡◌};
+ghost use Rattle.std.specs.Prelude.{◌≡◌, ◌<◌};
 ghost use Rattle.client_threads.specs.Running.{IsEndOf};
 ghost use Rattle.client_threads.specs.Sections.{Follows};
 
