@@ -341,9 +341,7 @@ fn settle_rings(
     while !desks.is_empty() {
         let desk = desks.remove(0);
         let room = rooms.remove(0);
-        settled.push_reserved(settle_queue(
-            board, keeper, desk, room, &mut ends, &mut lanes,
-        ));
+        settled.push_reserved(settle_queue(board, keeper, desk, room, &mut ends, &mut lanes));
     }
     collect_all(board, keeper, lanes);
     settled

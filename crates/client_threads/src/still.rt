@@ -223,7 +223,10 @@ impl<B: Room> StillBroker<B> {
         ensures only { AreAllBelow (length self.left) (front.own ++ flat_map own_of lanes.items) }
     {
         let StillBroker {
-            held, board, desks, ..
+            held,
+            board,
+            desks,
+            ..
         } = self;
         let Held { core, keeper, .. } = held;
         let mut keeper = keeper;

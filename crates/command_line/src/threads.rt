@@ -14,9 +14,7 @@ use std::sync::Wait;
 use std::thread::Threads;
 use std::time::{Clock, Duration, Instant};
 use std::{io, thread};
-use threads_load::{
-    Ending, Load, LoadFault, LoadTerms, PLACES, Watch, run_load_watched,
-};
+use threads_load::{Ending, Load, LoadFault, LoadTerms, PLACES, Watch, run_load_watched};
 
 /// What is told of a load that has no queue.
 const NO_QUEUE: &str =

@@ -178,15 +178,7 @@ fn settle<B: Room>(
         ends,
         lanes,
     } = stage;
-    settle_all(
-        alloc,
-        broker,
-        front,
-        &out.settled,
-        out.left(),
-        ends,
-        lanes,
-    )
+    settle_all(alloc, broker, front, &out.settled, out.left(), ends, lanes)
 }
 
 // Settles it, looks whether the queues of the plan are open still, and tells how the load ended.
