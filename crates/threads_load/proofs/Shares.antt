@@ -1,10 +1,9 @@
 -- Who has which share of the right to make sections.
-use Rattle.std.proofs.Common.{◌≡◌, ◌≢◌, ℕ, zero, suc, ◌+◌, ◌<◌, ◌≤◌, true, false, List, [], ◌∷◌, ◌++◌, length, map, refl, ap, ◌∙◌, sym, subst, arith, length-append, inl, inr, eq-eqb}
-use Rattle.std.specs.Prelude.{Result, Ok, Err}
+use Rattle.std.proofs.Common.{◌≡◌, ◌≢◌, ◌+◌, ◌<◌, ◌≤◌, true, false, List, [], ◌∷◌, ◌++◌, length, map, refl, ap, suc, ◌∙◌, sym, subst, arith, length-append, inl, inr, eq-eqb}
+use Rattle.std.specs.Prelude.{Result, Ok, Err, IfErr}
 use Rattle.std.specs.List.{sum_by}
 use Rattle.std.proofs.lemmas.List.Sums.{sum_by-cons, sum_by_push}
 use mathlib.Core.List.{IsPrefix}
-use Rattle.atomic_table.specs.Seated.{TableId}
 use Rattle.aql_packet.specs.declared.ids.QueueId.{QueueId}
 use Rattle.core_model.specs.History.{History, Part}
 use Rattle.core_model.specs.Limits.{most_queues}
@@ -16,14 +15,15 @@ use Rattle.access_core.specs.Cores.{Core}
 use Rattle.client_threads.specs.declared.client_end.ClientEnd.{ClientEnd}
 use Rattle.client_threads.specs.declared.settling.SettleAllFault.{SettleAllFault}
 use Rattle.client_threads.specs.declared.settling.SettleAllFault.TheVariants as fault
-use Rattle.client_threads.specs.Boards.{FrontSeen, all_shares, fresh_of}
+use Rattle.client_threads.specs.Boards.{FrontSeen, all_shares}
 use Rattle.client_threads.specs.HandedOver.{handed_over}
 use Rattle.client_threads.specs.Lanes.{LaneSeen, share_of}
 use Rattle.client_threads.specs.Opening.{OpensQueue, before_lane}
 use Rattle.client_threads.specs.Rings.{QueueRing}
 use Rattle.client_threads.specs.Sections.{IsSection}
-use Rattle.client_threads.specs.Settling.{IsCauseOf, have_all_shares}
+use Rattle.client_threads.specs.Settling.{IsCauseOf, IsUnsettledFor, have_all_shares}
 use Rattle.threads_load.specs.Stages.{HaveShares, KeepShares}
+use Rattle.threads_load.proofs.Planned.{section_begins}
 
 -- ---- sections
 
@@ -74,9 +74,9 @@ one_of_few event before after queue (inl h) = h.1
 one_of_few event before after queue (inr h) = absurd (let same : Ok (outcome.Opened queue) ≡ Err _ = h.reply_is in cc)
 
 -- a lane more, with one share of the front's
-pub lane_shares : (front new mid : FrontSeen) (lanes more : List LaneSeen) (lane : LaneSeen) (event : Event) (before after : History) (queue : QueueId)
+pub lane_shares : (front new : FrontSeen) (lanes more : List LaneSeen) (lane : LaneSeen) (event : Event) (before after : History) (queue : QueueId)
     → new.share + 1 ≡ front.share → lane.front.share ≡ 1 → more ≡ lanes ++ lane ∷ [] → OpensQueue event before (Ok (outcome.Opened queue)) after → queue.0 ≡ length lanes + 1 → HaveShares front lanes → HaveShares new more
-lane_shares front new mid lanes more lane event before after queue share one is opens number h =
+lane_shares front new lanes more lane event before after queue share one is opens number h =
     let longer : length (lanes ++ lane ∷ []) ≡ length lanes + 1 = length-append lanes (lane ∷ []) in
     let few : queue.0 ≤ most_queues = one_of_few event before after queue opens in
     subst (HaveShares new) (sym is) (record {
@@ -85,10 +85,9 @@ lane_shares front new mid lanes more lane event before after queue share one is 
       all = omega (arith, longer, share, h.all);
     })
 
-pub opened_begins : {X : Type 0} {Did : Core → Core → Type 0} (opened : Core) (seen new : FrontSeen) (result : Result X Refusal) → ((s t : FrontSeen) → IsSection opened s t Did → IsPrefix s.left t.left) → IsSection opened seen (before_lane result new) Did
-    → IsPrefix seen.left new.left
-opened_begins opened seen new (Ok x) begins s = begins seen _ s
-opened_begins opened seen new (Err e) begins s = begins seen _ s
+pub opened_begins : {X : Type 0} {Did : Core → Core → Type 0} (opened : Core) (seen new : FrontSeen) (result : Result X Refusal) → IsSection opened seen (before_lane result new) Did → IsPrefix seen.left new.left
+opened_begins opened seen new (Ok x) s = section_begins opened seen (record new { share = new.share + 1 }) s
+opened_begins opened seen new (Err e) s = section_begins opened seen new s
 
 -- an opening gives a lane one share at the most
 pub one_at_most : {X : Type 0} {Did : Core → Core → Type 0} (opened : Core) (seen new : FrontSeen) (result : Result X Refusal) → IsSection opened seen (before_lane result new) Did → seen.share ≤ new.share + 1
@@ -100,9 +99,14 @@ one_at_most opened seen new (Err e) s = omega (arith, ap (λ (f : FrontSeen). f.
 pub all_there : (front : FrontSeen) (lanes : List LaneSeen) → HaveShares front lanes → have_all_shares front lanes ≡ true
 all_there front lanes h = eq-eqb (front.share + sum_by share_of lanes) all_shares (omega (arith, h.each, h.all))
 
-pub not_missing : (front : FrontSeen) (rings : List QueueRing) (parts : List Part) (ends : List ClientEnd) (lanes : List LaneSeen) (core : Core) (why : SettleAllFault) → HaveShares front lanes
+not_missing : (front : FrontSeen) (rings : List QueueRing) (parts : List Part) (ends : List ClientEnd) (lanes : List LaneSeen) (core : Core) (why : SettleAllFault) → HaveShares front lanes
     → IsCauseOf front rings parts ends lanes core why → why ≢ fault.MissingFront
 not_missing front rings parts ends lanes core why h cause is =
     let missing : have_all_shares front lanes ≡ false = subst (IsCauseOf front rings parts ends lanes core) is cause in
     let there : have_all_shares front lanes ≡ true = all_there front lanes h in
     absurd (let no : true ≡ false = sym there ∙ missing in cc)
+
+pub never_missing : {X Y : Type 0} (fault_in : Y → SettleAllFault) (core_in : Y → Core) (result : Result X Y) (opened : Core) (front : FrontSeen) (rings : List QueueRing) (parts : List Part) (ends : List ClientEnd) (lanes : List LaneSeen)
+    → HaveShares front lanes → IfErr result (λ u. IsUnsettledFor opened front rings parts ends lanes (core_in u) (fault_in u)) → IfErr result (λ u. fault_in u ≢ fault.MissingFront)
+never_missing fault_in core_in (Ok x) opened front rings parts ends lanes h why = tt
+never_missing fault_in core_in (Err u) opened front rings parts ends lanes h why = not_missing front rings parts ends lanes (core_in u) (fault_in u) h why.1

@@ -34,6 +34,7 @@ pub struct Stage<B: Room> {
 }
 
 // Opens a planned queue for so many producers: the client's, on the agent, as the plan says.
+#[tactic(auto, using(crate::proofs::Shares::opened_begins))]
 fn open_queue<B: Room>(
     alloc: Global,
     broker: &mut Broker<B>,
@@ -45,6 +46,7 @@ fn open_queue<B: Room>(
     ensures front { front.new.board ≡ B.board }
     ensures section { IsSection B.opened front.old (before_lane result front.new) (λ before after.
         OpensQueue (opening_event planned.client planned.agent load_slots producers) before.history (map_ok (λ o. Outcome.Opened o.0) result) after.history) }
+    ensures begins { IsPrefix front.old.left front.new.left }
     ensures opened { IfOk result (λ o. IsOpened broker.old load_slots producers (fresh_of front.new) o.0 o.1.items o.2 broker.new) }
     ensures refused { IfErr result (λ _. broker.new ≡ broker.old) }
 {

@@ -34,5 +34,5 @@ pub returns-in-Ok-put_queue-clause-shares : goal.returns-in-Ok-put_queue-clause-
 returns-in-Ok-put_queue-clause-shares g c =
     let number : c.in-Ok.opened.0.0 ≡ length c.args.lanes.now.items + 1 = search rules in
     let s = c.in-Ok.ensures.section in
-    lane_shares c.args.front.now c.open_queue.new.front c.open_queue.new.front c.args.lanes.now.items c.put_queue.new.lanes.items c.in-Ok.opened.2 _ _ _ c.in-Ok.opened.0
+    lane_shares c.args.front.now c.open_queue.new.front c.args.lanes.now.items c.put_queue.new.lanes.items c.in-Ok.opened.2 _ _ _ c.in-Ok.opened.0
     (ap (λ (f : FrontSeen). f.share) s.new_is) (ap (λ (l : LaneSeen). l.front.share) c.in-Ok.ensures.opened.lane_is) c.in-Ok-put_queue.ensures.put s.did number c.requires.shares

@@ -20,8 +20,8 @@ invariant_of-self g c =
       inv.3,
     )
 
-pub returns : goal.returns
-returns g c =
+pub returns-clause-section : goal.returns-clause-section
+returns-clause-section g c =
     let left = c.self.inside.keeper.left in
     let new = c.f-answer.new.arg2 in
     let inv = c.self.invariant in
