@@ -35,6 +35,12 @@ on_board board xs i x lt is all = subst (IsOnBoard board) is (all i x lt)
 pub gathered_none : (keeper : KeeperSeen) (lanes : List LaneSeen) → HasGathered keeper lanes keeper lanes
 gathered_none keeper lanes = record { board = refl; left = refl; share = refl; own = λ f. refl }
 
+pub gathered_begins : (keeper : KeeperSeen) (lanes rest : List LaneSeen) → rest ≡ lanes → HasGathered keeper lanes keeper rest
+gathered_begins keeper lanes rest is = subst (HasGathered keeper lanes keeper) (sym is) (gathered_none keeper lanes)
+
+pub on_board_begins : (board : TableId) (lanes rest : List LaneSeen) → rest ≡ lanes → All (IsOnBoard board) lanes → All (IsOnBoard board) rest
+on_board_begins board lanes rest is all = subst (λ (ls : List LaneSeen). All (IsOnBoard board) ls) (sym is) all
+
 pub gathered_both : (one : KeeperSeen) (all : List LaneSeen) (two : KeeperSeen) (some : List LaneSeen) (three : KeeperSeen) (rest : List LaneSeen) → HasGathered one all two some → HasGathered two some three rest
     → HasGathered one all three rest
 gathered_both one all two some three rest a b = record { board = b.board ∙ a.board; left = b.left ∙ a.left; share = b.share ∙ a.share; own = λ f. b.own f ∙ a.own f }

@@ -301,6 +301,7 @@ fn settle_queue(
 }
 
 // The fronts of all lanes come back.
+#[tactic(auto, using(crate::proofs::Gathering::gathered_begins, crate::proofs::Gathering::on_board_begins))]
 fn collect_all(board: &Board, keeper: &mut Keeper, lanes: Vec<Lane>)
     requires board { (keeper.old.board ≡ board.now) × All (IsOnBoard board.now) lanes.items }
     requires knows { KnowsAll keeper.old }
@@ -313,7 +314,7 @@ fn collect_all(board: &Board, keeper: &mut Keeper, lanes: Vec<Lane>)
 }
 
 // Settles all rings, in order, and all fronts come back. It takes no memory.
-#[tactic(auto, using(crate::proofs::Readiness::next_ready, crate::proofs::Readiness::some_room, crate::proofs::Readiness::settled_next, crate::proofs::Readiness::going_begins, crate::proofs::Readiness::going_ends))]
+#[tactic(auto, using(crate::proofs::Readiness::next_ready, crate::proofs::Readiness::some_room, crate::proofs::Readiness::settled_next, crate::proofs::Readiness::going_begins, crate::proofs::Readiness::going_ends, crate::proofs::Gathering::gathered_none))]
 fn settle_rings(
     board: &Board,
     keeper: &mut Keeper,

@@ -1,4 +1,4 @@
-use Rattle.std.proofs.Common.{◌≡◌, ◌<◌, [], rules, length, map}
+use Rattle.std.proofs.Common.{◌≡◌, ◌<◌, ◌∙◌, [], rules, length, map}
 use Rattle.client_threads.specs.Desks.{seen}
 use Rattle.client_threads.proofs.Gathering.{gathered_both}
 use Rattle.client_threads.proofs.Readiness.{going_over, settled_next}
@@ -13,7 +13,14 @@ loop-desks-preserved c =
       gathered_both c.args.keeper.now c.args.lanes.items c.loop-desks.keeper c.loop-desks.lanes.items c.settle_queue.new.keeper c.settle_queue.new.lanes.items c.loop-desks.invariant.2 c.settle_queue.ensures.gathered,
       c.settle_queue.ensures.knows,
       c.settle_queue.ensures.on,
+      c.settle_queue.ensures.gathered.board ∙ c.loop-desks.invariant.5,
     )
+
+pub settle_queue-requires-clause-board : goal.settle_queue-requires-clause-board
+settle_queue-requires-clause-board c = (c.loop-desks.invariant.5, c.loop-desks.invariant.4)
+
+pub collect_all-requires-clause-board : goal.collect_all-requires-clause-board
+collect_all-requires-clause-board c = (c.loop-desks.invariant.5, c.loop-desks.invariant.4)
 
 pub returns-clause-gathered : goal.returns-clause-gathered
 returns-clause-gathered c =

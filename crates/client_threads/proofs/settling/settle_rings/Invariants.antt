@@ -1,4 +1,4 @@
-use Rattle.std.proofs.Common.{◌+◌, ◌≤◌, length, map, vec_capacity}
+use Rattle.std.proofs.Common.{◌≡◌, ◌+◌, ◌≤◌, length, map, vec_capacity}
 use Rattle.std.specs.Prelude.{All}
 use Rattle.client_threads.specs.Desks.{seen}
 use Rattle.client_threads.specs.inner.Gatherings.{HasGathered, IsOnBoard, KnowsAll}
@@ -12,6 +12,7 @@ invariant-loop-desks l =
     × HasGathered l.initial.keeper l.initial.lanes.items l.keeper l.lanes.items
     × KnowsAll l.keeper
     × All (IsOnBoard l.board) l.lanes.items
+    × (l.keeper.board ≡ l.board)
 
 abbrev pub decreases-loop-desks : goal.decreases-loop-desks
 decreases-loop-desks l = length l.desks.items
