@@ -17,15 +17,15 @@ sum_removed g [] i x lt is = absurd (omega (arith, lt))
 sum_removed g (y ∷ ys) zero x lt is = omega (arith, sum_by-cons g y ys, ap g is)
 sum_removed g (y ∷ ys) (suc i) x lt is = omega (arith, sum_by-cons g y ys, sum_by-cons g y (remove ys i), sum_removed g ys i x (omega (arith, lt)) is)
 
+all_first : (board : TableId) (x : LaneSeen) (xs : List LaneSeen) → IsOnBoard board x → All (IsOnBoard board) xs → All (IsOnBoard board) (x ∷ xs)
+all_first board x xs here rest zero d lt = here
+all_first board x xs here rest (suc k) d lt = rest k d (omega (arith, lt))
+
 pub all_removed : (board : TableId) (xs : List LaneSeen) (i : ℕ) → All (IsOnBoard board) xs → All (IsOnBoard board) (remove xs i)
 all_removed board [] zero all = all
 all_removed board [] (suc i) all = all
 all_removed board (y ∷ ys) zero all = λ k d lt. all (suc k) d (omega (arith, lt))
-all_removed board (y ∷ ys) (suc i) all = more
-  where
-    more : All (IsOnBoard board) (y ∷ remove ys i)
-    more zero d lt = all zero d (omega arith)
-    more (suc k) d lt = all_removed board ys i (λ j e l. all (suc j) e (omega (arith, l))) k d (omega (arith, lt))
+all_removed board (y ∷ ys) (suc i) all = all_first board y (remove ys i) (all zero y (omega arith)) (all_removed board ys i (λ j e l. all (suc j) e (omega (arith, l))))
 
 pub on_board : (board : TableId) (xs : List LaneSeen) (i : ℕ) (x : LaneSeen) → i < length xs → get_or xs i x ≡ x → All (IsOnBoard board) xs → x.front.board ≡ board
 on_board board xs i x lt is all = subst (IsOnBoard board) is (all i x lt)
@@ -86,4 +86,4 @@ end_of opened left seen lanes core h = record { left = left; first = h.first; al
 
 pub closed_of : (opened : Core) (left : List Core) (front : FrontSeen) (lanes : List LaneSeen) (core : Core) → EndsBy opened left front.left lanes core → AreAllBelow (length left) (front.own ++ flat_map own_of lanes)
     → IsClosed opened front lanes core
-closed_of opened left front lanes core h only = record { end = end_of opened left front.left lanes core h; only = only }
+closed_of opened left front lanes core h only = record { end = record { left = left; first = h.first; all = h.all; last = h.last; begins = h.begins; shown = h.shown }; only = only }

@@ -6,6 +6,7 @@ ghost use Rattle.std.specs.List.{flat_map, sum_by};
 ghost use Rattle.client_threads.specs.Boards.{AreAllBelow};
 ghost use Rattle.client_threads.specs.HandedOver.{AreSettledWith};
 ghost use Rattle.client_threads.specs.Lanes.{own_of};
+ghost use Rattle.client_threads.specs.Rings.{AreApart};
 ghost use Rattle.client_threads.specs.Settling.{IsCauseOf, IsComplete, IsSettlement, IsShown, core_of, have_all_shares};
 ghost use Rattle.client_threads.specs.inner.Gatherings.{EndsBy, IsOnBoard};
 ghost use Rattle.client_threads.specs.inner.Rooms.{AreReady, AreRoomy};
@@ -195,6 +196,7 @@ impl<B: Room> StillBroker<B> {
     // Gets all memory that settling takes.
     pub(crate) fn rooms(&self, alloc: Global, ends: &[ClientEnd]) -> Result<Rooms, AllocError>
         ensures rooms { IfOk result (λ r. AreRoomy ends.now self.now.rings r.0.items) }
+        ensures apart { AreApart self.now.rings }
         ensures none { IfOk result (λ r. r.1.items ≡ []) }
         ensures room { IfOk result (λ r. length self.now.rings ≤ vec_capacity r.1) }
     {

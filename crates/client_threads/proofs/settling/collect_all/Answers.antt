@@ -1,4 +1,4 @@
-use Rattle.std.proofs.Common.{◌≡◌, ◌∙◌, ◌∷◌, [], List, sym, ap, subst, arith}
+use Rattle.std.proofs.Common.{◌≡◌, ◌∙◌, ◌+◌, ◌++◌, ◌∷◌, [], List, sym, ap, subst, arith}
 use Rattle.std.specs.Prelude.{All}
 use Rattle.client_threads.specs.Boards.{FrontSeen, KeeperSeen}
 use Rattle.client_threads.specs.Lanes.{LaneSeen}

@@ -1,7 +1,7 @@
 use Rattle.std.proofs.Common.{◌≡◌, ◌<◌, ◌∙◌, [], rules, length, map}
 use Rattle.client_threads.specs.Desks.{seen}
 use Rattle.client_threads.proofs.Gathering.{gathered_both}
-use Rattle.client_threads.proofs.Readiness.{going_over, settled_next}
+use Rattle.client_threads.proofs.Readiness.{going_over, next_ready, settled_next}
 use Rattle.client_threads.proofs.settling.settle_rings.Goals as goal
 
 pub loop-desks-preserved : goal.loop-desks-preserved
@@ -15,6 +15,11 @@ loop-desks-preserved c =
       c.settle_queue.ensures.on,
       c.settle_queue.ensures.gathered.board ∙ c.loop-desks.invariant.5,
     )
+
+pub settle_queue-requires-clause-passes : goal.settle_queue-requires-clause-passes
+settle_queue-requires-clause-passes c =
+    let some : 0 < length c.loop-desks.desks.items = search rules in
+    (next_ready (map seen c.args.desks.items) c.args.ends.items c.args.lanes.items c.loop-desks.desks.items c.loop-desks.rooms.items c.loop-desks.ends.items c.loop-desks.lanes.items c.loop-desks.settled.items c.remove-desk.result c.remove-room.result some c.remove-desk.ensures.value c.remove-room.ensures.value c.loop-desks.invariant.0).belong
 
 pub settle_queue-requires-clause-board : goal.settle_queue-requires-clause-board
 settle_queue-requires-clause-board c = (c.loop-desks.invariant.5, c.loop-desks.invariant.4)

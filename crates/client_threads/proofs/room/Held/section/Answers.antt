@@ -20,13 +20,15 @@ invariant_of-self g c =
       inv.3,
     )
 
-pub returns-clause-section : goal.returns-clause-section
-returns-clause-section g c =
+pub returns : goal.returns
+returns g c =
     let left = c.self.inside.keeper.left in
     let new = c.f-answer.new.arg2 in
     let inv = c.self.invariant in
     let follows : Follows c.self.inside.core.history new.history = c.requires.continues _ _ _ (record { shown = _; shows = refl; left = _; met = c.f-answer.ensures; leaves = refl }) in
-    section_of g.B.Room.opened c.args.front.now c.write.new.front left c.self.inside.core new inv.3 inv.1 inv.2 c.write.ensures.begins c.audit.ensures.legal
-    (record { follows = follows; legal = c.audit-2.ensures.legal })
-    (record { shown = _; shows = refl; left = _; met = c.f-answer.ensures; leaves = refl })
-    c.write.ensures.front
+    record {
+      section = section_of g.B.Room.opened c.args.front.now c.write.new.front left c.self.inside.core new inv.3 inv.1 inv.2 c.write.ensures.begins c.audit.ensures.legal
+          (record { follows = follows; legal = c.audit-2.ensures.legal })
+          (record { shown = _; shows = refl; left = _; met = c.f-answer.ensures; leaves = refl })
+          c.write.ensures.front;
+    }
