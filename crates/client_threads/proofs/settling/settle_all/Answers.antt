@@ -1,7 +1,8 @@
-use Rattle.std.proofs.Common.{◌≡◌, List, rules, subst, sym, true, ap, ◌∙◌}
-use Rattle.client_threads.specs.Boards.{FrontSeen}
+use Rattle.std.proofs.Common.{◌≡◌, ◌++◌, List, length, rules, subst, sym, true, ap, ◌∙◌}
+use Rattle.std.specs.List.{flat_map}
+use Rattle.client_threads.specs.Boards.{AreAllBelow, FrontSeen}
 use Rattle.access_core.specs.Cores.{Core}
-use Rattle.client_threads.specs.Lanes.{LaneSeen}
+use Rattle.client_threads.specs.Lanes.{LaneSeen, own_of}
 use Rattle.client_threads.specs.Rings.{QueueRing}
 use Rattle.client_threads.specs.Settling.{IsClosed, StillSeen, has_all_passes}
 use Rattle.client_threads.specs.inner.Rooms.{AreReady, AreRoomy}
@@ -24,6 +25,11 @@ pub returns-in-Ok-clause-closed : goal.returns-in-Ok-clause-closed
 returns-in-Ok-clause-closed g c =
     let still : c.end.new.self ≡ c.of-broker.result = c.end.ensures.same.0 in
     let front : c.end.new.front ≡ c.args.front = c.end.ensures.same.1 in
+    let lanes : c.end.new.lanes.items ≡ c.args.lanes.items = c.end.ensures.same.2 in
+    let only : AreAllBelow (length c.of-broker.result.left) (c.args.front.own ++ flat_map own_of c.args.lanes.items) =
+    subst (λ (s : StillSeen). AreAllBelow (length s.left) (c.args.front.own ++ flat_map own_of c.args.lanes.items)) still
+    (subst (λ (f : FrontSeen). AreAllBelow (length c.end.new.self.left) (f.own ++ flat_map own_of c.args.lanes.items)) front
+    (subst (λ (ls : List LaneSeen). AreAllBelow (length c.end.new.self.left) (c.end.new.front.own ++ flat_map own_of ls)) lanes c.settle.ensures.only)) in
     let core = c.settle.ensures.core ∙ ap (λ (s : StillSeen). s.core) still in
     subst (λ (k : Core). IsClosed g.B.Room.opened c.args.front c.args.lanes.items k) (sym core)
-    (closed_of g.B.Room.opened c.of-broker.result.left c.args.front c.args.lanes.items c.of-broker.result.core c.end.ensures.end (search rules))
+    (closed_of g.B.Room.opened c.of-broker.result.left c.args.front c.args.lanes.items c.of-broker.result.core c.end.ensures.end only)
