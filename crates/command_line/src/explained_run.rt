@@ -1,4 +1,5 @@
-//! A run that tells beside each refusal, denial and failure why, and what mends it.
+//! A run that tells beside each refusal, denial and failure why, and what mends it, and writes its history into a journal,
+//! as is asked.
 
 use crate::author::told;
 use crate::explaining::{PolicyFile, tell};
@@ -9,13 +10,14 @@ use crate::session::help_told;
 use assemble::{Book, BookError};
 use commands::{Failure, Status, name_failure, tell_end};
 use explain::{Asked, asked_by, bad_line, retold};
+use journal_commands::{JournalFault, JournalWriter};
 use policy::Policy;
 use readable::{Style, run_by_line};
 use script::{Command, Flow, IoLog, LineReply, ScriptFault, Watch, run_watched, strictly};
 use std::alloc::{AllocError, Global};
 use std::io;
 use std::io::Write;
-use world::World;
+use world::{Request, World};
 
 // The most runs in which a script is run: one after each explanation.
 const MOST_RUNS: u64 = 1 << 40;
@@ -25,14 +27,22 @@ const MOST_RUNS: u64 = 1 << 40;
 enum Cause {
     /// There is something to be told; the run goes on then.
     Telling,
+    /// Half of the audit's places are taken: it is rotated, and the run goes on.
+    Full,
     /// The line wasn't done, and the run is strict.
     NotDone,
+    /// The journal can't be written.
+    Journal(JournalFault),
 }
 
-/// A watcher that ends a run where something is to be told of a reply, and keeps what; and what its run goes by.
+/// A watcher that writes what happened into a journal, if there is one, ends a run where something is to be told of a reply,
+/// and keeps what; and what its run goes by.
 #[derive(Drop)]
-struct Explainer<'a, 'b> {
+struct Explainer<'a, 'b, J> {
     alloc: Global,
+    // The journal, which is written as the run goes, and how many places the audit has.
+    journal: Option<JournalWriter<'a, J>>,
+    places: usize,
     // How the lines are read and replied to, and the further policies that they may name.
     style: Style<'a>,
     later: &'b [Policy],
@@ -55,15 +65,18 @@ struct Explainer<'a, 'b> {
     cause: Cause,
 }
 
-impl<'a, 'b> Explainer<'a, 'b> {
+impl<'a, 'b, J: io::Write> Explainer<'a, 'b, J> {
     fn new(
         alloc: Global,
         manner: Manner,
         style: Style<'a>,
         later: &'b [Policy],
-    ) -> Explainer<'a, 'b> {
+        journal: Option<JournalWriter<'a, J>>,
+    ) -> Explainer<'a, 'b, J> {
         Explainer {
             alloc,
+            journal,
+            places: manner.places,
             style,
             later,
             is_strict: manner.is_strict,
@@ -112,17 +125,29 @@ impl<'a, 'b> Explainer<'a, 'b> {
         }
     }
 
+    // Whether the audit is to be rotated, whose entries were written into the journal.
+    fn is_full(&self, world: &World) -> bool {
+        self.journal.is_some() && world.core().audit().len() >= self.places / 2
+    }
+
     // Whether the run ends here, and why.
-    fn flow(&mut self, is_done: bool) -> Flow {
-        self.cause = if is_done {
-            Cause::Telling
+    fn end_behind(&self, world: &World, is_done: bool) -> Option<Cause> {
+        if !is_done {
+            Some(Cause::NotDone)
+        } else if self.is_full(world) {
+            Some(Cause::Full)
+        } else if self.told.is_empty() {
+            None
         } else {
-            Cause::NotDone
-        };
-        if is_done && self.told.is_empty() {
-            Flow::GoOn
-        } else {
-            Flow::End
+            Some(Cause::Telling)
+        }
+    }
+
+    // Writes what happened into the journal, if there is one.
+    fn note(&mut self, world: &World) -> Result<(), JournalFault> {
+        match self.journal.as_mut() {
+            Some(journal) => journal.note(world),
+            None => Ok(()),
         }
     }
 
@@ -135,7 +160,7 @@ impl<'a, 'b> Explainer<'a, 'b> {
     }
 }
 
-impl Watch for Explainer<'_, '_> {
+impl<'a, 'b, J: io::Write> Watch for Explainer<'a, 'b, J> {
     ghost use Rattle.std.specs.Prelude.{⊤};
 
     ghost says = { λ told flow. ⊤ };
@@ -148,7 +173,18 @@ impl Watch for Explainer<'_, '_> {
 
     fn seen(&mut self, world: &World, number: u64, reply: LineReply) -> Flow {
         self.explain(world, number, &reply);
-        self.flow(!self.is_strict || strictly(&reply) == Flow::GoOn)
+        let is_done = !self.is_strict || strictly(&reply) == Flow::GoOn;
+        let cause = match self.note(world) {
+            Ok(()) => self.end_behind(world, is_done),
+            Err(fault) => Some(Cause::Journal(fault)),
+        };
+        match cause {
+            None => Flow::GoOn,
+            Some(cause) => {
+                self.cause = cause;
+                Flow::End
+            }
+        }
     }
 }
 
@@ -170,22 +206,70 @@ fn name_and_tell<E: io::Write>(
     }
 }
 
+// The failure of a journal.
+fn failure_of(fault: JournalFault) -> Failure {
+    match fault {
+        JournalFault::OutOfMemory => Failure::OutOfMemory,
+        JournalFault::Write => Failure::Write,
+    }
+}
+
+// Names why the journal isn't written to its end, and gives it up.
+fn give_up<J: io::Write, E: io::Write>(
+    explainer: &mut Explainer<'_, '_, J>,
+    err: &mut E,
+    failure: Failure,
+) -> Status {
+    explainer.journal = None;
+    name(explainer.alloc, err, failure)
+}
+
+// Writes the last lines of the journal, if there is one, and says how the command ends. Where it has failed already, that is
+// told, and no more.
+fn end_journal<J: io::Write, E: io::Write>(
+    explainer: &mut Explainer<'_, '_, J>,
+    world: &World,
+    err: &mut E,
+    status: Status,
+) -> Status {
+    let Some(journal) = explainer.journal.as_mut() else {
+        return status;
+    };
+    let ended = match journal.note(world) {
+        Ok(()) => journal.end(),
+        Err(fault) => Err(fault),
+    };
+    match (ended, status) {
+        (Ok(()), _) | (Err(_), Status::Failed) => status,
+        (Err(fault), _) => name(explainer.alloc, err, failure_of(fault)),
+    }
+}
+
 // Writes what is to be told after a line, and says how the command ends, if it does.
-fn tell_of_line<E: io::Write>(explainer: &Explainer<'_, '_>, err: &mut E) -> Option<Status> {
+fn tell_of_line<J: io::Write, E: io::Write>(
+    world: &mut World,
+    explainer: &mut Explainer<'_, '_, J>,
+    err: &mut E,
+) -> Option<Status> {
     let told = explainer.told.as_bytes();
     if !told.is_empty() && (err.write_all(told).is_err() || err.flush().is_err()) {
         return Some(Status::Failed);
     }
     match explainer.cause {
         Cause::Telling => None,
+        Cause::Full => match world.serve(explainer.alloc, Request::Rotate) {
+            Ok(_) => None,
+            Err(_) => Some(give_up(explainer, err, Failure::OutOfMemory)),
+        },
         Cause::NotDone => Some(Status::Refused),
+        Cause::Journal(fault) => Some(give_up(explainer, err, failure_of(fault))),
     }
 }
 
 // Runs what is left of a script up to the next explanation.
-fn run_on<R: io::Read, O: io::Write>(
+fn run_on<R: io::Read, O: io::Write, J: io::Write>(
     world: &mut World,
-    explainer: &mut Explainer<'_, '_>,
+    explainer: &mut Explainer<'_, '_, J>,
     lines: &mut LineReader<'_, R>,
     out: &mut O,
 ) -> Result<(), ScriptFault> {
@@ -212,8 +296,8 @@ fn run_on<R: io::Read, O: io::Write>(
 }
 
 // What is told of a line of no form.
-fn bad_line_told(
-    explainer: &Explainer<'_, '_>,
+fn bad_line_told<J: io::Write>(
+    explainer: &Explainer<'_, '_, J>,
     line: &[u8],
     number: u64,
 ) -> Result<String, AllocError> {
@@ -228,8 +312,8 @@ fn bad_line_told(
 }
 
 // Names a line of no form, and tells why.
-fn name_bad_line<E: io::Write>(
-    explainer: &Explainer<'_, '_>,
+fn name_bad_line<J: io::Write, E: io::Write>(
+    explainer: &Explainer<'_, '_, J>,
     line: &[u8],
     number: u64,
     err: &mut E,
@@ -254,8 +338,8 @@ fn write_help<E: io::Write>(
 }
 
 // Tells of a line of no form after which the run goes on, and says how the command ends, if it does.
-fn tell_and_go_on<E: io::Write>(
-    explainer: &mut Explainer<'_, '_>,
+fn tell_and_go_on<J: io::Write, E: io::Write>(
+    explainer: &mut Explainer<'_, '_, J>,
     line: &[u8],
     number: u64,
     err: &mut E,
@@ -271,9 +355,9 @@ fn tell_and_go_on<E: io::Write>(
 }
 
 // Tells of a line of no form, and says how the command ends, if it does.
-fn tell_of_bad_line<R: io::Read, E: io::Write>(
+fn tell_of_bad_line<R: io::Read, J: io::Write, E: io::Write>(
     number: u64,
-    explainer: &mut Explainer<'_, '_>,
+    explainer: &mut Explainer<'_, '_, J>,
     lines: &mut LineReader<'_, R>,
     err: &mut E,
 ) -> Option<Status> {
@@ -290,7 +374,7 @@ fn tell_of_bad_line<R: io::Read, E: io::Write>(
 }
 
 // How the command ends after the last line.
-fn ended_with(status: Status, explainer: &Explainer<'_, '_>) -> Status {
+fn ended_with<J: io::Write>(status: Status, explainer: &Explainer<'_, '_, J>) -> Status {
     if status == Status::Done && explainer.has_gone_on {
         Status::Refused
     } else {
@@ -299,16 +383,17 @@ fn ended_with(status: Status, explainer: &Explainer<'_, '_>) -> Status {
 }
 
 // Tells how a run ended, and says how the command ends, if it does.
-fn tell_of_run<R: io::Read, E: io::Write>(
+fn tell_of_run<R: io::Read, J: io::Write, E: io::Write>(
     ended: Result<(), ScriptFault>,
-    explainer: &mut Explainer<'_, '_>,
+    world: &mut World,
+    explainer: &mut Explainer<'_, '_, J>,
     lines: &mut LineReader<'_, R>,
     err: &mut E,
 ) -> Option<Status> {
     match ended {
         Err(ScriptFault::Stopped(number)) => {
             explainer.end_run(number, lines);
-            let status = tell_of_line(explainer, err);
+            let status = tell_of_line(world, explainer, err);
             explainer.go_on(number);
             status
         }
@@ -321,8 +406,8 @@ fn tell_of_run<R: io::Read, E: io::Write>(
 }
 
 // Runs a script over a world, and tells how that ended.
-fn run_in<R: io::Read, O: io::Write, E: io::Write>(
-    explainer: &mut Explainer<'_, '_>,
+fn run_in<R: io::Read, O: io::Write, E: io::Write, J: io::Write>(
+    explainer: &mut Explainer<'_, '_, J>,
     world: &mut World,
     script: &mut R,
     out: &mut O,
@@ -331,35 +416,37 @@ fn run_in<R: io::Read, O: io::Write, E: io::Write>(
     let mut lines = explainer.reader_of(script);
     for _ in 0..MOST_RUNS {
         let ended = run_on(world, explainer, &mut lines, out);
-        if let Some(status) = tell_of_run(ended, explainer, &mut lines, err) {
-            return status;
+        if let Some(status) = tell_of_run(ended, world, explainer, &mut lines, err) {
+            return end_journal(explainer, world, err, status);
         }
     }
     name(explainer.alloc, err, Failure::Read)
 }
 
 // Runs a script over a world in a style, with further policies.
-fn run_in_style<R: io::Read, O: io::Write, E: io::Write>(
+fn run_in_style<'a, R: io::Read, O: io::Write, E: io::Write, J: io::Write>(
     alloc: Global,
     manner: Manner,
-    style: Style<'_>,
+    style: Style<'a>,
     world: &mut World,
     later: &[Policy],
+    journal: Option<JournalWriter<'a, J>>,
     script: &mut R,
     out: &mut O,
     err: &mut E,
 ) -> Status {
-    let mut explainer = Explainer::new(alloc, manner, style, later);
+    let mut explainer = Explainer::new(alloc, manner, style, later, journal);
     run_in(&mut explainer, world, script, out, err)
 }
 
 // Runs a script over a world in the style that is asked, with the policy that its readable lines go by.
-fn run_as_asked<R: io::Read, O: io::Write, E: io::Write>(
+fn run_as_asked<R: io::Read, O: io::Write, E: io::Write, J: io::Write>(
     alloc: Global,
     manner: Manner,
     text: &[u8],
     world: &mut World,
     later: &[Policy],
+    journal: Option<JournalWriter<'_, J>>,
     script: &mut R,
     out: &mut O,
     err: &mut E,
@@ -370,7 +457,9 @@ fn run_as_asked<R: io::Read, O: io::Write, E: io::Write>(
             book: None,
             is_json,
         };
-        return run_in_style(alloc, manner, style, world, later, script, out, err);
+        return run_in_style(
+            alloc, manner, style, world, later, journal, script, out, err,
+        );
     }
     match Book::read(alloc, text) {
         Ok(book) => {
@@ -378,21 +467,41 @@ fn run_as_asked<R: io::Read, O: io::Write, E: io::Write>(
                 book: Some(&book),
                 is_json,
             };
-            run_in_style(alloc, manner, style, world, later, script, out, err)
+            run_in_style(
+                alloc, manner, style, world, later, journal, script, out, err,
+            )
         }
         Err(BookError::OutOfMemory) => name(alloc, err, Failure::OutOfMemory),
         Err(BookError::Refused) => Status::Refused,
     }
 }
 
+// Begins the journal that is asked for.
+fn begin_journal<'a, J: io::Write>(
+    alloc: Global,
+    file: PolicyFile<'_>,
+    further: Further<'_>,
+    places: usize,
+    journal: Option<&'a mut J>,
+) -> Result<Option<JournalWriter<'a, J>>, JournalFault> {
+    let Some(journal) = journal else {
+        return Ok(None);
+    };
+    let begun = JournalWriter::begin(alloc, file.text, further.texts, places, journal)?;
+    Ok(Some(begun))
+}
+
 /// Runs a script over the policies in files as `run_policies` does, strictly as `run_strictly` does, and tells on `err`
 /// after each reply that was refused, denied, failed, waits or found nothing why that is so, before any reply after it.
 /// A session tells a line of no form and goes on after it, and answers lines that ask for help; it ends as refused then.
-pub fn run_explaining<R: io::Read, O: io::Write, E: io::Write>(
+/// Its history goes into the journal, if there is one: where half of the audit's places are taken, the audit is rotated. A
+/// journal that can't be written ends the run, as replies that can't be do.
+pub fn run_explaining<R: io::Read, O: io::Write, E: io::Write, J: io::Write>(
     alloc: Global,
     file: PolicyFile<'_>,
     further: Further<'_>,
     manner: Manner,
+    journal: Option<&mut J>,
     script: &mut R,
     out: &mut O,
     err: &mut E,
@@ -406,14 +515,18 @@ pub fn run_explaining<R: io::Read, O: io::Write, E: io::Write>(
     if let Err(blame) = read_later(alloc, further, explains, &mut later) {
         return name_blame(alloc, blame, err);
     }
-    run_as_asked(
-        alloc,
-        manner,
-        file.text,
-        &mut world,
-        later.as_slice(),
-        script,
-        out,
-        err,
-    )
+    match begin_journal(alloc, file, further, manner.places, journal) {
+        Ok(journal) => run_as_asked(
+            alloc,
+            manner,
+            file.text,
+            &mut world,
+            later.as_slice(),
+            journal,
+            script,
+            out,
+            err,
+        ),
+        Err(fault) => name(alloc, err, failure_of(fault)),
+    }
 }

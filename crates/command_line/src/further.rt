@@ -3,16 +3,17 @@
 use crate::drawing::{Drawn, draw_explaining};
 use crate::explained_run::run_explaining;
 use crate::explaining::PolicyFile;
-use crate::perform::{read_file, unread};
+use crate::perform::{read_file, unmade, unread};
 use crate::policies::Further;
 use crate::request::Reads;
 use crate::session::GREETING;
 use crate::terminal::{Beside, TerminalReader};
 use commands::{PolicyText, Span, Status, draw_policies, run_policies, run_strictly};
+use std::fs::File;
 use std::io::{self, IsTerminal};
 
-// Lines are those of scripts, and replies are text.
-const AS_SCRIPTS: Reads = Reads {
+/// Lines are those of scripts, and replies are text.
+pub const AS_SCRIPTS: Reads = Reads {
     is_readable: false,
     is_json: false,
 };
@@ -29,56 +30,6 @@ pub struct Manner {
     pub is_session: bool,
     pub reads: Reads,
     pub drawn: Option<Span>,
-}
-
-impl Manner {
-    /// Neither strict nor explaining.
-    pub fn plain(places: usize) -> Manner {
-        Manner {
-            places,
-            is_strict: false,
-            is_explaining: false,
-            is_session: false,
-            reads: AS_SCRIPTS,
-            drawn: None,
-        }
-    }
-
-    /// Strict, and not explaining.
-    pub fn strict(places: usize) -> Manner {
-        Manner {
-            places,
-            is_strict: true,
-            is_explaining: false,
-            is_session: false,
-            reads: AS_SCRIPTS,
-            drawn: None,
-        }
-    }
-
-    /// Explaining.
-    pub fn explaining(places: usize, is_strict: bool) -> Manner {
-        Manner {
-            places,
-            is_strict,
-            is_explaining: true,
-            is_session: false,
-            reads: AS_SCRIPTS,
-            drawn: None,
-        }
-    }
-
-    /// With a picture of these entries; explaining, if so.
-    pub fn drawing(places: usize, span: Span, is_explaining: bool) -> Manner {
-        Manner {
-            places,
-            is_strict: false,
-            is_explaining,
-            is_session: false,
-            reads: AS_SCRIPTS,
-            drawn: Some(span),
-        }
-    }
 }
 
 /// Reads files in their order, up to the first that can't be read.
@@ -141,10 +92,11 @@ fn run_over<R: io::Read>(
     file: PolicyFile<'_>,
     further: Further<'_>,
     manner: Manner,
+    journal: Option<&mut File>,
     script: &mut R,
 ) -> Status {
-    let is_by_line = manner.reads != AS_SCRIPTS;
-    if !manner.is_explaining && !manner.is_session && !is_by_line {
+    let is_plain = manner.reads == AS_SCRIPTS && journal.is_none();
+    if is_plain && !manner.is_explaining && !manner.is_session {
         return run_plainly(rt, file.text, further.texts, manner, script);
     }
     if let Some(span) = manner.drawn {
@@ -166,6 +118,7 @@ fn run_over<R: io::Read>(
         file,
         further,
         manner,
+        journal,
         script,
         &mut rt.stdout(),
         &mut rt.stderr(),
@@ -185,7 +138,7 @@ fn tell_unread(
         drawn: None,
         ..manner
     };
-    match run_over(rt, file, before, undrawn, &mut nothing) {
+    match run_over(rt, file, before, undrawn, None, &mut nothing) {
         Status::Done => {
             let name = before.names.get(before.texts.len()).unwrap_or(&file.name);
             unread(rt, name, manner.is_explaining, error)
@@ -195,7 +148,13 @@ fn tell_unread(
 }
 
 // The same over the policy in a text.
-fn run_behind(rt: &HostRuntime, file: PolicyFile<'_>, names: &[&str], manner: Manner) -> Status {
+fn run_behind(
+    rt: &HostRuntime,
+    file: PolicyFile<'_>,
+    names: &[&str],
+    manner: Manner,
+    journal: Option<&str>,
+) -> Status {
     let mut texts = Vec::new(rt.alloc());
     let read = read_files(rt, names, &mut texts);
     let further = Further {
@@ -203,7 +162,7 @@ fn run_behind(rt: &HostRuntime, file: PolicyFile<'_>, names: &[&str], manner: Ma
         texts: texts.as_slice(),
     };
     match read {
-        Ok(()) => run_input(rt, file, further, manner),
+        Ok(()) => run_into(rt, file, further, manner, journal),
         Err(error) => tell_unread(rt, file, further, manner, &error),
     }
 }
@@ -232,6 +191,7 @@ fn run_beside(
     file: PolicyFile<'_>,
     further: Further<'_>,
     manner: Manner,
+    journal: Option<&mut File>,
     beside: Beside,
 ) -> Status {
     let is_session = beside == Beside::Prompt && manner.drawn.is_none();
@@ -245,7 +205,7 @@ fn run_beside(
     let mut stdin = rt.stdin();
     let mut err = rt.stderr();
     let mut script = TerminalReader::new(rt.alloc(), &mut stdin, &mut err, beside);
-    run_over(rt, file, further, manner, &mut script)
+    run_over(rt, file, further, manner, journal, &mut script)
 }
 
 // Runs the script on standard input over the policies in texts.
@@ -254,23 +214,47 @@ fn run_input(
     file: PolicyFile<'_>,
     further: Further<'_>,
     manner: Manner,
+    journal: Option<&mut File>,
 ) -> Status {
     match beside(rt) {
-        Beside::Nothing => run_over(rt, file, further, manner, &mut rt.stdin()),
-        beside => run_beside(rt, file, further, manner, beside),
+        Beside::Nothing => run_over(rt, file, further, manner, journal, &mut rt.stdin()),
+        beside => run_beside(rt, file, further, manner, journal, beside),
     }
 }
 
-/// Runs the script on standard input over the policy in a file. Faults are told in the order of the policies, before
-/// any reply.
-pub fn run(rt: &HostRuntime, policy: &str, further: &[&str], manner: Manner) -> Status {
+// Runs it, with a journal in a file that is there already or is made, if one is named.
+fn run_into(
+    rt: &HostRuntime,
+    file: PolicyFile<'_>,
+    further: Further<'_>,
+    manner: Manner,
+    journal: Option<&str>,
+) -> Status {
+    let Some(name) = journal else {
+        return run_input(rt, file, further, manner, None);
+    };
+    match File::create(rt, name) {
+        Ok(mut journal) => run_input(rt, file, further, manner, Some(&mut journal)),
+        Err(error) => unmade(rt, &error),
+    }
+}
+
+/// Runs the script on standard input over the policy in a file, and writes its history into a journal, if one is named.
+/// Faults are told in the order of the policies, before any reply.
+pub fn run(
+    rt: &HostRuntime,
+    policy: &str,
+    further: &[&str],
+    manner: Manner,
+    journal: Option<&str>,
+) -> Status {
     match read_file(rt, policy) {
         Ok(text) => {
             let file = PolicyFile {
                 name: policy,
                 text: text.as_slice(),
             };
-            run_behind(rt, file, further, manner)
+            run_behind(rt, file, further, manner, journal)
         }
         Err(error) => unread(rt, policy, manner.is_explaining, &error),
     }

@@ -21,7 +21,6 @@ mod listing;
 mod meanings;
 mod perform;
 mod policies;
-mod recording;
 mod replayed;
 mod request;
 mod retelling;

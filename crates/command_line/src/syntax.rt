@@ -434,7 +434,7 @@ const COMPLETIONS_ARGUMENTS: [Argument; 1] = [argument!(
     "The shell: bash, zsh or fish"
 )];
 
-/// A command: its name, what the help says of it, and its arguments.
+/// A command of the program: its name, what the help says of it, and its arguments.
 #[derive(Clone, Copy)]
 pub struct Described {
     pub name: &'static str,
@@ -442,74 +442,25 @@ pub struct Described {
     pub arguments: &'static [Argument],
 }
 
-macro_rules! described {
-    ($name:expr, $about:literal, $arguments:expr) => {
-        Described { name: $name, about: $about, arguments: &$arguments }
+macro_rules! commands {
+    ($($name:ident $about:literal $arguments:ident;)*) => {
+        [$(Described { name: $name, about: $about, arguments: &$arguments }),*]
     };
 }
 
 /// The commands, in the order in which the help has them.
-pub const DESCRIBED: [Described; 10] = [
-    described!(
-        CHECK,
-        "Checks a policy: counts its rows, or names its first fault",
-        CHECK_ARGUMENTS
-    ),
-    described!(
-        RUN,
-        "Runs the script on standard input over a policy, and writes the replies",
-        RUN_ARGUMENTS
-    ),
-    described!(
-        PICTURE,
-        "Runs the script on standard input over a policy, and writes a picture of the run, an SVG page",
-        PICTURE_ARGUMENTS
-    ),
-    described!(
-        KERNEL,
-        "Reads and checks a kernel's text, and lists its kernels with their layout and steps",
-        KERNEL_ARGUMENTS
-    ),
-    described!(
-        ASSEMBLE,
-        "Turns a script with readable packets, on standard input, into one that run takes",
-        ASSEMBLE_ARGUMENTS
-    ),
-    described!(
-        REPLAY,
-        "Replays the journal on standard input, and tells whether it is a legal history",
-        REPLAY_ARGUMENTS
-    ),
-    described!(
-        EXPLAIN,
-        "Tells what a rule, a refusal or a cause of a fault means, or what happened in a journal",
-        EXPLAIN_ARGUMENTS
-    ),
-    described!(
-        DECODE,
-        "Tells a packet's 64 bytes field by field, and the first of L1 to L3 that they break",
-        DECODE_ARGUMENTS
-    ),
-    described!(
-        THREADS,
-        "Runs producers and lanes on threads over a policy, and reports what came of it",
-        THREADS_ARGUMENTS
-    ),
-    described!(
-        COMPLETIONS,
-        "Prints a text by which a shell completes commands and options of this program",
-        COMPLETIONS_ARGUMENTS
-    ),
-];
-
-// A command as clap has it.
-fn command<'a>(alloc: Global, described: &Described) -> Result<Command<'a>, Error> {
-    with_arguments(
-        alloc,
-        named(alloc, described.name, described.about),
-        described.arguments,
-    )
-}
+pub const DESCRIBED: [Described; 10] = commands! {
+    CHECK "Checks a policy: counts its rows, or names its first fault" CHECK_ARGUMENTS;
+    RUN "Runs the script on standard input over a policy, and writes the replies" RUN_ARGUMENTS;
+    PICTURE "Runs the script on standard input over a policy, and writes a picture of the run, an SVG page" PICTURE_ARGUMENTS;
+    KERNEL "Reads and checks a kernel's text, and lists its kernels with their layout and steps" KERNEL_ARGUMENTS;
+    ASSEMBLE "Turns a script with readable packets, on standard input, into one that run takes" ASSEMBLE_ARGUMENTS;
+    REPLAY "Replays the journal on standard input, and tells whether it is a legal history" REPLAY_ARGUMENTS;
+    EXPLAIN "Tells what a rule, a refusal or a cause of a fault means, or what happened in a journal" EXPLAIN_ARGUMENTS;
+    DECODE "Tells a packet's 64 bytes field by field, and the first of L1 to L3 that they break" DECODE_ARGUMENTS;
+    THREADS "Runs producers and lanes on threads over a policy, and reports what came of it" THREADS_ARGUMENTS;
+    COMPLETIONS "Prints a text by which a shell completes commands and options of this program" COMPLETIONS_ARGUMENTS;
+};
 
 // A program with one command more.
 fn with<'a>(
@@ -517,10 +468,11 @@ fn with<'a>(
     program: Command<'a>,
     described: &Described,
 ) -> Result<Command<'a>, Error> {
-    match command(alloc, described) {
-        Ok(command) => with_command(program, command),
-        Err(error) => Err(error),
-    }
+    let command = named(alloc, described.name, described.about);
+    with_command(
+        program,
+        with_arguments(alloc, command, described.arguments)?,
+    )
 }
 
 // A program with these commands more, in their order.
