@@ -1,7 +1,7 @@
 //! A check that tells beside a policy's fault where it lies, and what mends it.
 
-use crate::policies::{Judged, entries_told, judge, name_blame};
-use commands::{CommandLog, KernelCause, KernelFault, Status, count_rows};
+use crate::policies::{entries_told, judge, name_blame};
+use commands::{CommandLog, KernelCause, KernelFault, Setup, Status, count_rows};
 use explain::{kernel_fault, policy_fault};
 use kernel_listing::TextFault;
 use pages::rows_of;
@@ -101,7 +101,7 @@ pub fn tell<E: io::Write>(err: &mut E, told: Result<String, AllocError>, status:
 fn count_and_tell<O: io::Write, E: io::Write>(
     alloc: Global,
     file: PolicyFile<'_>,
-    judged: &Judged,
+    judged: &Setup,
     out: &mut O,
     err: &mut E,
 ) -> Status {

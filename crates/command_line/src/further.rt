@@ -1,16 +1,22 @@
 //! Runs the script on standard input over the policy in a file, with the policies in further files after it.
 
-use crate::drawing::{Drawn, draw_explaining};
-use crate::explained_run::run_explaining;
 use crate::explaining::PolicyFile;
-use crate::perform::{read_file, unmade, unread};
-use crate::policies::Further;
+use crate::perform::{failed, read_file, unmade, unread};
+use crate::policies::{Further, name_blame, open_run};
 use crate::request::Reads;
 use crate::session::GREETING;
 use crate::terminal::{Beside, TerminalReader};
-use commands::{PolicyText, Span, Status, draw_policies, run_policies, run_strictly};
+use crate::watchers::{Recorder, Teller, Telling};
+use assemble::{Book, BookError};
+use commands::{Opened, PolicyText, Span, Status, draw_audit, run_over, tell_run};
+use journal_commands::{JournalFault, JournalWriter};
+use json_replies::Json;
+use readable::Readable;
+use script::{Both, IoLog, Plain, RunFault, Silent, Strict, Style, Text};
+use std::alloc::Global;
 use std::fs::File;
 use std::io::{self, IsTerminal};
+use world::World;
 
 /// Lines are those of scripts, and replies are text.
 pub const AS_SCRIPTS: Reads = Reads {
@@ -41,53 +47,140 @@ pub fn read_files(rt: &HostRuntime, files: &[&str], texts: &mut Vec<PolicyText>)
     Ok(())
 }
 
-// Runs a script over the policies in texts, with nothing beside its replies or its picture.
-fn run_plainly<R: io::Read>(
+// Begins the journal that is asked for.
+fn begin_journal<'a>(
+    alloc: Global,
+    file: PolicyFile<'_>,
+    further: Further<'_>,
+    places: usize,
+    journal: Option<&'a mut File>,
+) -> Result<Option<Recorder<'a, File>>, JournalFault> {
+    let Some(journal) = journal else {
+        return Ok(None);
+    };
+    let begun = JournalWriter::begin(alloc, file.text, further.texts, places, journal)?;
+    Ok(Some(Recorder::new(begun, places)))
+}
+
+// What is told of a run beside its replies.
+fn telling_of(manner: Manner) -> Telling {
+    Telling {
+        of_replies: manner.is_explaining && manner.drawn.is_none(),
+        of_lines: manner.is_explaining,
+        goes_on: manner.is_session && !manner.is_strict,
+    }
+}
+
+// Draws what a world's audit tells, if that is asked for and the run has come to its end.
+fn draw_behind<F: Drop>(
     rt: &HostRuntime,
-    text: &[u8],
-    further: &[PolicyText],
+    world: &World,
+    drawn: Option<Span>,
+    ended: Result<(), RunFault<F>>,
+) -> Result<(), RunFault<F>> {
+    match (ended, drawn) {
+        (Ok(()), Some(span)) => {
+            let answers = &mut IoLog::none();
+            match draw_audit(rt.alloc(), world, span, &mut rt.stdout(), answers) {
+                Ok(()) => Ok(()),
+                Err(fault) => Err(RunFault::Script(fault)),
+            }
+        }
+        (ended, _) => ended,
+    }
+}
+
+// Runs a script in a style over a world that was opened.
+fn run_in<L: Style, R: io::Read>(
+    rt: &HostRuntime,
     manner: Manner,
+    opened: &mut Opened,
+    style: &mut L,
+    recorder: Option<Recorder<'_, File>>,
     script: &mut R,
 ) -> Status {
-    let places = manner.places;
-    let mut out = rt.stdout();
+    let alloc = rt.alloc();
+    let mut beside = rt.stderr();
     let mut err = rt.stderr();
-    if let Some(span) = manner.drawn {
-        draw_policies(
-            rt.alloc(),
-            text,
-            further,
-            places,
-            span,
-            script,
-            &mut out,
-            &mut err,
-        )
-    } else if manner.is_strict {
-        run_strictly(
-            rt.alloc(),
-            text,
-            further,
-            places,
-            script,
-            &mut out,
-            &mut err,
-        )
+    let later = opened.later.policies().len();
+    let strict = if manner.is_strict { Some(Strict) } else { None };
+    let teller = Teller::new(alloc, telling_of(manner), later, &mut beside);
+    let mut watcher = Both::new(teller, Both::new(recorder, strict));
+    let out = &mut rt.stdout();
+    let answers = &mut IoLog::none();
+    let ended = run_over(alloc, opened, style, &mut watcher, script, out, answers);
+    let ended = draw_behind(rt, &opened.world, manner.drawn, ended);
+    let status = tell_run(alloc, ended, &mut err, &mut IoLog::none());
+    let status = watcher.first.end(status);
+    match &mut watcher.second.first {
+        Some(recorder) => recorder.end(alloc, &opened.world, &mut err, status),
+        None => status,
+    }
+}
+
+// Runs a script of readable lines.
+fn run_readable<R: io::Read>(
+    rt: &HostRuntime,
+    text: &[u8],
+    manner: Manner,
+    opened: &mut Opened,
+    recorder: Option<Recorder<'_, File>>,
+    script: &mut R,
+) -> Status {
+    let alloc = rt.alloc();
+    let book = match Book::read(alloc, text) {
+        Ok(book) => book,
+        Err(BookError::OutOfMemory) => return failed(rt, "no memory"),
+        Err(BookError::Refused) => return Status::Refused,
+    };
+    if manner.reads.is_json {
+        let style = &mut Readable::new(alloc, &book, Json);
+        run_in(rt, manner, opened, style, recorder, script)
     } else {
-        run_policies(
-            rt.alloc(),
-            text,
-            further,
-            places,
-            script,
-            &mut out,
-            &mut err,
-        )
+        let style = &mut Readable::new(alloc, &book, Text);
+        run_in(rt, manner, opened, style, recorder, script)
+    }
+}
+
+// Runs a script, read and replied to as is asked.
+fn run_as_asked<R: io::Read>(
+    rt: &HostRuntime,
+    text: &[u8],
+    manner: Manner,
+    opened: &mut Opened,
+    recorder: Option<Recorder<'_, File>>,
+    script: &mut R,
+) -> Status {
+    if manner.drawn.is_some() {
+        let style = &mut Plain { voice: Silent };
+        run_in(rt, manner, opened, style, recorder, script)
+    } else if manner.reads.is_readable {
+        run_readable(rt, text, manner, opened, recorder, script)
+    } else if manner.reads.is_json {
+        let style = &mut Plain { voice: Json };
+        run_in(rt, manner, opened, style, recorder, script)
+    } else {
+        let style = &mut Plain { voice: Text };
+        run_in(rt, manner, opened, style, recorder, script)
+    }
+}
+
+// Opens a world over the policies in texts.
+fn open(
+    rt: &HostRuntime,
+    file: PolicyFile<'_>,
+    further: Further<'_>,
+    manner: Manner,
+) -> Result<Opened, Status> {
+    let explains = manner.is_explaining;
+    match open_run(rt.alloc(), file, further, explains, manner.places) {
+        Ok(opened) => Ok(opened),
+        Err(blame) => Err(name_blame(rt.alloc(), blame, &mut rt.stderr())),
     }
 }
 
 // Runs a script over the policies in texts, which have these names.
-fn run_over<R: io::Read>(
+fn run_policies_of<R: io::Read>(
     rt: &HostRuntime,
     file: PolicyFile<'_>,
     further: Further<'_>,
@@ -95,34 +188,15 @@ fn run_over<R: io::Read>(
     journal: Option<&mut File>,
     script: &mut R,
 ) -> Status {
-    let is_plain = manner.reads == AS_SCRIPTS && journal.is_none();
-    if is_plain && !manner.is_explaining && !manner.is_session {
-        return run_plainly(rt, file.text, further.texts, manner, script);
+    let mut opened = match open(rt, file, further, manner) {
+        Ok(opened) => opened,
+        Err(status) => return status,
+    };
+    match begin_journal(rt.alloc(), file, further, manner.places, journal) {
+        Ok(recorder) => run_as_asked(rt, file.text, manner, &mut opened, recorder, script),
+        Err(JournalFault::OutOfMemory) => failed(rt, "no memory"),
+        Err(JournalFault::Write) => failed(rt, "write fault"),
     }
-    if let Some(span) = manner.drawn {
-        return draw_explaining(
-            rt.alloc(),
-            file,
-            further,
-            Drawn {
-                places: manner.places,
-                span,
-            },
-            script,
-            &mut rt.stdout(),
-            &mut rt.stderr(),
-        );
-    }
-    run_explaining(
-        rt.alloc(),
-        file,
-        further,
-        manner,
-        journal,
-        script,
-        &mut rt.stdout(),
-        &mut rt.stderr(),
-    )
 }
 
 // Tells the first fault of the policies before one that can't be read, and where they have none, why it can't.
@@ -133,17 +207,12 @@ fn tell_unread(
     manner: Manner,
     error: &io::Error,
 ) -> Status {
-    let mut nothing = "".as_bytes();
-    let undrawn = Manner {
-        drawn: None,
-        ..manner
-    };
-    match run_over(rt, file, before, undrawn, None, &mut nothing) {
-        Status::Done => {
+    match open(rt, file, before, manner) {
+        Ok(_) => {
             let name = before.names.get(before.texts.len()).unwrap_or(&file.name);
             unread(rt, name, manner.is_explaining, error)
         }
-        status => status,
+        Err(status) => status,
     }
 }
 
@@ -185,15 +254,15 @@ fn beside(rt: &HostRuntime) -> Beside {
     }
 }
 
-// Runs the script that a person types in, or one that is counted.
-fn run_beside(
+// Runs the script on standard input over the policies in texts, and prompts a person for it, or counts it.
+fn run_input(
     rt: &HostRuntime,
     file: PolicyFile<'_>,
     further: Further<'_>,
     manner: Manner,
     journal: Option<&mut File>,
-    beside: Beside,
 ) -> Status {
+    let beside = beside(rt);
     let is_session = beside == Beside::Prompt && manner.drawn.is_none();
     if is_session {
         let _ = eprintln!(rt; "{GREETING}");
@@ -205,21 +274,7 @@ fn run_beside(
     let mut stdin = rt.stdin();
     let mut err = rt.stderr();
     let mut script = TerminalReader::new(rt.alloc(), &mut stdin, &mut err, beside);
-    run_over(rt, file, further, manner, journal, &mut script)
-}
-
-// Runs the script on standard input over the policies in texts.
-fn run_input(
-    rt: &HostRuntime,
-    file: PolicyFile<'_>,
-    further: Further<'_>,
-    manner: Manner,
-    journal: Option<&mut File>,
-) -> Status {
-    match beside(rt) {
-        Beside::Nothing => run_over(rt, file, further, manner, journal, &mut rt.stdin()),
-        beside => run_beside(rt, file, further, manner, journal, beside),
-    }
+    run_policies_of(rt, file, further, manner, journal, &mut script)
 }
 
 // Runs it, with a journal in a file that is there already or is made, if one is named.

@@ -1,11 +1,11 @@
 //! Journals in files, and on standard input.
 
-use crate::drawing::{draw_recorded, tell_recorded};
 use crate::explaining::PolicyFile;
 use crate::further::read_files;
 use crate::perform::{STANDARD_INPUT, read_file, unread};
-use crate::policies::Further;
+use crate::policies::{Further, name_blame, read_policies};
 use commands::{PolicyText, Span, Status};
+use journal_commands::{draw_journal, tell_journal};
 use std::fs::File;
 use std::io;
 
@@ -14,6 +14,13 @@ use std::io;
 pub enum Shown {
     Drawn { span: Span },
     Told,
+}
+
+impl Shown {
+    // Whether all is told, and so of a policy's fault what is wrong there.
+    fn is_told(self) -> bool {
+        matches!(self, Shown::Told)
+    }
 }
 
 // Reads the further policies after a policy: the name of the file that can't be read, and why.
@@ -37,20 +44,17 @@ fn show_over<R: io::Read>(
     explains: bool,
     journal: &mut R,
 ) -> Status {
+    let alloc = rt.alloc();
     let mut out = rt.stdout();
     let mut err = rt.stderr();
-    match shown {
-        Shown::Drawn { span } => draw_recorded(
-            rt.alloc(),
-            file,
-            further,
-            span,
-            explains,
-            journal,
-            &mut out,
-            &mut err,
-        ),
-        Shown::Told => tell_recorded(rt.alloc(), file, further, journal, &mut out, &mut err),
+    match read_policies(alloc, file, further, explains || shown.is_told()) {
+        Ok(policies) => match shown {
+            Shown::Drawn { span } => draw_journal(
+                alloc, policies, span, journal, &mut out, &mut err,
+            ),
+            Shown::Told => tell_journal(alloc, policies, journal, &mut out, &mut err),
+        },
+        Err(blame) => name_blame(alloc, blame, &mut err),
     }
 }
 

@@ -87,7 +87,7 @@ fn write_counts<W: io::Write>(
 
 /// A policy that was let pass, with what packets may launch by its kernels, in order.
 #[derive(Drop)]
-pub(crate) struct Setup {
+pub struct Setup {
     pub policy: Policy,
     pub kernels: Vec<Kernel>,
 }
@@ -118,7 +118,7 @@ fn checked(alloc: Global, policy: Policy) -> Result<Setup, Failure>
 }
 
 /// Reads the text of a policy, and checks its kernels in order.
-pub(crate) fn judge(alloc: Global, text: &[u8]) -> Result<Setup, Failure>
+pub fn judge(alloc: Global, text: &[u8]) -> Result<Setup, Failure>
     ensures { JudgesPolicy text.now result }
 {
     match read_policy(alloc, text) {

@@ -9,7 +9,7 @@ use crate::status::Status;
 use access_core::OpenFault;
 use aql_packet::KernelObject;
 use policy::{PolicyFault, ReadPolicyError};
-use script::{IoLog, ScriptFault, write_through};
+use script::{Either, IoLog, Never, NotDone, RunFault, ScriptFault, write_through};
 use std::alloc::{AllocError, Global};
 use std::{fmt, io};
 
@@ -111,16 +111,15 @@ impl Failure {
         }
     }
 
-    // The failure of the run of a script; none where whoever watches ended it.
-    pub(crate) fn of_script(why: ScriptFault) -> Option<Failure>
+    /// The failure of the run of a script.
+    pub fn of_script(why: ScriptFault) -> Failure
         ensures { result ≡ failure_of_script why }
     {
         match why {
-            ScriptFault::OutOfMemory => Some(Failure::OutOfMemory),
-            ScriptFault::BadLine(number) => Some(Failure::Line(number)),
-            ScriptFault::Read => Some(Failure::Read),
-            ScriptFault::Write => Some(Failure::Write),
-            ScriptFault::Stopped(_) => None,
+            ScriptFault::OutOfMemory => Failure::OutOfMemory,
+            ScriptFault::BadLine(number) => Failure::Line(number),
+            ScriptFault::Read => Failure::Read,
+            ScriptFault::Write => Failure::Write,
         }
     }
 }
@@ -190,7 +189,7 @@ pub fn name_failure<E: io::Write>(
     }
 }
 
-/// Names why what was asked wasn't done, if it wasn't and nobody who watches ended it.
+/// Names why what was asked wasn't done, if it wasn't.
 pub fn tell_end<E: io::Write>(
     alloc: Global,
     ended: Result<(), ScriptFault>,
@@ -202,9 +201,61 @@ pub fn tell_end<E: io::Write>(
 {
     match ended {
         Ok(()) => Status::Done,
-        Err(why) => match Failure::of_script(why) {
-            Some(failure) => name_failure(alloc, failure, err, answers),
-            None => Status::Refused,
+        Err(why) => name_failure(alloc, Failure::of_script(why), err, answers),
+    }
+}
+
+/// How a command ends whose run a watcher ended (own).
+#[derive(Clone, Copy, Debug, PartialEq, Eq)]
+pub enum Stop {
+    /// So, and nothing is told.
+    Quiet(Status),
+    /// By a failure, which is named.
+    Named(Failure),
+}
+
+/// A watcher's fault: it says how the command ends.
+pub trait Stops {
+    /// How the command ends.
+    fn stop(self) -> Stop;
+}
+
+impl Stops for Never {
+    fn stop(self) -> Stop {
+        match self {}
+    }
+}
+
+impl Stops for NotDone {
+    fn stop(self) -> Stop {
+        Stop::Quiet(Status::Refused)
+    }
+}
+
+impl<A: Stops, B: Stops> Stops for Either<A, B> {
+    fn stop(self) -> Stop {
+        match self {
+            Either::First(fault) => fault.stop(),
+            Either::Second(fault) => fault.stop(),
+        }
+    }
+}
+
+/// Names why a run wasn't done to its end, if it wasn't, unless its watcher ended it and says that nothing is told.
+pub fn tell_run<F: Stops + Drop, E: io::Write>(
+    alloc: Global,
+    ended: Result<(), RunFault<F>>,
+    err: &mut E,
+    answers: &mut IoLog,
+) -> Status
+    requires { answers.old.write_failed ≡ false }
+{
+    match ended {
+        Ok(()) => Status::Done,
+        Err(RunFault::Script(why)) => { name_failure(alloc, Failure::of_script(why), err, answers) }
+        Err(RunFault::Watcher(fault)) => match fault.stop() {
+            Stop::Quiet(status) => status,
+            Stop::Named(failure) => name_failure(alloc, failure, err, answers),
         },
     }
 }

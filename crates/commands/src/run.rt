@@ -1,29 +1,27 @@
 //! The command that runs a script over a policy.
 
 ghost use Rattle.std.specs.Prelude.{◌≡◌, []};
-ghost use Rattle.commands.specs.Commands.{IsTold, RunsBehind, RunsOver, RunsFrom, RunsUnder, RunsPolicies, none_noted, streams};
+ghost use Rattle.commands.specs.Commands.{RunsPolicies, none_noted, streams};
 ghost use Rattle.commands.specs.declared.command_log.CommandLog.{CommandLog};
-ghost use Rattle.script.specs.IoLogs.{none_yet};
 ghost use Rattle.script.specs.Watchers.{ends_strictly, goes_on};
 ghost use Rattle.world.specs.Starting.{Begins};
 
 use crate::check::{Setup, judge};
 use crate::command_log::CommandLog;
-use crate::failure::{Failure, name_failure, tell_end};
-use crate::further::{PolicyText, read_further};
+use crate::failure::{Failure, Stops, name_failure, tell_run};
+use crate::further::{Further, PolicyText, read_further};
 use crate::status::Status;
 use access_core::{Kernel, OpenFault};
 use policy::Policy;
-use script::{IoLog, Nobody, ScriptFault, Strict, Watch, run_watched};
+use script::{IoLog, Nobody, Plain, RunFault, Strict, Style, Text, Watch, run_watched};
 use std::alloc::Global;
 use std::io;
 use world::World;
 
-// The two calls below say in a word what is promised of worlds and scripts, so that the proofs of their callers
-// don't carry it.
+// The call below says in a word what is promised of worlds, so that the proofs of its callers don't carry it.
 
 /// Opens a world under a policy.
-pub(crate) fn open_world(
+fn open_world(
     alloc: Global,
     policy: Policy,
     kernels: Vec<Kernel>,
@@ -34,123 +32,105 @@ pub(crate) fn open_world(
     World::open(alloc, policy, kernels, places)
 }
 
-/// Runs a script.
-#[tactic(auto, unfolding(crate::specs::Commands::RunsOver))]
-pub(crate) fn run_through<R: io::Read, O: io::Write, V: Watch>(
-    alloc: Global,
-    world: &mut World,
-    later: &[Policy],
-    script: &mut R,
-    out: &mut O,
-    watcher: &mut V,
-    answers: &mut IoLog,
-) -> Result<(), ScriptFault>
-    requires { answers.old ≡ none_yet }
-    ensures outcome { RunsOver V.says later.now world.old world.new (R.remaining script.old) (R.remaining script.new) (O.contents out.old) (O.contents out.new) result }
-    ensures told { IsTold result answers.new }
-{
-    run_watched(alloc, script, out, world, later, watcher, answers)
+/// A world that was opened over a policy, and the further policies that a script may hand in.
+pub struct Opened {
+    pub world: World,
+    pub later: Further,
 }
 
-// Runs a script over a world, and lets the world go.
-fn run_in<R: io::Read, O: io::Write, V: Watch>(
-    alloc: Global,
-    world: World,
-    later: &[Policy],
-    script: &mut R,
-    out: &mut O,
-    watcher: &mut V,
-    answers: &mut IoLog,
-) -> Result<(), ScriptFault>
-    requires { answers.old ≡ none_yet }
-    ensures outcome { RunsFrom V.says later.now world (R.remaining script.old) (R.remaining script.new) (O.contents out.old) (O.contents out.new) result }
-    ensures told { IsTold result answers.new }
-{
-    let mut world = world;
-    run_through(alloc, &mut world, later, script, out, watcher, answers)
+impl Drop for Opened {
+    fn drop(self) {
+        let Opened { world: _, later: _ } = self;
+    }
 }
 
-// Reads the texts of further policies, and runs a script over a world.
-fn run_behind<R: io::Read, O: io::Write, E: io::Write, V: Watch>(
-    alloc: Global,
-    world: World,
-    further: &[PolicyText],
-    script: &mut R,
-    out: &mut O,
-    err: &mut E,
-    watcher: &mut V,
-    noted: &mut CommandLog,
-) -> Status
-    requires { noted.old ≡ none_noted }
-    ensures { RunsBehind V.says world further.now noted.new
-        (streams (R.remaining script.old) (O.contents out.old) (E.contents err.old))
-        (streams (R.remaining script.new) (O.contents out.new) (E.contents err.new)) result }
-{
+/// Why its policies keep a command from its work, and which of them: 0 for the first.
+#[derive(Clone, Copy)]
+pub struct Unopened {
+    pub failure: Failure,
+    pub place: usize,
+}
+
+// Why the first policy keeps a command from its work.
+fn of_first(failure: Failure) -> Unopened {
+    Unopened { failure, place: 0 }
+}
+
+// Reads the further policies behind a world.
+fn open_behind(alloc: Global, world: World, further: &[PolicyText]) -> Result<Opened, Unopened> {
     match read_further(alloc, further) {
-        Ok(later) => {
-            let ended = run_in(
-                alloc,
-                world,
-                later.policies(),
-                script,
-                out,
-                watcher,
-                &mut noted.asked,
-            );
-            tell_end(alloc, ended, err, &mut noted.faults)
-        }
-        Err(why) => name_failure(alloc, Failure::of_reading(why), err, &mut noted.faults),
+        Ok(later) => Ok(Opened { world, later }),
+        Err(fault) => Err(Unopened {
+            failure: Failure::of_reading(fault.why),
+            place: fault.place.saturating_add(1),
+        }),
     }
 }
 
-// Runs a script over a policy that was let pass.
-fn run_under<R: io::Read, O: io::Write, E: io::Write, V: Watch>(
-    alloc: Global,
-    setup: Setup,
-    further: &[PolicyText],
-    places: usize,
-    script: &mut R,
-    out: &mut O,
-    err: &mut E,
-    watcher: &mut V,
-    noted: &mut CommandLog,
-) -> Status
-    requires { noted.old ≡ none_noted }
-    ensures { RunsUnder V.says setup.policy setup.kernels.items further.now places noted.new
-        (streams (R.remaining script.old) (O.contents out.old) (E.contents err.old))
-        (streams (R.remaining script.new) (O.contents out.new) (E.contents err.new)) result }
-{
-    let Setup { policy, kernels } = setup;
-    match open_world(alloc, policy, kernels, places) {
-        Ok(world) => run_behind(alloc, world, further, script, out, err, watcher, noted),
-        Err(why) => name_failure(alloc, Failure::of_opening(why), err, &mut noted.faults),
-    }
-}
-
-/// Runs a script over policies as `run_policies` does, shows each reply to a watcher, who may end the run there with
-/// `Status::Refused` and nothing told, and notes what the reader and the writers answered. It fails only where `no memory`
-/// stands on `err`, or `read fault` or `write fault`, each with its cause (`run_watched` in `script`), or where the writer
-/// of faults failed.
-pub fn run_policies_watched<R: io::Read, O: io::Write, E: io::Write, V: Watch>(
+/// Opens a world over the policy in a text, with places for so many entries (1 to 2^20) in the audit, and reads the further
+/// policies behind it; else the first failure: that of the policy, of its kernels, of the first of these whose module has
+/// none of its entry's name, and then of the further policies in order.
+pub fn open_policies(
     alloc: Global,
     text: &[u8],
     further: &[PolicyText],
     places: usize,
+) -> Result<Opened, Unopened> {
+    let Setup { policy, kernels } = match judge(alloc, text) {
+        Ok(setup) => setup,
+        Err(why) => return Err(of_first(why)),
+    };
+    match open_world(alloc, policy, kernels, places) {
+        Ok(world) => open_behind(alloc, world, further),
+        Err(why) => Err(of_first(Failure::of_opening(why))),
+    }
+}
+
+/// Runs a script over a world that was opened.
+pub fn run_over<L: Style, V: Watch, R: io::Read, O: io::Write>(
+    alloc: Global,
+    opened: &mut Opened,
+    style: &mut L,
+    watcher: &mut V,
+    script: &mut R,
+    out: &mut O,
+    answers: &mut IoLog,
+) -> Result<(), RunFault<V::Fault>> {
+    run_watched(
+        alloc,
+        script,
+        out,
+        &mut opened.world,
+        opened.later.policies(),
+        style,
+        watcher,
+        answers,
+    )
+}
+
+// Runs a script over the policies in texts, each line one of a script and each reply a text.
+fn run_watching<V: Watch, R: io::Read, O: io::Write, E: io::Write>(
+    alloc: Global,
+    text: &[u8],
+    further: &[PolicyText],
+    places: usize,
+    watcher: &mut V,
     script: &mut R,
     out: &mut O,
     err: &mut E,
-    watcher: &mut V,
     noted: &mut CommandLog,
 ) -> Status
-    requires { noted.old ≡ none_noted }
-    ensures { RunsPolicies V.says text.now further.now places noted.new (streams (R.remaining script.old) (O.contents out.old) (E.contents err.old))
-        (streams (R.remaining script.new) (O.contents out.new) (E.contents err.new)) result }
+where
+    V::Fault: Stops,
 {
-    match judge(alloc, text) {
-        Ok(setup) => run_under(
-            alloc, setup, further, places, script, out, err, watcher, noted,
-        ),
-        Err(why) => name_failure(alloc, why, err, &mut noted.faults),
+    match open_policies(alloc, text, further, places) {
+        Ok(mut opened) => {
+            let style = &mut Plain { voice: Text };
+            let asked = &mut noted.asked;
+            let ended = run_over(alloc, &mut opened, style, watcher, script, out, asked);
+            tell_run(alloc, ended, err, &mut noted.faults)
+        }
+        Err(why) => name_failure(alloc, why.failure, err, &mut noted.faults),
     }
 }
 
@@ -172,17 +152,17 @@ pub fn run_policies<R: io::Read, O: io::Write, E: io::Write>(
     ensures { (noted : CommandLog) × RunsPolicies goes_on text.now further.now places noted (streams (R.remaining script.old) (O.contents out.old) (E.contents err.old))
         (streams (R.remaining script.new) (O.contents out.new) (E.contents err.new)) result }
 {
-    let mut noted = CommandLog::none();
-    run_policies_watched(
+    let noted = &mut CommandLog::none();
+    run_watching(
         alloc,
         text,
         further,
         places,
+        &mut Nobody,
         script,
         out,
         err,
-        &mut Nobody,
-        &mut noted,
+        noted,
     )
 }
 
@@ -215,16 +195,9 @@ pub fn run_strictly<R: io::Read, O: io::Write, E: io::Write>(
     ensures { (noted : CommandLog) × RunsPolicies ends_strictly text.now further.now places noted (streams (R.remaining script.old) (O.contents out.old) (E.contents err.old))
         (streams (R.remaining script.new) (O.contents out.new) (E.contents err.new)) result }
 {
-    let mut noted = CommandLog::none();
-    run_policies_watched(
-        alloc,
-        text,
-        further,
-        places,
-        script,
-        out,
-        err,
-        &mut Strict,
-        &mut noted,
+    let noted = &mut CommandLog::none();
+    let watcher = &mut Strict;
+    run_watching(
+        alloc, text, further, places, watcher, script, out, err, noted,
     )
 }

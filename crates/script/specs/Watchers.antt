@@ -16,7 +16,7 @@ use Rattle.world.specs.declared.reply.Refusal.{Refusal}
 use Rattle.script.specs.declared.command.LineAnswer.{LineAnswer}
 use Rattle.script.specs.declared.command.LineAnswer.TheVariants as line
 use Rattle.script.specs.declared.watch.Flow.{Flow}
-use Rattle.script.specs.declared.watch.Flow.TheVariants.{GoOn, End}
+use Rattle.script.specs.declared.watch.Flow.TheVariants.{GoOn, Pause, End}
 
 -- nobody ends a run
 abbrev pub goes_on : Result LineAnswer Refusal → Flow → Type 0
@@ -57,3 +57,9 @@ strictly (Err refusal) = End
 
 abbrev pub ends_strictly : Result LineAnswer Refusal → Flow → Type 0
 ends_strictly told flow = flow ≡ strictly told
+
+-- a strict run goes on behind nothing that isn't done
+abbrev pub goes_by_strictly : Flow → Type 0
+goes_by_strictly GoOn = ⊤
+goes_by_strictly Pause = ⊤
+goes_by_strictly End = ⊥

@@ -1,19 +1,12 @@
 //! The engine: it reads a line, does what it asks, and writes the reply.
 
-ghost use Rattle.std.specs.Prelude.{◌≡◌, ◌++◌, [], IfOk, MatchResult, OnOk, OnErr, Result, string_bytes, true};
-ghost use Rattle.core_model.specs.History.{beginning};
-ghost use Rattle.world.specs.declared.reply.Refusal.{Refusal};
+ghost use Rattle.std.specs.Prelude.{◌≡◌, [], OnErr, string_bytes, true};
 ghost use Rattle.script.specs.declared.command.LineAnswer.{LineAnswer};
-ghost use Rattle.script.specs.Expansions.{does};
-ghost use Rattle.script.specs.Entries.{text_of_audit};
-ghost use Rattle.script.specs.Replies.{text_of_line};
-ghost use Rattle.script.specs.Runs.{watched, Served, Wanted};
 
 use crate::command::{Command, LineReply};
-use crate::entries::write_audit;
 use crate::expansions::perform;
 use crate::lines::{Line, read_line};
-use crate::replies::write_line;
+use crate::voice::Voice;
 use crate::watch::{Flow, Watch};
 use core_model::Query;
 use policy::Policy;
@@ -33,20 +26,18 @@ fn asks_for_audit(command: &Command) -> bool
     }
 }
 
-// Puts the audit behind the other replies: it is lent, and written entry by entry. For want of memory nothing is written.
-fn tell_audit(alloc: Global, world: &World, out: &mut String) -> Result<(), AllocError>
-    ensures told { OnOk result (string_bytes out.new ≡ string_bytes out.old
-        ++ text_of_audit world.now.core.origin.policy (beginning world.now.core).before world.now.core.entries) }
+// Puts the audit behind the other replies. For want of memory nothing is put there.
+fn tell_audit<S: Voice>(
+    alloc: Global,
+    world: &World,
+    voice: &S,
+    number: u64,
+    out: &mut String,
+) -> Result<(), AllocError>
     ensures wanted { OnErr result (string_bytes out.new ≡ string_bytes out.old) }
 {
-    let core = world.core();
     let mut reply = String::new(alloc);
-    write_audit(
-        &mut reply,
-        world.policy(),
-        core.entries_before(),
-        core.audit(),
-    )?;
+    voice.tell_audit(&mut reply, world, number)?;
     out.push_str(reply.as_str())
 }
 
@@ -62,71 +53,125 @@ fn empty(alloc: Global, reply: &mut String)
 }
 
 // Puts a reply, made in a text that is kept for its room, behind the others; for want of memory nothing is put there.
-fn put_reply(
+fn put_reply<S: Voice>(
     alloc: Global,
     world: &World,
+    voice: &S,
+    number: u64,
     told: &LineReply,
     reply: &mut String,
     out: &mut String,
 ) -> Result<(), AllocError>
-    ensures told { OnOk result (string_bytes out.new ≡ string_bytes out.old ++ text_of_line world.now.core.origin.policy told.now) }
     ensures wanted { OnErr result (string_bytes out.new ≡ string_bytes out.old) }
 {
     empty(alloc, reply);
-    write_line(reply, world.policy(), told)?;
+    voice.tell(alloc, reply, world.policy(), number, told)?;
     out.push_str(reply.as_str())
 }
 
 // Does what the line of a number asks, puts the reply behind the others, and shows it to the watcher; for want of memory
-// nothing is written or shown.
-fn serve<V: Watch>(
+// nothing is put there or shown.
+fn serve<S: Voice, V: Watch>(
     alloc: Global,
     world: &mut World,
     later: &[Policy],
+    voice: &S,
     watcher: &mut V,
     number: u64,
     command: Command,
     reply: &mut String,
     out: &mut String,
 ) -> Result<Flow, AllocError>
-    ensures served { (told : Result LineAnswer Refusal) × does later.now command world.old told world.new
-        × IfOk result (λ flow. (string_bytes out.new ≡ string_bytes out.old ++ text_of_line world.new.core.origin.policy told) × V.says told flow) }
     ensures wanted { OnErr result (string_bytes out.new ≡ string_bytes out.old) }
 {
     if asks_for_audit(&command) {
-        tell_audit(alloc, world, out)?;
+        tell_audit(alloc, world, voice, number, out)?;
         return Ok(Flow::GoOn);
     }
     watcher.asks(&command);
     let told = perform(alloc, world, later, command);
-    put_reply(alloc, world, &told, reply, out)?;
-    Ok(watcher.seen(world, number, told))
+    put_reply(alloc, world, voice, number, &told, reply, out)?;
+    Ok(watcher.seen(world, number, &told))
 }
 
 /// Does what the line of a number asks, puts its reply behind the others, and answers what the watcher says to it; none
 /// where the line has no form. Where it wants memory nothing is put there, and what the line asks is done or nothing is.
 /// The reply is made in a text of its own, which is kept for its room.
-#[tactic(auto, unfolding(crate::specs::Runs::watched))]
-pub fn answer<V: Watch>(
+pub fn answer<S: Voice, V: Watch>(
     alloc: Global,
     world: &mut World,
     later: &[Policy],
+    voice: &S,
     watcher: &mut V,
     number: u64,
     line: &[u8],
     reply: &mut String,
     out: &mut String,
-) -> Result<Option<Flow>, AllocError>
-    ensures { MatchResult result
-        (Served (watched V.says later.now) world.old world.new line.now (string_bytes out.old) (string_bytes out.new))
-        (λ _. Wanted (watched V.says later.now) world.old world.new line.now (string_bytes out.old) (string_bytes out.new)) }
-{
+) -> Result<Option<Flow>, AllocError> {
     match read_line(alloc, world.policy(), later.len(), line)? {
         None => Ok(None),
         Some(Line::Quiet) => Ok(Some(Flow::GoOn)),
         Some(Line::Asks(command)) => {
-            let flow = serve(alloc, world, later, watcher, number, command, reply, out)?;
+            let flow = serve(
+                alloc, world, later, voice, watcher, number, command, reply, out,
+            )?;
             Ok(Some(flow))
         }
+    }
+}
+
+/// How the lines of a run are read and replied to.
+pub trait Style {
+    /// Does what the line of a number asks, puts its replies behind the others, shows them to the watcher, and answers what
+    /// that says; none where the line has no form.
+    fn answer<V: Watch>(
+        &mut self,
+        alloc: Global,
+        world: &mut World,
+        later: &[Policy],
+        watcher: &mut V,
+        number: u64,
+        line: &[u8],
+        reply: &mut String,
+        out: &mut String,
+    ) -> Result<Option<Flow>, AllocError>;
+
+    /// What is wanted in the last line of no form, in a line of text; nothing where no more is known of it.
+    fn wanted(&self) -> &str;
+}
+
+/// Each line is one of a script, and replied to in a voice.
+#[derive(Clone, Copy)]
+pub struct Plain<S> {
+    pub voice: S,
+}
+
+impl<S: Voice> Style for Plain<S> {
+    fn answer<V: Watch>(
+        &mut self,
+        alloc: Global,
+        world: &mut World,
+        later: &[Policy],
+        watcher: &mut V,
+        number: u64,
+        line: &[u8],
+        reply: &mut String,
+        out: &mut String,
+    ) -> Result<Option<Flow>, AllocError> {
+        answer(
+            alloc,
+            world,
+            later,
+            &self.voice,
+            watcher,
+            number,
+            line,
+            reply,
+            out,
+        )
+    }
+
+    fn wanted(&self) -> &str {
+        ""
     }
 }

@@ -20,13 +20,15 @@ mod rules;
 mod run;
 mod session;
 mod streams;
+mod voice;
 mod watch;
 mod watchers;
 
 pub use command::{Command, LineAnswer, LineReply, NumberMeaning};
+pub use engine::{Plain, Style, answer};
 pub use entries::{operation_name, write_entry};
 pub use expansions::perform;
-pub use fault::ScriptFault;
+pub use fault::{RunFault, ScriptFault};
 pub use forms::{Class, LineForm, Operand, line_forms};
 pub use io_log::{IoLog, flush_once};
 pub use laws::{
@@ -39,6 +41,7 @@ pub use replies::{cause_name, write_line};
 pub use rules::{Occasion, RuleRow, rule_rows};
 pub use run::{run_script, run_watched};
 pub use streams::write_through;
-pub use watch::{Flow, Watch};
-pub use watchers::{Nobody, Strict, strictly};
+pub use voice::{Silent, Text, Voice};
+pub use watch::{Flow, Never, Turn, Watch};
+pub use watchers::{Both, Either, Nobody, NotDone, Strict, strictly};
 pub use words::{law_numbers_are_sums_of_their_digits, split_word};
