@@ -1,11 +1,12 @@
 //! A check that tells beside a policy's fault where it lies, and what mends it.
 
 use crate::policies::{entries_told, judge, name_blame};
-use commands::{CommandLog, KernelCause, KernelFault, Setup, Status, count_rows};
+use commands::{KernelCause, KernelFault, Setup, Status, count_rows};
 use explain::{kernel_fault, policy_fault};
 use kernel_listing::TextFault;
 use pages::rows_of;
 use policy::{Policy, PolicyCause, PolicyFault};
+use script::Noted;
 use std::alloc::{AllocError, Global};
 use std::io;
 use std::io::Write;
@@ -105,7 +106,12 @@ fn count_and_tell<O: io::Write, E: io::Write>(
     out: &mut O,
     err: &mut E,
 ) -> Status {
-    match count_rows(alloc, &judged.policy, out, err, &mut CommandLog::none()) {
+    match count_rows(
+        alloc,
+        &judged.policy,
+        &mut Noted::new(&mut *out),
+        &mut Noted::new(&mut *err),
+    ) {
         Status::Failed => Status::Failed,
         status => tell(err, entries_told(alloc, file, judged), status),
     }

@@ -12,7 +12,7 @@ use commands::{Opened, PolicyText, Span, Status, draw_audit, run_over, tell_run}
 use journal_commands::{JournalFault, JournalWriter};
 use json_replies::Json;
 use readable::Readable;
-use script::{Both, IoLog, Plain, RunFault, Silent, Strict, Style, Text};
+use script::{Both, Noted, Plain, RunFault, Silent, Strict, Style, Text};
 use std::alloc::Global;
 use std::fs::File;
 use std::io::{self, IsTerminal};
@@ -80,8 +80,8 @@ fn draw_behind<F: Drop>(
 ) -> Result<(), RunFault<F>> {
     match (ended, drawn) {
         (Ok(()), Some(span)) => {
-            let answers = &mut IoLog::none();
-            match draw_audit(rt.alloc(), world, span, &mut rt.stdout(), answers) {
+            let out = &mut Noted::new(rt.stdout());
+            match draw_audit(rt.alloc(), world, span, out) {
                 Ok(()) => Ok(()),
                 Err(fault) => Err(RunFault::Script(fault)),
             }
@@ -106,11 +106,11 @@ fn run_in<L: Style, R: io::Read>(
     let strict = if manner.is_strict { Some(Strict) } else { None };
     let teller = Teller::new(alloc, telling_of(manner), later, &mut beside);
     let mut watcher = Both::new(teller, Both::new(recorder, strict));
-    let out = &mut rt.stdout();
-    let answers = &mut IoLog::none();
-    let ended = run_over(alloc, opened, style, &mut watcher, script, out, answers);
+    let out = &mut Noted::new(rt.stdout());
+    let script = &mut Noted::new(script);
+    let ended = run_over(alloc, opened, style, &mut watcher, script, out);
     let ended = draw_behind(rt, &opened.world, manner.drawn, ended);
-    let status = tell_run(alloc, ended, &mut err, &mut IoLog::none());
+    let status = tell_run(alloc, ended, &mut Noted::new(&mut err));
     let status = watcher.first.end(status);
     match &mut watcher.second.first {
         Some(recorder) => recorder.end(alloc, &opened.world, &mut err, status),

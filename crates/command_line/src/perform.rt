@@ -15,6 +15,7 @@ use clap::Error;
 use commands::{Status, check_policy};
 use pages::{Page, rows_of};
 use policy::MOST_POLICY_BYTES;
+use script::Noted;
 use std::fs::File;
 use std::io::{self, IsTerminal, Read};
 use std::sync::Wait;
@@ -22,9 +23,6 @@ use std::thread::Threads;
 
 /// The exit status for a command line that isn't understood.
 const NOT_UNDERSTOOD: u8 = 2;
-
-/// What is told of a journal's picture for which an audit's places are asked: it has no audit of its own.
-const AUDIT_OF_JOURNAL: &str = "--audit doesn't go with the --journal of a picture";
 
 /// What is told of several words that are to be explained.
 const WORDS_BEHIND: &str = "explain takes one WORD, or policies with --journal FILE";
@@ -69,8 +67,8 @@ fn check(rt: &HostRuntime, policy: &str) -> Status {
         Ok(text) => check_policy(
             rt.alloc(),
             text.as_slice(),
-            &mut rt.stdout(),
-            &mut rt.stderr(),
+            &mut Noted::new(rt.stdout()),
+            &mut Noted::new(rt.stderr()),
         ),
         Err(error) => unread_file(rt, &error),
     }
@@ -413,7 +411,6 @@ pub fn obey<R: Threads + Wait + Sync>(rt: &HostRuntime, threads: &R, words: &[St
         Err(Unread::Text(error)) => tell(rt, &error),
         Err(Unread::NoCommand) => NOT_UNDERSTOOD,
         Err(Unread::TooManyPolicies) => too_many_policies(rt),
-        Err(Unread::AuditOfJournal) => misused(rt, AUDIT_OF_JOURNAL),
         Err(Unread::WordsBehind) => misused(rt, WORDS_BEHIND),
         Err(Unread::OutOfMemory) => out_of_memory(rt),
     }

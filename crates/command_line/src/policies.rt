@@ -10,7 +10,7 @@ use commands::{
 use explain::{no_entry, policy_fault};
 use journal_commands::JournalPolicies;
 use policy::{Policy, PolicyFault, read_policy};
-use script::IoLog;
+use script::Noted;
 use std::alloc::{AllocError, Global};
 use std::io;
 
@@ -207,7 +207,7 @@ pub fn read_policies(
 /// Names why its policies keep a command from its work, tells what is known of it, and says how the command ends.
 pub fn name_blame<E: io::Write>(alloc: Global, blame: Blame, err: &mut E) -> Status {
     let Blame { failure, told } = blame;
-    match name_failure(alloc, failure, err, &mut IoLog::none()) {
+    match name_failure(alloc, failure, &mut Noted::new(&mut *err)) {
         Status::Refused => tell(err, told, Status::Refused),
         status => status,
     }

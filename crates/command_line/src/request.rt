@@ -138,8 +138,6 @@ pub enum Unread {
     NoCommand,
     /// They name more further policies than a run may have.
     TooManyPolicies,
-    /// They ask for room in the audit of a journal that is drawn.
-    AuditOfJournal,
     /// They have words after the one that is to be explained, and no journal.
     WordsBehind,
 }
@@ -339,24 +337,9 @@ fn words_of<'a>(
     Ok(words)
 }
 
-// Whether a picture is asked for of a journal, and for room in an audit.
-fn asks_for_room_of_journal(asked: &ArgMatches<'_>) -> bool {
-    let places: Option<usize> = asked.get_one(AUDIT);
-    asked.get_str(JOURNAL).is_some() && places.is_some()
-}
-
 // Whether a word is explained alone, and further words stand after it.
 fn has_words_behind(request: &Invocation<'_>, further: &[&str]) -> bool {
     matches!(request, Invocation::Explain { .. }) && !further.is_empty()
-}
-
-// Why the arguments of a command don't go together, if they don't.
-fn clash_in(command: &str, asked: &ArgMatches<'_>) -> Result<(), Unread> {
-    if command == PICTURE && asks_for_room_of_journal(asked) {
-        Err(Unread::AuditOfJournal)
-    } else {
-        Ok(())
-    }
 }
 
 // Whether a request takes these further words; the digits of a packet are as many as the command line takes.
@@ -399,7 +382,6 @@ fn asked_by<'a>(
     let Some(request) = request_of(command, asked, unasked) else {
         return Err(Unread::NoCommand);
     };
-    clash_in(command, asked)?;
     match words_of(alloc, further_of(command), asked) {
         Ok(further) => with_words(command, request, further),
         Err(_) => Err(Unread::OutOfMemory),

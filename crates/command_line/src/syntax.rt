@@ -159,17 +159,22 @@ pub enum Takes {
     Shell,
 }
 
-/// An argument: its name, that of an option too; what it takes; and what the help says of it.
+/// An argument: its name, that of an option too; what it takes; what the help says of it; and the argument that it
+/// contradicts, if there is one.
 #[derive(Clone, Copy)]
 pub struct Argument {
     pub name: &'static str,
     pub takes: Takes,
     pub help: &'static str,
+    pub contradicts: Option<&'static str>,
 }
 
 macro_rules! argument {
     ($name:expr, $takes:expr, $help:literal) => {
-        Argument { name: $name, takes: $takes, help: $help }
+        Argument { name: $name, takes: $takes, help: $help, contradicts: None }
+    };
+    ($name:expr, $takes:expr, $help:literal, not with $other:expr) => {
+        Argument { name: $name, takes: $takes, help: $help, contradicts: Some($other) }
     };
 }
 
@@ -263,7 +268,8 @@ const PICTURE_ARGUMENTS: [Argument; 7] = [
     argument!(
         JOURNAL,
         Takes::Value("FILE"),
-        "Draws the journal in this file in place of a script's run; nothing is run"
+        "Draws the journal in this file in place of a script's run; nothing is run",
+        not with AUDIT
     ),
     EXPLAINING,
 ];
@@ -307,7 +313,8 @@ const DECODE_ARGUMENTS: [Argument; 3] = [
     argument!(
         SLOTS,
         Takes::Value("FILE"),
-        "Reads in their place the slots of a ring, 64 bytes each, from a file"
+        "Reads in their place the slots of a ring, 64 bytes each, from a file",
+        not with DIGITS
     ),
     EXPLAINING,
 ];
@@ -384,8 +391,8 @@ fn when<'a>(alloc: Global, name: &'a str, help: &'a str) -> Arg<'a> {
         .value_parser(ValueParser::Names(&[NEVER, ALWAYS]))
 }
 
-// An argument as clap has it.
-fn made<'a>(alloc: Global, argument: &Argument) -> Arg<'a> {
+// An argument as clap has it, but for what it contradicts.
+fn made_alone<'a>(alloc: Global, argument: &Argument) -> Arg<'a> {
     let name = argument.name;
     let help = argument.help;
     match argument.takes {
@@ -397,6 +404,15 @@ fn made<'a>(alloc: Global, argument: &Argument) -> Arg<'a> {
         Takes::Count(most) => count(alloc, name, most, help),
         Takes::When => when(alloc, name, help),
         Takes::Shell => word(alloc, name, help).value_parser(ValueParser::Names(&SHELLS)),
+    }
+}
+
+// An argument as clap has it.
+fn made<'a>(alloc: Global, argument: &Argument) -> Result<Arg<'a>, Error> {
+    let made = made_alone(alloc, argument);
+    match argument.contradicts {
+        Some(other) => Ok(made.conflicts_with(other)?),
+        None => Ok(made),
     }
 }
 
@@ -413,7 +429,7 @@ fn with_arguments<'a>(
 ) -> Result<Command<'a>, Error> {
     let mut command = command;
     for argument in arguments {
-        command = with_argument(command, made(alloc, argument))?;
+        command = with_argument(command, made(alloc, argument)?)?;
     }
     Ok(command)
 }

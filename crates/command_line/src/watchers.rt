@@ -5,7 +5,7 @@ use crate::session::help_told;
 use commands::{Failure, Status, Stop, Stops, name_failure};
 use explain::{Asked, asked_by, bad_line, retold};
 use journal_commands::{JournalFault, JournalWriter};
-use script::{Command, Flow, IoLog, LineReply, Turn, Watch};
+use script::{Command, Flow, LineReply, Noted, Turn, Watch};
 use std::alloc::{AllocError, Global};
 use std::io;
 use std::io::Write;
@@ -49,6 +49,10 @@ pub enum TellFault {
 }
 
 impl Stops for TellFault {
+    ghost use Rattle.std.specs.Prelude.{⊤};
+
+    ghost stops = { λ stop. ⊤ };
+
     fn stop(self) -> Stop {
         match self {
             TellFault::OutOfMemory => Stop::Named(Failure::OutOfMemory),
@@ -120,15 +124,11 @@ impl<'a, E: io::Write> Teller<'a, E> {
 }
 
 impl<'a, E: io::Write> Watch for Teller<'a, E> {
-    ghost use Rattle.std.specs.Prelude.{⊤};
+    ghost use Rattle.script.specs.Watchers.{anyone};
 
     type Fault = TellFault;
 
-    ghost says = { λ told flow. ⊤ };
-
-    ghost passes = { λ flow. ⊤ };
-
-    ghost lets_by = { ⊤ };
+    ghost watching = { anyone };
 
     ghost passes_audits = { λ before entries. tt };
 
@@ -138,18 +138,18 @@ impl<'a, E: io::Write> Watch for Teller<'a, E> {
         }
     }
 
-    fn seen(&mut self, world: &World, number: u64, reply: &LineReply) -> Flow {
+    fn seen(&mut self, world: &World, number: u64, reply: &LineReply) -> Result<Flow, TellFault> {
         if !self.telling.of_replies {
-            return Flow::GoOn;
+            return Ok(Flow::GoOn);
         }
         let told = retold(self.alloc, &mut self.told, world, number, self.asked, reply);
         if told.is_err() {
             self.told.clear();
         }
         if self.told.is_empty() {
-            Flow::GoOn
+            Ok(Flow::GoOn)
         } else {
-            Flow::Pause
+            Ok(Flow::Pause)
         }
     }
 
@@ -185,7 +185,7 @@ pub struct Recorder<'a, J> {
     journal: JournalWriter<'a, J>,
     places: usize,
     is_full: bool,
-    fault: Option<JournalFault>,
+    has_failed: bool,
 }
 
 impl<'a, J: io::Write> Recorder<'a, J> {
@@ -195,7 +195,7 @@ impl<'a, J: io::Write> Recorder<'a, J> {
             journal,
             places,
             is_full: false,
-            fault: None,
+            has_failed: false,
         }
     }
 
@@ -214,43 +214,42 @@ impl<'a, J: io::Write> Recorder<'a, J> {
         err: &mut E,
         status: Status,
     ) -> Status {
-        if self.fault.is_some() {
+        if self.has_failed {
             return status;
         }
         match (self.write_end(world), status) {
             (Ok(()), _) | (Err(_), Status::Failed) => status,
-            (Err(fault), _) => {
-                name_failure(alloc, Failure::from(fault), err, &mut IoLog::none())
-            }
+            (Err(fault), _) => { name_failure(alloc, Failure::from(fault), &mut Noted::new(err)) }
         }
     }
 }
 
 impl<'a, J: io::Write> Watch for Recorder<'a, J> {
-    ghost use Rattle.std.specs.Prelude.{⊤};
+    ghost use Rattle.script.specs.Watchers.{anyone};
 
     type Fault = JournalFault;
 
-    ghost says = { λ told flow. ⊤ };
-
-    ghost passes = { λ flow. ⊤ };
-
-    ghost lets_by = { ⊤ };
+    ghost watching = { anyone };
 
     ghost passes_audits = { λ before entries. tt };
 
     fn asks(&mut self, _command: &Command) {}
 
-    fn seen(&mut self, world: &World, _number: u64, _reply: &LineReply) -> Flow {
+    fn seen(
+        &mut self,
+        world: &World,
+        _number: u64,
+        _reply: &LineReply,
+    ) -> Result<Flow, JournalFault> {
         if let Err(fault) = self.journal.note(world) {
-            self.fault = Some(fault);
-            return Flow::End;
+            self.has_failed = true;
+            return Err(fault);
         }
-        if world.core().audit().len() >= self.places / 2 {
-            self.is_full = true;
-            return Flow::Pause;
+        if world.core().audit().len() < self.places / 2 {
+            return Ok(Flow::GoOn);
         }
-        Flow::GoOn
+        self.is_full = true;
+        Ok(Flow::Pause)
     }
 
     fn goes_by(&self) -> bool {
@@ -260,9 +259,6 @@ impl<'a, J: io::Write> Watch for Recorder<'a, J> {
     fn unread(&mut self, _number: u64, _line: &[u8], _wanted: &str, _ends: bool) {}
 
     fn told(&mut self, _world: &World, _said: Flow) -> Result<Turn, JournalFault> {
-        if let Some(fault) = self.fault {
-            return Err(fault);
-        }
         if self.is_full {
             self.is_full = false;
             return Ok(Turn::Rotate);

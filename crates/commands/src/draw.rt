@@ -1,14 +1,14 @@
 //! What a world's audit tells is drawn.
 
-ghost use Rattle.std.specs.Prelude.{◌≡◌, IfOk, string_bytes, false};
+ghost use Rattle.std.specs.Prelude.{◌≡◌, IfOk, string_bytes};
 ghost use Rattle.commands.specs.Commands.{WritesText};
 ghost use Rattle.commands.specs.Drawing.{page_of};
+ghost use Rattle.commands.specs.Failures.{stream};
 
 use crate::check::pass_on;
 use picture::{Span, write_page};
-use script::{IoLog, ScriptFault};
+use script::{ScriptFault, Sink};
 use std::alloc::{AllocError, Global};
-use std::io;
 use world::World;
 
 // The page of what a world's audit tells, of which these entries are asked for.
@@ -22,18 +22,16 @@ fn page_of(alloc: Global, world: &World, span: Span) -> Result<String, AllocErro
 }
 
 /// Writes on `out` the page of what a world's audit tells, of which these entries are asked for (`write_page` in `picture`).
-pub fn draw_audit<O: io::Write>(
+pub fn draw_audit<O: Sink>(
     alloc: Global,
     world: &World,
     span: Span,
     out: &mut O,
-    answers: &mut IoLog,
 ) -> Result<(), ScriptFault>
-    requires { answers.old.write_failed ≡ false }
-    ensures { WritesText (page_of world.now span) result answers.new (O.contents out.old) (O.contents out.new) }
+    ensures { WritesText (page_of world.now span) result (stream (O.contents out.old) (O.failed out.old)) (stream (O.contents out.new) (O.failed out.new)) }
 {
     match page_of(alloc, world, span) {
-        Ok(page) => pass_on(page.as_str(), out, answers),
+        Ok(page) => pass_on(page.as_str(), out),
         Err(_) => Err(ScriptFault::OutOfMemory),
     }
 }

@@ -4,7 +4,6 @@
 #![tactic(auto)]
 
 mod check;
-mod command_log;
 mod draw;
 mod failure;
 mod further;
@@ -13,8 +12,7 @@ mod laws;
 mod run;
 mod status;
 
-pub use check::{Setup, check_policy, check_policy_noting, count_rows, judge};
-pub use command_log::CommandLog;
+pub use check::{Setup, check_policy, count_rows, judge};
 pub use draw::draw_audit;
 pub use failure::{Failure, Stop, Stops, name_failure, tell_end, tell_run};
 pub use further::{Further, FurtherFault, PolicyText, read_further};

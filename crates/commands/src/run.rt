@@ -1,21 +1,22 @@
 //! The command that runs a script over a policy.
 
-ghost use Rattle.std.specs.Prelude.{◌≡◌, []};
-ghost use Rattle.commands.specs.Commands.{RunsPolicies, none_noted, streams};
-ghost use Rattle.commands.specs.declared.command_log.CommandLog.{CommandLog};
-ghost use Rattle.script.specs.Watchers.{ends_strictly, goes_on};
+ghost use Rattle.std.specs.Prelude.{◌≡◌, [], Ok};
+ghost use Rattle.commands.specs.Commands.{OpensPolicies, OpensVerdict, OpensWorld, RunsIn, RunsOver, RunsPolicies, no_stop, of_first, refused_quietly, streams, strictly};
+ghost use Rattle.commands.specs.Failures.{stream};
+ghost use Rattle.script.specs.Runs.{as_text, by_line, law};
+ghost use Rattle.script.specs.Watchers.{worlds};
+ghost use Rattle.script.specs.declared.watch.Never.{Never};
+ghost use Rattle.script.specs.declared.watchers.NotDone.{NotDone};
 ghost use Rattle.world.specs.Starting.{Begins};
 
 use crate::check::{Setup, judge};
-use crate::command_log::CommandLog;
 use crate::failure::{Failure, Stops, name_failure, tell_run};
 use crate::further::{Further, PolicyText, read_further};
 use crate::status::Status;
 use access_core::{Kernel, OpenFault};
 use policy::Policy;
-use script::{IoLog, Nobody, Plain, RunFault, Strict, Style, Text, Watch, run_watched};
+use script::{Nobody, Plain, RunFault, Sink, Source, Strict, Style, Text, Watch, run_watched};
 use std::alloc::Global;
-use std::io;
 use world::World;
 
 // The call below says in a word what is promised of worlds, so that the proofs of its callers don't carry it.
@@ -52,18 +53,38 @@ pub struct Unopened {
 }
 
 // Why the first policy keeps a command from its work.
-fn of_first(failure: Failure) -> Unopened {
+fn of_first(failure: Failure) -> Unopened
+    ensures { result ≡ of_first failure }
+{
     Unopened { failure, place: 0 }
 }
 
 // Reads the further policies behind a world.
-fn open_behind(alloc: Global, world: World, further: &[PolicyText]) -> Result<Opened, Unopened> {
+fn open_behind(alloc: Global, world: World, further: &[PolicyText]) -> Result<Opened, Unopened>
+    ensures { OpensWorld (Ok world) further.now result }
+{
     match read_further(alloc, further) {
         Ok(later) => Ok(Opened { world, later }),
         Err(fault) => Err(Unopened {
             failure: Failure::of_reading(fault.why),
             place: fault.place.saturating_add(1),
         }),
+    }
+}
+
+// Opens a world under a policy that was let pass, and reads the further policies behind it.
+fn open_under(
+    alloc: Global,
+    setup: Setup,
+    further: &[PolicyText],
+    places: usize,
+) -> Result<Opened, Unopened>
+    ensures { OpensVerdict (Ok setup) further.now places result }
+{
+    let Setup { policy, kernels } = setup;
+    match open_world(alloc, policy, kernels, places) {
+        Ok(world) => open_behind(alloc, world, further),
+        Err(why) => Err(of_first(Failure::of_opening(why))),
     }
 }
 
@@ -75,27 +96,29 @@ pub fn open_policies(
     text: &[u8],
     further: &[PolicyText],
     places: usize,
-) -> Result<Opened, Unopened> {
-    let Setup { policy, kernels } = match judge(alloc, text) {
-        Ok(setup) => setup,
-        Err(why) => return Err(of_first(why)),
-    };
-    match open_world(alloc, policy, kernels, places) {
-        Ok(world) => open_behind(alloc, world, further),
-        Err(why) => Err(of_first(Failure::of_opening(why))),
+) -> Result<Opened, Unopened>
+    ensures { OpensPolicies text.now further.now places result }
+{
+    match judge(alloc, text) {
+        Ok(setup) => open_under(alloc, setup, further, places),
+        Err(why) => Err(of_first(why)),
     }
 }
 
-/// Runs a script over a world that was opened.
-pub fn run_over<L: Style, V: Watch, R: io::Read, O: io::Write>(
+/// Runs a script over a world that was opened, in a style, under a watcher (`run_watched` in `script`).
+#[tactic(auto, unfolding(crate::specs::Commands::RunsOver))]
+pub fn run_over<L: Style, V: Watch, R: Source, O: Sink>(
     alloc: Global,
     opened: &mut Opened,
     style: &mut L,
     watcher: &mut V,
     script: &mut R,
     out: &mut O,
-    answers: &mut IoLog,
-) -> Result<(), RunFault<V::Fault>> {
+) -> Result<(), RunFault<V::Fault>>
+    ensures ran { RunsOver (law L.answering V.watching opened.old.later) opened.old.world opened.new.world (stream (R.remaining script.old) (R.failed script.old))
+        (stream (R.remaining script.new) (R.failed script.new)) (stream (O.contents out.old) (O.failed out.old)) (stream (O.contents out.new) (O.failed out.new)) result }
+    ensures later { opened.new.later ≡ opened.old.later }
+{
     run_watched(
         alloc,
         script,
@@ -104,12 +127,32 @@ pub fn run_over<L: Style, V: Watch, R: io::Read, O: io::Write>(
         opened.later.policies(),
         style,
         watcher,
-        answers,
     )
 }
 
-// Runs a script over the policies in texts, each line one of a script and each reply a text.
-fn run_watching<V: Watch, R: io::Read, O: io::Write, E: io::Write>(
+// Runs a script over what was opened, each line one of a script and each reply a text, and lets that go.
+fn run_opened<V: Watch, R: Source, O: Sink, E: Sink>(
+    alloc: Global,
+    opened: Opened,
+    watcher: &mut V,
+    script: &mut R,
+    out: &mut O,
+    err: &mut E,
+) -> Status
+where
+    V::Fault: Stops,
+    ensures { RunsIn V.Fault (law (by_line as_text) V.watching) V.Fault.stops opened
+        (streams (stream (R.remaining script.old) (R.failed script.old)) (stream (O.contents out.old) (O.failed out.old)) (stream (E.contents err.old) (E.failed err.old)))
+        (streams (stream (R.remaining script.new) (R.failed script.new)) (stream (O.contents out.new) (O.failed out.new)) (stream (E.contents err.new) (E.failed err.new))) result }
+{
+    let mut opened = opened;
+    let style = &mut Plain { voice: Text };
+    let ended = run_over(alloc, &mut opened, style, watcher, script, out);
+    tell_run(alloc, ended, err)
+}
+
+// Runs a script over the policies in texts so.
+fn run_watching<V: Watch, R: Source, O: Sink, E: Sink>(
     alloc: Global,
     text: &[u8],
     further: &[PolicyText],
@@ -118,19 +161,16 @@ fn run_watching<V: Watch, R: io::Read, O: io::Write, E: io::Write>(
     script: &mut R,
     out: &mut O,
     err: &mut E,
-    noted: &mut CommandLog,
 ) -> Status
 where
     V::Fault: Stops,
+    ensures { RunsPolicies V.Fault (law (by_line as_text) V.watching) V.Fault.stops text.now further.now places
+        (streams (stream (R.remaining script.old) (R.failed script.old)) (stream (O.contents out.old) (O.failed out.old)) (stream (E.contents err.old) (E.failed err.old)))
+        (streams (stream (R.remaining script.new) (R.failed script.new)) (stream (O.contents out.new) (O.failed out.new)) (stream (E.contents err.new) (E.failed err.new))) result }
 {
     match open_policies(alloc, text, further, places) {
-        Ok(mut opened) => {
-            let style = &mut Plain { voice: Text };
-            let asked = &mut noted.asked;
-            let ended = run_over(alloc, &mut opened, style, watcher, script, out, asked);
-            tell_run(alloc, ended, err, &mut noted.faults)
-        }
-        Err(why) => name_failure(alloc, why.failure, err, &mut noted.faults),
+        Ok(opened) => run_opened(alloc, opened, watcher, script, out, err),
+        Err(why) => name_failure(alloc, why.failure, err),
     }
 }
 
@@ -139,8 +179,9 @@ where
 /// `check_policy` does, and after all of these the first kernel whose module has none of its entry's
 /// name as `kernel 2: no entry`, and after that the first fault of the further policies, as that of a
 /// policy, before any reply; a line of no form as `line 3: bad request`, after the replies to the
-/// lines before it.
-pub fn run_policies<R: io::Read, O: io::Write, E: io::Write>(
+/// lines before it. It fails only where `no memory` stands on `err`, or `read fault` or `write fault`,
+/// each with its cause (`run_watched` in `script`), or where the writer of faults failed.
+pub fn run_policies<R: Source, O: Sink, E: Sink>(
     alloc: Global,
     text: &[u8],
     further: &[PolicyText],
@@ -149,25 +190,16 @@ pub fn run_policies<R: io::Read, O: io::Write, E: io::Write>(
     out: &mut O,
     err: &mut E,
 ) -> Status
-    ensures { (noted : CommandLog) × RunsPolicies goes_on text.now further.now places noted (streams (R.remaining script.old) (O.contents out.old) (E.contents err.old))
-        (streams (R.remaining script.new) (O.contents out.new) (E.contents err.new)) result }
+    ensures { RunsPolicies Never worlds no_stop text.now further.now places
+        (streams (stream (R.remaining script.old) (R.failed script.old)) (stream (O.contents out.old) (O.failed out.old)) (stream (E.contents err.old) (E.failed err.old)))
+        (streams (stream (R.remaining script.new) (R.failed script.new)) (stream (O.contents out.new) (O.failed out.new)) (stream (E.contents err.new) (E.failed err.new))) result }
 {
-    let noted = &mut CommandLog::none();
-    run_watching(
-        alloc,
-        text,
-        further,
-        places,
-        &mut Nobody,
-        script,
-        out,
-        err,
-        noted,
-    )
+    let watcher = &mut Nobody;
+    run_watching(alloc, text, further, places, watcher, script, out, err)
 }
 
 /// Runs a script over the policy in a text as `run_policies` does, with no further policies.
-pub fn run_policy<R: io::Read, O: io::Write, E: io::Write>(
+pub fn run_policy<R: Source, O: Sink, E: Sink>(
     alloc: Global,
     text: &[u8],
     places: usize,
@@ -175,15 +207,16 @@ pub fn run_policy<R: io::Read, O: io::Write, E: io::Write>(
     out: &mut O,
     err: &mut E,
 ) -> Status
-    ensures { (noted : CommandLog) × RunsPolicies goes_on text.now [] places noted (streams (R.remaining script.old) (O.contents out.old) (E.contents err.old))
-        (streams (R.remaining script.new) (O.contents out.new) (E.contents err.new)) result }
+    ensures { RunsPolicies Never worlds no_stop text.now [] places
+        (streams (stream (R.remaining script.old) (R.failed script.old)) (stream (O.contents out.old) (O.failed out.old)) (stream (E.contents err.old) (E.failed err.old)))
+        (streams (stream (R.remaining script.new) (R.failed script.new)) (stream (O.contents out.new) (O.failed out.new)) (stream (E.contents err.new) (E.failed err.new))) result }
 {
     run_policies(alloc, text, &[], places, script, out, err)
 }
 
 /// Runs a script over the policies in texts as `run_policies` does, and ends with `Status::Refused` after the first reply
 /// that tells that a line was refused, or that a packet was denied or failed, or a group faulted: no further line is served.
-pub fn run_strictly<R: io::Read, O: io::Write, E: io::Write>(
+pub fn run_strictly<R: Source, O: Sink, E: Sink>(
     alloc: Global,
     text: &[u8],
     further: &[PolicyText],
@@ -192,12 +225,10 @@ pub fn run_strictly<R: io::Read, O: io::Write, E: io::Write>(
     out: &mut O,
     err: &mut E,
 ) -> Status
-    ensures { (noted : CommandLog) × RunsPolicies ends_strictly text.now further.now places noted (streams (R.remaining script.old) (O.contents out.old) (E.contents err.old))
-        (streams (R.remaining script.new) (O.contents out.new) (E.contents err.new)) result }
+    ensures { RunsPolicies NotDone strictly refused_quietly text.now further.now places
+        (streams (stream (R.remaining script.old) (R.failed script.old)) (stream (O.contents out.old) (O.failed out.old)) (stream (E.contents err.old) (E.failed err.old)))
+        (streams (stream (R.remaining script.new) (R.failed script.new)) (stream (O.contents out.new) (O.failed out.new)) (stream (E.contents err.new) (E.failed err.new))) result }
 {
-    let noted = &mut CommandLog::none();
     let watcher = &mut Strict;
-    run_watching(
-        alloc, text, further, places, watcher, script, out, err, noted,
-    )
+    run_watching(alloc, text, further, places, watcher, script, out, err)
 }

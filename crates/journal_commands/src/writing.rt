@@ -39,6 +39,10 @@ impl From<JournalFault> for Failure {
 }
 
 impl Stops for JournalFault {
+    ghost use Rattle.std.specs.Prelude.{⊤};
+
+    ghost stops = { λ stop. ⊤ };
+
     fn stop(self) -> Stop {
         Stop::Named(Failure::from(self))
     }

@@ -12,6 +12,10 @@ use world::World;
 pub struct Json;
 
 impl Voice for Json {
+    ghost use Rattle.std.specs.Prelude.{⊤};
+
+    ghost tells = { λ policy told text. ⊤ };
+
     fn tell(
         &self,
         alloc: Global,

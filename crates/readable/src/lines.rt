@@ -1,5 +1,10 @@
 //! A readable line of a run is done, by way of the lines that it comes to, and replied to.
 
+ghost use Rattle.std.specs.Prelude.{◌≡◌, ◌⊎◌, ◌++◌, ℕ, List, None, Some, IfErr, IfOk, MatchResult, OnErr, OnOk, string_bytes};
+ghost use Rattle.script.specs.Runs.{Cut, IsCutBy, Served, law};
+ghost use Rattle.script.specs.declared.watch.Flow.{Flow};
+ghost use Rattle.readable.specs.Runs.{by_readable};
+
 use crate::drained::Drained;
 use crate::draining::drain;
 use crate::moves::{command_of, reply_of};
@@ -7,13 +12,19 @@ use aql_packet::QueueId;
 use assemble::{Book, LineError, Turned, fault_text, put_lines, without_comment};
 use json_replies::Json;
 use policy::Policy;
-use script::{Flow, Style, Text, Voice, Watch, answer};
+use script::{Flow, RunFault, Style, Text, Voice, Watch, answer};
 use std::alloc::{AllocError, Global};
 use world::World;
 
 /// Tells what a drain came to, beside the replies to the lines of a script.
 pub trait DrainVoice: Voice {
-    /// Puts the reply to the drain that the line of a number, from 1, asks for behind others.
+    ghost use Rattle.std.specs.Prelude.{◌≡◌, [], OnOk, string_bytes};
+    ghost use Rattle.readable.specs.Runs.{TellingDrains};
+
+    /// What it tells of a drain whose requests came to what so often.
+    ghost drains: { TellingDrains };
+
+    /// Puts the reply to the drain that the line of a number, from 1, asks for into an empty text.
     fn tell_drained(
         &self,
         alloc: Global,
@@ -21,10 +32,16 @@ pub trait DrainVoice: Voice {
         policy: &Policy,
         number: u64,
         drained: &Drained,
-    ) -> Result<(), AllocError>;
+    ) -> Result<(), AllocError>
+        requires { string_bytes out.old ≡ [] }
+        ensures { OnOk result (drains drained.now.tally (string_bytes out.new)) };
 }
 
 impl DrainVoice for Text {
+    ghost use Rattle.readable.specs.Runs.{counts_first};
+
+    ghost drains = { counts_first };
+
     fn tell_drained(
         &self,
         alloc: Global,
@@ -38,6 +55,10 @@ impl DrainVoice for Text {
 }
 
 impl DrainVoice for Json {
+    ghost use Rattle.std.specs.Prelude.{⊤};
+
+    ghost drains = { λ tally text. ⊤ };
+
     fn tell_drained(
         &self,
         _alloc: Global,
@@ -80,13 +101,21 @@ fn then(first: Flow, second: Flow) -> Flow {
 }
 
 // Shows a watcher the request of a drain that came to its first fault, or else to its first wait.
-fn show_drained<V: Watch>(world: &World, watcher: &mut V, number: u64, drained: &Drained) -> Flow {
-    match drained.noted {
-        None => Flow::GoOn,
-        Some((asked, came)) => {
-            watcher.asks(&command_of(asked));
-            watcher.seen(world, number, &reply_of(came))
-        }
+fn show_drained<V: Watch>(
+    world: &World,
+    watcher: &mut V,
+    number: u64,
+    drained: &Drained,
+) -> Result<Flow, RunFault<V::Fault>>
+    ensures { IfErr result (IsCutBy V.watching.may_fail) }
+{
+    let Some((asked, came)) = drained.noted else {
+        return Ok(Flow::GoOn);
+    };
+    watcher.asks(&command_of(asked));
+    match watcher.seen(world, number, &reply_of(came)) {
+        Ok(flow) => Ok(flow),
+        Err(fault) => Err(RunFault::Watcher(fault)),
     }
 }
 
@@ -97,6 +126,52 @@ impl<'a, S: DrainVoice> Readable<'a, S> {
             book,
             voice,
             wanted: String::new(alloc),
+        }
+    }
+
+    // Does a line of a script that a readable line comes to.
+    fn do_line<V: Watch>(
+        &self,
+        alloc: Global,
+        world: &mut World,
+        later: &[Policy],
+        watcher: &mut V,
+        number: u64,
+        line: &[u8],
+        reply: &mut String,
+        out: &mut String,
+    ) -> Result<Option<Flow>, RunFault<V::Fault>>
+        ensures { MatchResult result
+            (Served (law (by_readable S.tells S.drains) V.watching later.now) world.old world.new line.now (string_bytes out.old) (string_bytes out.new))
+            (Cut (law (by_readable S.tells S.drains) V.watching later.now) world.old world.new line.now (string_bytes out.old) (string_bytes out.new)) }
+    {
+        let voice = &self.voice;
+        answer(
+            alloc, world, later, voice, watcher, number, line, reply, out,
+        )
+    }
+
+    // Does the line behind one to whose reply so much was said.
+    fn do_next<V: Watch>(
+        &self,
+        alloc: Global,
+        world: &mut World,
+        later: &[Policy],
+        watcher: &mut V,
+        number: u64,
+        first: Flow,
+        line: &[u8],
+        reply: &mut String,
+        out: &mut String,
+    ) -> Result<Flow, RunFault<V::Fault>>
+        ensures { MatchResult result
+            (λ said. (said ≡ first × Served (law (by_readable S.tells S.drains) V.watching later.now) world.old world.new line.now (string_bytes out.old) (string_bytes out.new) None)
+            ⊎ ((flow : Flow) × Served (law (by_readable S.tells S.drains) V.watching later.now) world.old world.new line.now (string_bytes out.old) (string_bytes out.new) (Some flow)))
+            (Cut (law (by_readable S.tells S.drains) V.watching later.now) world.old world.new line.now (string_bytes out.old) (string_bytes out.new)) }
+    {
+        match self.do_line(alloc, world, later, watcher, number, line, reply, out)? {
+            Some(second) => Ok(then(first, second)),
+            None => Ok(first),
         }
     }
 
@@ -111,23 +186,58 @@ impl<'a, S: DrainVoice> Readable<'a, S> {
         lines: &[u8],
         reply: &mut String,
         out: &mut String,
-    ) -> Result<Option<Flow>, AllocError> {
-        let voice = &self.voice;
+    ) -> Result<Option<Flow>, RunFault<V::Fault>>
+        ensures { MatchResult result
+            (Served (law (by_readable S.tells S.drains) V.watching later.now) world.old world.new lines.now (string_bytes out.old) (string_bytes out.new))
+            (Cut (law (by_readable S.tells S.drains) V.watching later.now) world.old world.new lines.now (string_bytes out.old) (string_bytes out.new)) }
+    {
         let (line, further) = split_line(lines);
-        let first = answer(
-            alloc, world, later, voice, watcher, number, line, reply, out,
-        )?;
-        if first == None || first == Some(Flow::End) {
-            return Ok(first);
-        }
+        let first = match self.do_line(alloc, world, later, watcher, number, line, reply, out)? {
+            None => return Ok(None),
+            Some(Flow::End) => return Ok(Some(Flow::End)),
+            Some(first) => first,
+        };
         let (line, _) = split_line(further);
-        let second = answer(
-            alloc, world, later, voice, watcher, number, line, reply, out,
+        let said = self.do_next(
+            alloc, world, later, watcher, number, first, line, reply, out,
         )?;
-        match (first, second) {
-            (Some(first), Some(second)) => Ok(Some(then(first, second))),
-            _ => Ok(None),
-        }
+        Ok(Some(said))
+    }
+
+    // What is told of a drain.
+    fn drained_told(
+        &self,
+        alloc: Global,
+        world: &World,
+        number: u64,
+        drained: &Drained,
+    ) -> Result<String, AllocError>
+        ensures { IfOk result (λ text. S.drains drained.now.tally (string_bytes text)) }
+    {
+        let mut reply = String::new(alloc);
+        self.voice
+            .tell_drained(alloc, &mut reply, world.policy(), number, drained)?;
+        Ok(reply)
+    }
+
+    // Replies to a drain.
+    fn reply_to_drain<V: Watch>(
+        &self,
+        alloc: Global,
+        world: &World,
+        watcher: &mut V,
+        number: u64,
+        drained: &Drained,
+        out: &mut String,
+    ) -> Result<Flow, RunFault<V::Fault>>
+        ensures told { OnOk result ((text : List ℕ) × S.drains drained.now.tally text × (string_bytes out.new ≡ string_bytes out.old ++ text)) }
+        ensures kept { OnErr result (string_bytes out.new ≡ string_bytes out.old) }
+        ensures cut { IfErr result (IsCutBy V.watching.may_fail) }
+    {
+        let reply = self.drained_told(alloc, world, number, drained)?;
+        let flow = show_drained(world, watcher, number, drained)?;
+        out.push_str(reply.as_str())?;
+        Ok(flow)
     }
 
     // Drains a queue, or all.
@@ -135,17 +245,20 @@ impl<'a, S: DrainVoice> Readable<'a, S> {
         &self,
         alloc: Global,
         world: &mut World,
+        later: &[Policy],
         watcher: &mut V,
         number: u64,
+        line: &[u8],
         queue: Option<QueueId>,
         out: &mut String,
-    ) -> Result<Option<Flow>, AllocError> {
+    ) -> Result<Option<Flow>, RunFault<V::Fault>>
+        ensures { MatchResult result
+            (Served (law (by_readable S.tells S.drains) V.watching later.now) world.old world.new line.now (string_bytes out.old) (string_bytes out.new))
+            (Cut (law (by_readable S.tells S.drains) V.watching later.now) world.old world.new line.now (string_bytes out.old) (string_bytes out.new)) }
+    {
         let drained = drain(alloc, world, queue)?;
-        let mut reply = String::new(alloc);
-        self.voice
-            .tell_drained(alloc, &mut reply, world.policy(), number, &drained)?;
-        out.push_str(reply.as_str())?;
-        Ok(Some(show_drained(world, watcher, number, &drained)))
+        let flow = self.reply_to_drain(alloc, world, watcher, number, &drained, out)?;
+        Ok(Some(flow))
     }
 
     // Keeps what is wanted in a line of no form.
@@ -167,6 +280,10 @@ impl<'a, S: DrainVoice> Readable<'a, S> {
 }
 
 impl<'a, S: DrainVoice> Style for Readable<'a, S> {
+    ghost use Rattle.readable.specs.Runs.{by_readable};
+
+    ghost answering = { by_readable S.tells S.drains };
+
     fn answer<V: Watch>(
         &mut self,
         alloc: Global,
@@ -177,23 +294,22 @@ impl<'a, S: DrainVoice> Style for Readable<'a, S> {
         line: &[u8],
         reply: &mut String,
         out: &mut String,
-    ) -> Result<Option<Flow>, AllocError> {
+    ) -> Result<Option<Flow>, RunFault<V::Fault>> {
         let line = without_comment(line);
         let mut lines = Vec::new(alloc);
         self.wanted.clear();
         match put_lines(alloc, self.book, line, &mut lines) {
             Ok(Turned::Itself) => {
-                let voice = &self.voice;
-                answer(
-                    alloc, world, later, voice, watcher, number, line, reply, out,
-                )
+                self.do_line(alloc, world, later, watcher, number, line, reply, out)
             }
             Ok(Turned::Lines) => {
                 let lines = lines.as_slice();
                 self.do_lines(alloc, world, later, watcher, number, lines, reply, out)
             }
-            Ok(Turned::Drain(queue)) => self.do_drain(alloc, world, watcher, number, queue, out),
-            Err(error) => self.refuse(alloc, number, line, error),
+            Ok(Turned::Drain(queue)) => {
+                self.do_drain(alloc, world, later, watcher, number, line, queue, out)
+            }
+            Err(error) => Ok(self.refuse(alloc, number, line, error)?),
         }
     }
 

@@ -65,6 +65,18 @@ pub enum RunFault<F> {
     Watcher(F),
 }
 
+impl<F: Drop> From<AllocError> for RunFault<F> {
+    ghost use Rattle.std.specs.Prelude.{◌≡◌};
+    ghost use Rattle.script.specs.declared.fault.ScriptFault.TheVariants.{OutOfMemory};
+    ghost use Rattle.script.specs.declared.fault.RunFault.TheVariants.{Script};
+
+    ghost from_gives = { λ error result. result ≡ Script OutOfMemory };
+
+    fn from(_: AllocError) -> RunFault<F> {
+        RunFault::Script(ScriptFault::OutOfMemory)
+    }
+}
+
 impl<F: Drop> From<ScriptFault> for RunFault<F> {
     ghost use Rattle.std.specs.Prelude.{◌≡◌};
     ghost use Rattle.script.specs.declared.fault.RunFault.TheVariants.{Script};

@@ -1,10 +1,12 @@
 //! A script in the course of its run: bytes are taken as they come, and each line that ends is served.
 
-ghost use Rattle.std.specs.Prelude.{◌≡◌, ◌+◌, ◌<◌, ◌^◌, [], MatchOption, length};
-ghost use Rattle.script.specs.Sessions.{FeedBetween, HasNoFeed, begun, pending};
+ghost use Rattle.std.specs.Prelude.{◌≡◌, ◌⊎◌, ◌∷◌, [], ◌++◌, ◌+◌, ◌<◌, ◌^◌, MatchOption, MatchResult, length, true};
+ghost use Rattle.script.specs.Runs.{law};
+ghost use Rattle.script.specs.Sessions.{AnsweredLine, Failed, FailedLine, FailedPart, FeedBetween, FlowOf, GoesBy, HasNoFeed, TookPart, TookSome, AnsweredEnd, begun, pending, with_further, at_end};
+ghost use Rattle.script.specs.declared.fault.ScriptFault.TheVariants.{BadLine, OutOfMemory};
 
 use crate::engine::Style;
-use crate::fault::ScriptFault;
+use crate::fault::{RunFault, ScriptFault};
 use crate::lines::LONGEST_LINE;
 use crate::watch::{Flow, Watch};
 use memchr::memchr;
@@ -27,7 +29,11 @@ pub struct Session {
 
 impl Session {
     /// A run that has taken nothing yet.
-    pub fn new(alloc: Global) -> Session {
+    pub fn new(alloc: Global) -> Session
+        ensures line { begun result ≡ [] }
+        ensures number { result.number ≡ 1 }
+        ensures out { pending result ≡ [] }
+    {
         Session {
             line: Vec::new(alloc),
             number: 1,
@@ -54,7 +60,9 @@ fn go_by<V: Watch>(
     number: u64,
     line: &[u8],
     wanted: &str,
-) -> Result<Flow, ScriptFault> {
+) -> Result<Flow, ScriptFault>
+    ensures { GoesBy V.watching.lets_by number result }
+{
     let goes_by = watcher.goes_by();
     watcher.unread(number, line, wanted, !goes_by);
     if goes_by {
@@ -71,7 +79,9 @@ fn flow_of<V: Watch>(
     line: &[u8],
     wanted: &str,
     said: Option<Flow>,
-) -> Result<Flow, ScriptFault> {
+) -> Result<Flow, ScriptFault>
+    ensures { FlowOf V.watching.lets_by number said result }
+{
     match said {
         Some(flow) => Ok(flow),
         None => go_by(watcher, number, line, wanted),
@@ -79,6 +89,7 @@ fn flow_of<V: Watch>(
 }
 
 // Serves a line that lies whole in what was read.
+#[tactic(auto, unfolding(crate::specs::Runs::law))]
 fn serve_line<L: Style, V: Watch>(
     alloc: Global,
     world: &mut World,
@@ -87,8 +98,11 @@ fn serve_line<L: Style, V: Watch>(
     watcher: &mut V,
     session: &mut Session,
     line: &[u8],
-) -> Result<Flow, ScriptFault>
+) -> Result<Flow, RunFault<V::Fault>>
     requires { session.old.number + 1 < 2 ^ 64 }
+    ensures { MatchResult result
+        (AnsweredLine (law L.answering V.watching later.now) world.old world.new line.now session.old session.new)
+        (FailedLine (law L.answering V.watching later.now) world.old world.new line.now session.old session.new) }
 {
     let number = session.number;
     let said = style.answer(
@@ -107,6 +121,7 @@ fn serve_line<L: Style, V: Watch>(
 }
 
 // Serves the line that was begun, which ends here.
+#[tactic(auto, unfolding(crate::specs::Runs::law))]
 fn end_line<L: Style, V: Watch>(
     alloc: Global,
     world: &mut World,
@@ -114,8 +129,11 @@ fn end_line<L: Style, V: Watch>(
     style: &mut L,
     watcher: &mut V,
     session: &mut Session,
-) -> Result<Flow, ScriptFault>
+) -> Result<Flow, RunFault<V::Fault>>
     requires { session.old.number + 1 < 2 ^ 64 }
+    ensures { MatchResult result
+        (AnsweredLine (law L.answering V.watching later.now) world.old world.new (begun session.old) session.old session.new)
+        (FailedLine (law L.answering V.watching later.now) world.old world.new (begun session.old) session.old session.new) }
 {
     let number = session.number;
     let said = style.answer(
@@ -141,7 +159,8 @@ fn first_of(bytes: &[u8], count: usize) -> &[u8] {
 
 // Tells the watcher of a line that this part makes too long, by as many of its bytes as show that: why the run ends.
 fn refuse_long<V: Watch>(watcher: &mut V, session: &mut Session, part: &[u8]) -> ScriptFault
-    ensures { pending session.new ≡ pending session.old }
+    ensures out { pending session.new ≡ pending session.old }
+    ensures fault { (result ≡ BadLine session.old.number) ⊎ (result ≡ OutOfMemory) }
 {
     let room = LONGEST_LINE
         .saturating_sub(session.line.len())
@@ -162,7 +181,11 @@ fn take_part<V: Watch>(
     watcher: &mut V,
     session: &mut Session,
     part: &[u8],
-) -> Result<(), ScriptFault> {
+) -> Result<(), ScriptFault>
+    ensures { MatchResult result
+        (λ _. TookPart session.old session.new part.now)
+        (FailedPart session.old session.new part.now) }
+{
     if part.is_empty() {
         return Ok(());
     }
@@ -182,9 +205,12 @@ fn take_line<L: Style, V: Watch>(
     watcher: &mut V,
     session: &mut Session,
     part: &[u8],
-) -> Result<Flow, ScriptFault>
+) -> Result<Flow, RunFault<V::Fault>>
     requires number { session.old.number + 1 < 2 ^ 64 }
     requires part { HasNoFeed part.now }
+    ensures { MatchResult result
+        (AnsweredLine (law L.answering V.watching later.now) world.old world.new (begun session.old ++ part.now) session.old session.new)
+        (Failed (law L.answering V.watching later.now) world.old world.new session.old session.new (with_further session.old (part.now ++ 10 ∷ []))) }
 {
     if session.line.is_empty() {
         return serve_line(alloc, world, later, style, watcher, session, part);
@@ -212,8 +238,11 @@ pub fn take_bytes<'a, L: Style, V: Watch>(
     watcher: &mut V,
     session: &mut Session,
     bytes: &'a [u8],
-) -> Result<(Flow, &'a [u8]), ScriptFault>
+) -> Result<(Flow, &'a [u8]), RunFault<V::Fault>>
     requires { session.old.number + length bytes.now < 2 ^ 64 }
+    ensures { MatchResult result
+        (λ taken. TookSome (law L.answering V.watching later.now) world.old world.new session.old session.new bytes.now taken.1.now taken.0)
+        (Failed (law L.answering V.watching later.now) world.old world.new session.old session.new (with_further session.old bytes.now)) }
 {
     let mut rest = bytes;
     while let Some((line, further)) = split_line(rest) {
@@ -235,8 +264,11 @@ pub fn take_end<L: Style, V: Watch>(
     style: &mut L,
     watcher: &mut V,
     session: &mut Session,
-) -> Result<Flow, ScriptFault>
+) -> Result<Flow, RunFault<V::Fault>>
     requires { session.old.number + 1 < 2 ^ 64 }
+    ensures { MatchResult result
+        (AnsweredEnd (law L.answering V.watching later.now) world.old world.new session.old session.new)
+        (Failed (law L.answering V.watching later.now) world.old world.new session.old session.new (at_end session.old)) }
 {
     if session.line.is_empty() {
         return Ok(Flow::GoOn);

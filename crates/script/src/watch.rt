@@ -47,42 +47,36 @@ pub enum Never {}
 /// far are handed over, and the watcher has its turn: it may write, have the audit rotated, or end the run by a fault of its
 /// own. Of the world it changes nothing else. An audit isn't shown, since it is lent and not copied; the run goes on there.
 pub trait Watch {
-    ghost use Rattle.std.specs.Prelude.{◌≡◌, ℕ, List, OnOk, Result, Ok, true};
+    ghost use Rattle.std.specs.Prelude.{◌≡◌, ℕ, List, IfOk, OnErr, OnOk, Ok, true};
     ghost use Rattle.core_model.specs.declared.entry.Entry.{Entry};
     ghost use Rattle.core_model.specs.declared.answer.Answer.TheVariants.{Audit};
     ghost use Rattle.world.specs.declared.reply.Answer.TheVariants.{Core};
-    ghost use Rattle.world.specs.declared.reply.Refusal.{Refusal};
-    ghost use Rattle.script.specs.declared.command.LineAnswer.{LineAnswer};
     ghost use Rattle.script.specs.declared.command.LineAnswer.TheVariants.{Answered};
     ghost use Rattle.script.specs.declared.command.NumberMeaning.TheVariants.{Plain};
-    ghost use Rattle.script.specs.declared.watch.Flow.{Flow};
     ghost use Rattle.script.specs.declared.watch.Flow.TheVariants.{GoOn};
+    ghost use Rattle.script.specs.Runs.{Watching};
 
     /// Why it ends a run.
     type Fault: Drop;
 
-    /// What it may say to a reply.
-    ghost says: { Result LineAnswer Refusal → Flow → Type 0 };
-
-    /// What it may have said where it lets the run go on at its turn.
-    ghost passes: { Flow → Type 0 };
-
-    /// That the run may go on behind a line of no form.
-    ghost lets_by: { Type 0 };
+    /// What it may say to a reply, and where it may end the run or let it go on.
+    ghost watching: { Watching };
 
     /// It goes on behind an audit.
-    ghost passes_audits: { (before : ℕ) (entries : List Entry) → Self.says (Ok (Answered Plain (Core (Audit before entries)))) GoOn };
+    ghost passes_audits: { (before : ℕ) (entries : List Entry) → Self.watching.says (Ok (Answered Plain (Core (Audit before entries)))) GoOn };
 
     /// A line asks this.
     fn asks(&mut self, command: &Command);
 
-    /// The line of this number, from 1, is replied to; the world is the one behind it.
-    fn seen(&mut self, world: &World, number: u64, reply: &LineReply) -> Flow
-        ensures { says reply.now result };
+    /// The line of this number, from 1, is replied to; the world is the one behind it. Where the watcher fails the run ends, and
+    /// the reply isn't told.
+    fn seen(&mut self, world: &World, number: u64, reply: &LineReply) -> Result<Flow, Self::Fault>
+        ensures said { IfOk result (watching.says reply.now) }
+        ensures failed { OnErr result watching.may_fail };
 
     /// Whether the run goes on behind lines of no form, and a turn of the watcher.
     fn goes_by(&self) -> bool
-        ensures { result ≡ true → lets_by };
+        ensures { result ≡ true → watching.lets_by };
 
     /// The line of this number has no form, as this text tells, unless it is empty; of one that is too long these are the first
     /// bytes, one more than a line may have. Whether the run ends there.
@@ -90,5 +84,5 @@ pub trait Watch {
 
     /// Its turn, behind the replies to a line to which it said so: they are handed over, and the next line isn't begun.
     fn told(&mut self, world: &World, said: Flow) -> Result<Turn, Self::Fault>
-        ensures { OnOk result (passes said) };
+        ensures { OnOk result (watching.passes said) };
 }

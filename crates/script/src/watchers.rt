@@ -13,23 +13,19 @@ use world::World;
 pub struct Nobody;
 
 impl Watch for Nobody {
-    ghost use Rattle.script.specs.Watchers.{goes_on};
+    ghost use Rattle.script.specs.Watchers.{nobody};
     ghost use Rattle.std.specs.Prelude.{refl};
 
     type Fault = Never;
 
-    ghost says = { goes_on };
-
-    ghost passes = { λ flow. ⊤ };
-
-    ghost lets_by = { ⊥ };
+    ghost watching = { nobody };
 
     ghost passes_audits = { λ before entries. refl };
 
     fn asks(&mut self, _command: &Command) {}
 
-    fn seen(&mut self, _world: &World, _number: u64, _reply: &LineReply) -> Flow {
-        Flow::GoOn
+    fn seen(&mut self, _world: &World, _number: u64, _reply: &LineReply) -> Result<Flow, Never> {
+        Ok(Flow::GoOn)
     }
 
     fn goes_by(&self) -> bool {
@@ -87,23 +83,19 @@ pub struct NotDone;
 pub struct Strict;
 
 impl Watch for Strict {
-    ghost use Rattle.script.specs.Watchers.{ends_strictly, goes_by_strictly};
+    ghost use Rattle.script.specs.Watchers.{strict};
     ghost use Rattle.std.specs.Prelude.{refl};
 
     type Fault = NotDone;
 
-    ghost says = { ends_strictly };
-
-    ghost passes = { goes_by_strictly };
-
-    ghost lets_by = { ⊥ };
+    ghost watching = { strict };
 
     ghost passes_audits = { λ before entries. refl };
 
     fn asks(&mut self, _command: &Command) {}
 
-    fn seen(&mut self, _world: &World, _number: u64, reply: &LineReply) -> Flow {
-        strictly(reply)
+    fn seen(&mut self, _world: &World, _number: u64, reply: &LineReply) -> Result<Flow, NotDone> {
+        Ok(strictly(reply))
     }
 
     fn goes_by(&self) -> bool {
@@ -159,15 +151,11 @@ pub enum Either<A, B> {
 }
 
 impl<A: Watch, B: Watch> Watch for Both<A, B> {
-    ghost use Rattle.std.specs.Prelude.{⊤};
+    ghost use Rattle.script.specs.Watchers.{anyone};
 
     type Fault = Either<A::Fault, B::Fault>;
 
-    ghost says = { λ told flow. ⊤ };
-
-    ghost passes = { λ flow. ⊤ };
-
-    ghost lets_by = { ⊤ };
+    ghost watching = { anyone };
 
     ghost passes_audits = { λ before entries. tt };
 
@@ -176,12 +164,23 @@ impl<A: Watch, B: Watch> Watch for Both<A, B> {
         self.second.asks(command);
     }
 
-    fn seen(&mut self, world: &World, number: u64, reply: &LineReply) -> Flow {
-        let first = self.first.seen(world, number, reply);
-        let second = self.second.seen(world, number, reply);
+    fn seen(
+        &mut self,
+        world: &World,
+        number: u64,
+        reply: &LineReply,
+    ) -> Result<Flow, Either<A::Fault, B::Fault>> {
+        let first = match self.first.seen(world, number, reply) {
+            Ok(flow) => flow,
+            Err(fault) => return Err(Either::First(fault)),
+        };
+        let second = match self.second.seen(world, number, reply) {
+            Ok(flow) => flow,
+            Err(fault) => return Err(Either::Second(fault)),
+        };
         self.first_said = stronger(self.first_said, first);
         self.second_said = stronger(self.second_said, second);
-        stronger(first, second)
+        Ok(stronger(first, second))
     }
 
     fn goes_by(&self) -> bool {
@@ -211,15 +210,11 @@ impl<A: Watch, B: Watch> Watch for Both<A, B> {
 
 /// A watcher, if there is one.
 impl<A: Watch> Watch for Option<A> {
-    ghost use Rattle.std.specs.Prelude.{⊤};
+    ghost use Rattle.script.specs.Watchers.{anyone};
 
     type Fault = A::Fault;
 
-    ghost says = { λ told flow. ⊤ };
-
-    ghost passes = { λ flow. ⊤ };
-
-    ghost lets_by = { ⊤ };
+    ghost watching = { anyone };
 
     ghost passes_audits = { λ before entries. tt };
 
@@ -229,10 +224,10 @@ impl<A: Watch> Watch for Option<A> {
         }
     }
 
-    fn seen(&mut self, world: &World, number: u64, reply: &LineReply) -> Flow {
+    fn seen(&mut self, world: &World, number: u64, reply: &LineReply) -> Result<Flow, A::Fault> {
         match self {
             Some(watcher) => watcher.seen(world, number, reply),
-            None => Flow::GoOn,
+            None => Ok(Flow::GoOn),
         }
     }
 
