@@ -227,6 +227,12 @@ A page is that of a whole script or there is none. Where a line has no form, or 
 - `brokerd explain L8`, or `explain QueueDown`, or `explain 7`, tells what a rule, a refusal or a cause means.
 - `brokerd run POLICY --readable` takes packets in words, and `drain`, which serves, runs and finishes until nothing moves. `brokerd assemble POLICY` turns such lines into those above (`docs/assemble.md`).
 - `brokerd run POLICY --json` writes each reply as an object of JSON (`docs/json.md`).
+- `brokerd run POLICY --journal FILE` writes the history as it goes (`docs/audit.md`).
+
+All options of a run go together. Of other commands two pairs contradict each other, and a command line with one of them ends with status 2:
+
+- `picture --journal FILE` and `--audit N`: nothing is run, so there is no audit of so many places.
+- `decode --slots FILE` and digits: the slots stand in place of the digits.
 
 ## Every form once
 
