@@ -9,7 +9,7 @@ returns-in_err-hand_over-clause-taken g c =
     let p = err_from_is_err_and c.from_residual.result c.from_residual.ensures.1 in
     let l = law g.L.Style.answering g.V.Watch.watching c.args.later.now in
     rw (p.1, p.2, c.in_err-hand_over.ensures.fault)
-    (end_taken ⊤ l _ _ _ _ _ _ c.take_end-ended.result c.requires.empty c.take_end-ended.ensures c.in_err-hand_over.ensures.begun)
+    (end_taken _ l _ _ _ _ _ _ c.take_end-ended.result c.requires.empty c.take_end-ended.ensures c.in_err-hand_over.ensures.begun)
 
 pub returns-in_err-said-clause-taken : goal.returns-in_err-said-clause-taken
 returns-in_err-said-clause-taken g c =

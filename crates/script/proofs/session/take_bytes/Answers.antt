@@ -26,7 +26,7 @@ loop-line-preserved g c =
 pub returns-in_err-take_part : goal.returns-in_err-take_part
 returns-in_err-take_part g c =
     let p = err_from_is_err_and c.from_residual-in_err-take_part.result c.from_residual-in_err-take_part.ensures.1 in
-    rw (p.1, p.2) (front_stop ⊤ (law g.L.Style.answering g.V.Watch.watching c.args.later.now)
+    rw (p.1, p.2) (front_stop _ (law g.L.Style.answering g.V.Watch.watching c.args.later.now)
     _ _ _ _ _ _ _ _ c.loop-line.invariant c.in_default.ensures c.in_err-take_part.ensures)
 
 pub returns : goal.returns

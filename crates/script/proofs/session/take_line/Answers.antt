@@ -24,7 +24,7 @@ returns-in_err-take_part g c =
     let p = err_from_is_err_and c.from_residual.result c.from_residual.ensures.1 in
     let l = law g.L.Style.answering g.V.Watch.watching c.args.later.now in
     rw (p.1, p.2)
-    (failed_front l _ _ _ _ _ _ _ (failed_part ⊤ l c.args.world.now _ _ c.args.part.now _ c.requires.part c.in_err-take_part.ensures))
+    (failed_front l _ _ _ _ _ _ _ (failed_part _ l c.args.world.now _ _ c.args.part.now _ c.requires.part c.in_err-take_part.ensures))
 
 pub returns : goal.returns
 returns g c =
