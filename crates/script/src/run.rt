@@ -1,13 +1,13 @@
 //! The run of a script, from a reader to a writer.
 
-ghost use Rattle.std.specs.Prelude.{◌≡◌, [], ◌+◌, ◌<◌, ◌^◌, IfErr, OnErr, OnOk, MatchResult, length, string_bytes, true};
+ghost use Rattle.std.specs.Prelude.{◌≡◌, [], ◌+◌, ◌<◌, ◌^◌, IfErr, OnErr, OnOk, MatchResult, length, string_bytes, true, false};
 ghost use Rattle.std.specs.Io.KnownBytes.{Appends};
 ghost use Rattle.script.specs.Streams.{AppendsBeginning};
 ghost use Rattle.script.specs.Runs.{Rotates, law};
 ghost use Rattle.script.specs.Scripts.{EndedAll, FailedBlock, HasCause, IsCaused, RunsScript, TakesTurn, TookBlock, TookUpTo, unwatched};
 ghost use Rattle.script.specs.Sessions.{at_end, pending, with_further};
 ghost use Rattle.script.specs.Watchers.{worlds};
-ghost use Rattle.script.specs.declared.fault.ScriptFault.TheVariants.{OutOfMemory, Write};
+ghost use Rattle.script.specs.declared.fault.ScriptFault.TheVariants.{Write};
 
 use crate::engine::{Plain, Style};
 use crate::fault::{RunFault, ScriptFault};
@@ -43,15 +43,14 @@ fn hand_over<W: Sink>(writer: &mut W, out: &mut String) -> Result<(), ScriptFaul
     }
 }
 
-// Rotates the audit, whose entries are handed out to nobody; it stays where memory is wanted for that.
-fn rotate(alloc: Global, world: &mut World) -> Result<(), ScriptFault>
-    ensures rotated { OnOk result (Rotates world.old world.new) }
-    ensures kept { OnErr result (world.new ≡ world.old) }
-    ensures wanted { IfErr result (λ fault. fault ≡ OutOfMemory) }
+// Rotates the audit, whose entries are handed out to nobody: whether it did; it stays where memory is wanted for that.
+fn rotate(alloc: Global, world: &mut World) -> bool
+    ensures rotated { result ≡ true → Rotates world.old world.new }
+    ensures kept { result ≡ false → world.new ≡ world.old }
 {
     match world.serve(alloc, Request::Rotate) {
-        Ok(_) => Ok(()),
-        Err(_) => Err(ScriptFault::OutOfMemory),
+        Ok(_) => true,
+        Err(_) => false,
     }
 }
 
@@ -69,7 +68,13 @@ fn take_turn<V: Watch>(
     }
     match watcher.told(world, said) {
         Ok(Turn::GoOn) => Ok(()),
-        Ok(Turn::Rotate) => Ok(rotate(alloc, world)?),
+        Ok(Turn::Rotate) => {
+            if rotate(alloc, world) {
+                Ok(())
+            } else {
+                Err(RunFault::Script(ScriptFault::OutOfMemory))
+            }
+        }
         Err(fault) => Err(RunFault::Watcher(fault)),
     }
 }
