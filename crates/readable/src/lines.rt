@@ -165,7 +165,7 @@ impl<'a, S: DrainVoice> Readable<'a, S> {
         out: &mut String,
     ) -> Result<Flow, RunFault<V::Fault>>
         ensures { MatchResult result
-            (λ said. (said ≡ first × Served (law (by_readable S.tells S.drains) V.watching later.now) world.old world.new line.now (string_bytes out.old) (string_bytes out.new) None)
+            (λ said. ((said ≡ first) × Served (law (by_readable S.tells S.drains) V.watching later.now) world.old world.new line.now (string_bytes out.old) (string_bytes out.new) None)
             ⊎ ((flow : Flow) × Served (law (by_readable S.tells S.drains) V.watching later.now) world.old world.new line.now (string_bytes out.old) (string_bytes out.new) (Some flow)))
             (Cut (law (by_readable S.tells S.drains) V.watching later.now) world.old world.new line.now (string_bytes out.old) (string_bytes out.new)) }
     {
