@@ -35,7 +35,7 @@ pub enum Command {
     State,
     /// Who is connected.
     Sessions,
-    /// The end of this session.
+    /// The end of the connection of this number.
     Drop(u64),
     /// What was counted.
     Stats,

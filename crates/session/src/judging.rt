@@ -102,7 +102,7 @@ fn within(is_within: bool) -> Verdict
 }
 
 /// Judges what a session asks that was greeted, where a client may have so many queues open: a queue is closed, and its errors
-/// are told, only where this session opened it; nobody is greeted twice; all else is made.
+/// are told, only where the asker opened it; nobody is greeted twice; all else is made.
 pub fn judge(open: &[OpenQueue], most: usize, asker: &Asker, request: &Request) -> Verdict
     ensures { result ≡ judged open.now most asker.now request.now }
 {
