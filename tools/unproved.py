@@ -5,7 +5,8 @@
 
 It is no result: what counts is proved, and brokerd says in its version that it is not. `rt try` lowers the crate; what
 a try adds is taken out (tools/pieces.py), and the toolchain's clang compiles the rest in pieces, side by side, at -O1. With
-`--fast` it is one piece at -O3, as a proved program is built. Nothing is built where OUT was made of the same texts.
+`--fast` it is one piece at -O3, as a proved program is built. Nothing is built where OUT was made of the same texts, and a
+piece that is as it was isn't compiled anew.
 """
 import argparse
 import glob
@@ -148,43 +149,52 @@ def attributes(folders):
 # ---- compiling
 
 
-def compiled(module, room, is_fast, placed):
-    """Compiles a program in pieces, some side by side, or in one; gives the objects."""
-    cores = os.cpu_count() or 1
-    clang = [f"{kit()}/toolchain/bin/clang", f"--target={TARGET}", f"--sysroot={kit()}/toolchain", *COMPILED, placed]
+def compiled(module, kept, is_fast, placed):
+    """Compiles a program in pieces, some side by side, or in one; gives the objects.
 
-    def compile_piece(item):
-        number, lines = item
-        path = f"{room}/piece_{number}"
-        with open(f"{path}.ll", "w", encoding="utf-8") as it:
-            it.writelines(lines)
-        run([*clang, "-O3" if is_fast else "-O1", f"{path}.ll", "-o", f"{path}.o"])
+    What came of a piece is kept, by its text, for the next build, and what this build doesn't use goes."""
+    cores = os.cpu_count() or 1
+    clang = [f"{kit()}/toolchain/bin/clang", f"--target={TARGET}", f"--sysroot={kit()}/toolchain", *COMPILED, placed, "-O3" if is_fast else "-O1"]
+    os.makedirs(kept, exist_ok=True)
+
+    def compile_piece(lines):
+        text = "".join(lines).encode()
+        path = f"{kept}/{hashlib.sha256(' '.join(clang).encode() + text).hexdigest()}"
+        if not os.path.exists(f"{path}.o"):
+            with open(f"{path}.ll", "wb") as it:
+                it.write(text)
+            run([*clang, f"{path}.ll", "-o", f"{path}.part"])
+            os.rename(f"{path}.part", f"{path}.o")
+            os.remove(f"{path}.ll")
         return f"{path}.o"
 
     with ThreadPoolExecutor(cores) as pool:
-        return list(pool.map(compile_piece, enumerate(module.pieces(1 if is_fast else 3 * cores))))
+        objects = list(pool.map(compile_piece, module.pieces(1 if is_fast else 3 * cores)))
+    for path in set(glob.glob(f"{kept}/*")) - set(objects):
+        os.remove(path)
+    return objects
 
 
-def build_program(crate, room, is_fast):
+def build_program(crate, room, kept, is_fast):
     """Builds a program, and gives its path."""
     folders = [f"{TOP}/crates/{it}" for it in crates_below(crate)]
     module = module_of(lowered(f"{TOP}/crates/{crate}", room), attributes(folders))
     if crate == MARKED:
         module.mark()
-    objects = compiled(module, room, is_fast, "-fPIE")
+    objects = compiled(module, kept, is_fast, "-fPIE")
     links = ["--target", TARGET, "--toolchain", f"{kit()}/toolchain", "-o", f"{room}/{crate}"]
     run([f"{kit()}/bin/rattle-link", *links, *objects, f"{kit()}/c/libos_c.a", f"{kit()}/c/liblibc_c.a"])
     return f"{room}/{crate}"
 
 
-def build_library(crate, room, is_fast):
+def build_library(crate, room, kept, is_fast):
     """Builds the archive for C, with the toolchain's archive of its C library in it, and gives its path."""
     program = exports.as_program(crate, TOP, f"{room}/top")
     folders = [f"{room}/top/crates/{it}" for it in [program, *crates_below(crate)]]
     module = module_of(lowered(f"{room}/top/crates/{program}", room), attributes(folders))
     exports.name_exports(module, program)
     archive = f"{room}/lib{crate}.a"
-    objects = compiled(module, room, is_fast, "-fPIC")
+    objects = compiled(module, kept, is_fast, "-fPIC")
     script = "".join(f"addmod {it}\n" for it in objects)
     script = f"create {archive}\n{script}addlib {kit()}/c/liblibc_c.a\nsave\nend\n"
     ran = subprocess.run([f"{kit()}/toolchain/bin/llvm-ar", "-M"], input=script, capture_output=True, text=True)
@@ -204,7 +214,7 @@ def build(crate, out, is_fast):
     print(f"{out} is built, unproved. That takes some minutes ..", flush=True)
     is_library = os.path.exists(f"{TOP}/crates/{crate}/src/lib.rt")
     with tempfile.TemporaryDirectory(prefix="unproved-") as room:
-        made = (build_library if is_library else build_program)(crate, room, is_fast)
+        made = (build_library if is_library else build_program)(crate, room, f"{out}.pieces", is_fast)
         os.makedirs(os.path.dirname(os.path.abspath(out)), exist_ok=True)
         shutil.move(made, out)
     with open(stamp, "w", encoding="utf-8") as it:
