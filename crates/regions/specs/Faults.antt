@@ -14,6 +14,11 @@ range_fault lengths address size =
 abbrev pub copy_fault : List ℕ → ℕ → ℕ → ℕ → Option RegionFault
 copy_fault lengths source target size = option_or (range_fault lengths source size) (range_fault lengths target size)
 
+-- the number of a refusal (own)
+abbrev pub number_of : RegionFault → ℕ
+number_of NoRegion = 1
+number_of PastEnd = 2
+
 -- what a refusal says of itself (own)
 abbrev pub fault_text : RegionFault → List ℕ
 fault_text NoRegion = codes "no region at this address"

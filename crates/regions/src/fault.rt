@@ -11,6 +11,21 @@ pub enum RegionFault {
     PastEnd = 2,
 }
 
+impl RegionFault {
+    ghost use Rattle.std.specs.Prelude.{◌≡◌};
+    ghost use Rattle.regions.specs.Faults.{number_of};
+
+    /// The refusal's number (own).
+    pub fn number(&self) -> u8
+        ensures { result ≡ number_of self.now }
+    {
+        match self {
+            RegionFault::NoRegion => 1,
+            RegionFault::PastEnd => 2,
+        }
+    }
+}
+
 impl fmt::Display for RegionFault {
     ghost use Rattle.std.specs.Prelude.{Some};
     ghost use Rattle.regions.specs.Faults.{fault_text};

@@ -126,6 +126,15 @@ impl Signals {
     }
 }
 
+impl UnknownSignal {
+    /// The refusal's number (own).
+    pub fn number(&self) -> u8
+        ensures { result ≡ 1 }
+    {
+        1
+    }
+}
+
 impl fmt::Display for UnknownSignal {
     ghost use Rattle.std.specs.Prelude.{Some, codes};
 
