@@ -1,11 +1,14 @@
 -- Packets in flight that are polled: the entry of what is seen.
 use Rattle.core_model.specs.History.{beginning}
-use Rattle.std.proofs.Common.{◌≡◌, refl, Bool, true, false, [], arith}
+use Rattle.std.proofs.Common.{◌≡◌, ◌∙◌, refl, ap, Bool, true, false, [], if◌then◌else◌, arith}
 use Rattle.core_model.specs.declared.outcome.Satisfied.{Satisfied}
 use Rattle.core_model.specs.Owed.{owed}
+use Rattle.access_core.proofs.Calls.{due-as}
 use Rattle.access_core.proofs.QueueAt.{IsAdvance}
-use Rattle.access_core.proofs.Terms.{Call, History, Inside, IsCached, IsInPlace, Owed, PacketId, Place, Poll, Progress, QueueId, history_of, owed_poll, satisfied_by_either, polled_as}
+use Rattle.access_core.proofs.Terms.{Call, History, Inside, IsCached, IsInPlace, Owed, PacketId, Place, Poll, Progress, QueueId, due, enters, history_of, is_full, look_owed, owed_poll, polled_as, refuses, satisfied_by_either}
+use Rattle.access_core.specs.declared.access.polling.Look.TheVariants.{Sees}
 use Rattle.core_model.specs.declared.outcome.Outcome.TheVariants as outcome
+use Rattle.core_model.specs.declared.refusal.Refusal.TheVariants as refusal
 
 -- how far a packet has come once it has seen this
 abbrev pub seen_further : Satisfied → Progress → Progress
@@ -21,3 +24,14 @@ pub poll-owed : (a : Inside) → IsCached a → (old : History) → history_of a
     → owed_poll a.signals queue id place.packet place.progress ≡ owing → owed (beginning old) old.entries (Call (Poll queue id)) ≡ owing
 unfolding owed
 poll-owed a kept old seen_as queue id place found owing is = grind arith
+
+-- what is due where further positions are seen, by whether there is room
+pub sees-due : (a : Inside) → IsCached a → (old : History) → history_of a ≡ old → (queue : QueueId) (id : PacketId) (place : Place) → IsInPlace old queue id place → (new : Satisfied) (ready : Bool)
+    → owed_poll a.signals queue id place.packet place.progress ≡ look_owed queue id (Sees new ready) → (full : Bool) → is_full old ≡ full
+    → due old (Call (Poll queue id)) ≡ (if full then refuses refusal.AuditFull else enters (outcome.Polled (polled_as ready new)) [])
+sees-due a kept old seen_as queue id place found new true owing full is =
+    due-as old (Call (Poll queue id)) _ (poll-owed a kept old seen_as queue id place found _ owing)
+    ∙ ap (λ b. if b then refuses refusal.AuditFull else enters (outcome.Polled (polled_as true new)) []) is
+sees-due a kept old seen_as queue id place found new false owing full is =
+    due-as old (Call (Poll queue id)) _ (poll-owed a kept old seen_as queue id place found _ owing)
+    ∙ ap (λ b. if b then refuses refusal.AuditFull else enters (outcome.Polled (polled_as false new)) []) is

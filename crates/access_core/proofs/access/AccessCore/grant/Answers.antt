@@ -1,13 +1,15 @@
 -- What is cached follows the grant, which is entered where there is room.
-use Rattle.std.proofs.Common.{refl, sym, ◌∙◌, false, [], arith}
+use Rattle.std.proofs.Common.{refl, sym, ◌∙◌, true, false, []}
 use Rattle.access_core.proofs.Seen.{seen}
 use Rattle.access_core.proofs.CachedMore.{IsCached-more, memory-still, queues-still}
 use Rattle.access_core.proofs.QueueAt.{IsQuiet, flight-quiet}
-use Rattle.access_core.proofs.Calls.{due-by, met-refusal}
+use Rattle.access_core.proofs.Calls.{due-by, met-entry, met-refusal}
 use Rattle.access_core.proofs.Granting.{grant-due, grant-refused}
+use Rattle.access_core.proofs.Laid.{quiet-laid}
 use Rattle.access_core.proofs.HeldAfter.{blocks-still, held-still}
 use Rattle.access_core.proofs.Terms.{Call, ClientId, Grant, Object, Rights, start_of}
 use Rattle.core_model.specs.declared.outcome.Outcome.TheVariants as outcome
+use Rattle.core_model.specs.declared.refusal.Refusal.TheVariants as refusal
 use Rattle.access_core.proofs.access.AccessCore.grant.Goals as goal
 
 quiet : (client : ClientId) (on : Object) (rights : Rights) → IsQuiet (Call (Grant client on rights)) outcome.Accepted []
@@ -20,7 +22,10 @@ returns-in-Err-clause-met c =
     (sym c.in-Err.is ∙ c.may_grant.ensures))))
 
 pub returns-then-is_full-clause-met : goal.returns-then-is_full-clause-met
-returns-then-is_full-clause-met = grind (arith, grant-due)
+returns-then-is_full-clause-met c =
+    met-refusal (Call (Grant c.args.client c.args.object c.args.rights)) _ refusal.AuditFull
+    (grant-due c.self.inside c.self.invariant c.args.client c.args.object c.args.rights _ (seen c.self.view_is) (sym c.in_default.is ∙ c.may_grant.ensures) true
+    (sym c.is_full.ensures ∙ c.if-is_full.true))
 
 pub invariant_of-self : goal.invariant_of-self
 invariant_of-self c =
@@ -31,6 +36,7 @@ invariant_of-self c =
     (record {
       same = ((refl, refl, refl), refl);
       audit = rw c.none.ensures at c.enter.ensures;
+      blocks = c.self.invariant.blocks;
       grants = record {
         granted = gives.given;
         rules = gives.same_rules;
@@ -42,10 +48,14 @@ invariant_of-self c =
       memory = memory-still a.memory [] (λ x byte. refl);
       values = refl;
       queues = queues-still a c.self.invariant _ _ _ calm (λ all. refl);
-      block_room = c.self.invariant.block_room;
+      laid = quiet-laid a c.self.invariant;
     })
     _ (seen c.self.view_is) (grant-due a c.self.invariant c.args.client c.args.object c.args.rights _ (seen c.self.view_is) (sym c.in_default.is ∙ c.may_grant.ensures) false
     (sym c.is_full.ensures ∙ c.if-is_full.false))
 
 pub returns-clause-met : goal.returns-clause-met
-returns-clause-met = grind (arith, grant-due)
+returns-clause-met c =
+    met-entry c.self.inside _ (seen c.self.view_is) (Call (Grant c.args.client c.args.object c.args.rights)) outcome.Accepted [] _
+    (grant-due c.self.inside c.self.invariant c.args.client c.args.object c.args.rights _ (seen c.self.view_is) (sym c.in_default.is ∙ c.may_grant.ensures) false
+    (sym c.is_full.ensures ∙ c.if-is_full.false))
+    (rw c.none.ensures at c.enter.ensures.items)
