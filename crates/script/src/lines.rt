@@ -16,8 +16,8 @@ use sequences::Sequence;
 use signals::SignalOp;
 use std::alloc::{AllocError, Global};
 use words::{
-    address, bytes, decimal, five_words, four_words, is_word, no_words, one_word, only_packet,
-    packet_word, signed, split_word, three_words, two_words,
+    address, bytes, decimal, five_words, four_words, is_word, no_words, one_word, only_decimal,
+    only_packet, packet_word, signed, split_decimal, split_word, three_words, two_words,
 };
 use world::Request;
 
@@ -151,19 +151,20 @@ fn queue(policy: &Policy, line: &[u8]) -> Option<Command>
 }
 
 // `Q`
+#[tactic(auto, using(crate::proofs::Submitting::queue_is))]
 fn queue_id(line: &[u8]) -> Option<QueueId>
     ensures { result ≡ queue_of (words line.now) }
 {
-    Some(QueueId(decimal(one_word(line)?)?))
+    Some(QueueId(only_decimal(line)?))
 }
 
 // `Q ID`
+#[tactic(auto, using(crate::proofs::Submitting::packet_is))]
 fn packet_id(line: &[u8]) -> Option<(QueueId, PacketId)>
     ensures { result ≡ packet_of_queue (words line.now) }
 {
-    let (queue, packet) = two_words(line)?;
-    let queue = decimal(queue)?;
-    let packet = decimal(packet)?;
+    let (queue, rest) = split_decimal(line)?;
+    let packet = only_decimal(rest)?;
     Some((QueueId(queue), PacketId(packet)))
 }
 
@@ -286,17 +287,14 @@ fn part(line: &[u8]) -> Option<Command>
 fn publish(line: &[u8]) -> Option<Command>
     ensures { result ≡ publish_row (words line.now) }
 {
-    let (queue, rest) = split_word(line)?;
-    let (producer, rest) = split_word(rest)?;
-    let (ticket, rest) = split_word(rest)?;
+    let (queue, rest) = split_decimal(line)?;
+    let (producer, rest) = split_decimal(rest)?;
+    let (ticket, rest) = split_decimal(rest)?;
     let words = only_packet(rest)?;
-    let queue = QueueId(decimal(queue)?);
-    let producer = decimal(producer)?;
-    let ticket = PacketId(decimal(ticket)?);
     Some(Command::Publish {
-        queue,
+        queue: QueueId(queue),
         producer,
-        ticket,
+        ticket: PacketId(ticket),
         words,
     })
 }
@@ -306,13 +304,11 @@ fn publish(line: &[u8]) -> Option<Command>
 fn submit(line: &[u8]) -> Option<Command>
     ensures { result ≡ submit_row (words line.now) }
 {
-    let (queue, rest) = split_word(line)?;
-    let (producer, rest) = split_word(rest)?;
+    let (queue, rest) = split_decimal(line)?;
+    let (producer, rest) = split_decimal(rest)?;
     let words = only_packet(rest)?;
-    let queue = QueueId(decimal(queue)?);
-    let producer = decimal(producer)?;
     Some(Command::Submit {
-        queue,
+        queue: QueueId(queue),
         producer,
         words,
     })

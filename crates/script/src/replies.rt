@@ -12,6 +12,7 @@ use crate::refusals::{refusal_name, refusal_number};
 use crate::rights::write_rights;
 use aql_packet::PacketId;
 use core_model::{Answer, Outcome, Polled, Refusal, Taken, WaitCause, Worked};
+use itoa::Buffer;
 use policy::{Object, Policy, Rights};
 use queue_error::QueueError;
 use ring_core::Seen;
@@ -42,12 +43,25 @@ pub fn cause_name(cause: &WaitCause) -> &'static str
     }
 }
 
+// Writes a text, and a number behind it. Most numbers of replies are small.
+#[tactic(auto, using(std::proofs::lemmas::Fmt::decimal_digit))]
+fn write_numbered(out: &mut String, text: &str, number: u64) -> Result<(), AllocError>
+    ensures { OnOk result (string_bytes out.new ≡ string_bytes out.old ++ text.now ++ decimal number) }
+{
+    out.push_str(text)?;
+    if number < 10 {
+        return out.push(char::from(b'0' + number as u8));
+    }
+    let mut buffer = Buffer::new();
+    out.push_str(buffer.format(number))
+}
+
 // Writes what became of a packet that was handed over.
 fn write_taken(out: &mut String, packet: PacketId, taken: &Taken) -> Result<(), AllocError>
     ensures { OnOk result (string_bytes out.new ≡ string_bytes out.old ++ text_of_taken packet taken.now) }
 {
     match taken {
-        Taken::Launched => write!(out, "launched {}", packet.0),
+        Taken::Launched => write_numbered(out, "launched ", packet.0),
         Taken::Denied(error) => write!(out, "denied {error}"),
         Taken::Waiting(cause) => write!(out, "waiting {} {}", packet.0, cause_name(cause)),
     }
@@ -58,7 +72,10 @@ fn write_worked(out: &mut String, worked: &Worked) -> Result<(), AllocError>
     ensures { OnOk result (string_bytes out.new ≡ string_bytes out.old ++ text_of_worked worked.now) }
 {
     match worked {
-        Worked::Ran { group, left } => write!(out, "ran {group} left {left}"),
+        Worked::Ran { group, left } => {
+            write_numbered(out, "ran ", u64::from(*group))?;
+            write_numbered(out, " left ", u64::from(*left))
+        }
         Worked::Faulted(error) => write!(out, "faulted {error}"),
         Worked::Done => out.push_str("done"),
     }
@@ -272,7 +289,10 @@ fn write_sent(out: &mut String, sent: &Sent) -> Result<(), AllocError>
     ensures { OnOk result (string_bytes out.new ≡ string_bytes out.old ++ text_of_sent sent.now) }
 {
     match sent {
-        Sent::Published(packet) => writeln!(out, "published {}", packet.0),
+        Sent::Published(packet) => {
+            write_numbered(out, "published ", packet.0)?;
+            out.push_str("\n")
+        }
         Sent::Busy { ticket, read } => writeln!(out, "busy ticket {} read {read}", ticket.0),
         Sent::NotPublishable(ticket) => writeln!(out, "not publishable {}", ticket.0),
     }

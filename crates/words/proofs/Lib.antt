@@ -6,3 +6,5 @@ pub mod Pairing
 pub mod Filling
 pub mod Writing
 pub mod Summing
+pub mod Leading
+pub mod Checking

@@ -1,5 +1,5 @@
 -- The numbers that words stand for, decimal and hexadecimal (own).
-use Rattle.std.specs.Prelude.{ℕ, ◌+◌, ◌-◌, ◌*◌, ◌^◌, nat_lt, nat_le, ◌==◌, ℤ, pos, neg_ℤ, ◌&&◌, List, [], ◌∷◌, length, map, unwrap_or, Option, Some, None, option_and_then, if◌then◌else◌}
+use Rattle.std.specs.Prelude.{ℕ, ◌+◌, ◌-◌, ◌*◌, ◌^◌, nat_lt, nat_le, ◌==◌, ℤ, pos, neg_ℤ, ◌&&◌, List, [], ◌∷◌, length, map, unwrap_or, Option, Some, None, option_and_then, option_map, if◌then◌else◌}
 use Rattle.words.specs.Lines.{Word}
 
 -- the value of a digit, in either case
@@ -29,6 +29,11 @@ digits_word base (byte ∷ bytes) = number_from base 0 (byte ∷ bytes)
 -- a decimal number of 64 bits
 abbrev pub decimal_word : Word → Option ℕ
 decimal_word word = digits_word 10 word
+
+-- the decimal number that the first of some words is, and the words behind it
+abbrev pub first_decimal : List Word → Option (ℕ × List Word)
+first_decimal [] = None
+first_decimal (word ∷ further) = option_map (λ number. (number, further)) (decimal_word word)
 
 -- a number of 64 bits: decimal, or hexadecimal after `0x`
 abbrev pub number_word : Word → Option ℕ

@@ -32,6 +32,7 @@ pub(crate) fn digit_value(byte: u8) -> u16
 }
 
 /// The value of a digit, in either case.
+#[inline]
 pub(crate) fn digit(byte: u8) -> Option<u8>
     ensures { result ≡ digit_of byte }
 {
@@ -39,8 +40,9 @@ pub(crate) fn digit(byte: u8) -> Option<u8>
     if value < 16 { Some(value as u8) } else { None }
 }
 
-// A number with a further digit of a base.
-fn with_digit(base: u8, number: u64, digit: u8) -> Option<u64>
+/// A number with a further digit of a base.
+#[inline]
+pub(crate) fn with_digit(base: u8, number: u64, digit: u8) -> Option<u64>
     ensures { result ≡ with_digit base number digit }
 {
     if digit >= base {

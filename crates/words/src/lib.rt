@@ -25,5 +25,5 @@ pub use lines::{
     three_words, two_words,
 };
 pub use names::{client_name, object_name, write_client, write_object};
-pub use numbers::{decimal, natural, signed};
+pub use numbers::{decimal, natural, only_decimal, signed, split_decimal};
 pub use packets::{is_packet_word, only_packet, packet, packet_word, write_word};

@@ -1,9 +1,11 @@
 //! Decimal numbers, with a sign and without, and numbers that are hexadecimal after `0x`.
 
-ghost use Rattle.std.specs.Prelude.{◌≡◌};
-ghost use Rattle.words.specs.Numbers.{digits_word, decimal_word, number_word, negative, positive, signed_word};
+ghost use Rattle.std.specs.Prelude.{◌≡◌, option_and_then, option_map};
+ghost use Rattle.words.specs.Lines.{one_word, words};
+ghost use Rattle.words.specs.Numbers.{digits_word, decimal_word, first_decimal, number_word, negative, positive, signed_word};
 
-use crate::digits::number;
+use crate::digits::{digit, number, with_digit};
+use crate::lines::{is_blank, no_words, skip_blanks};
 
 // The number of a word of digits.
 fn digits(base: u8, word: &[u8]) -> Option<u64>
@@ -20,6 +22,34 @@ pub fn decimal(word: &[u8]) -> Option<u64>
     ensures { result ≡ decimal_word word.now }
 {
     digits(10, word)
+}
+
+/// The decimal number that the first word of a line is, and what comes after it. The word's end is found as its digits
+/// are read.
+pub fn split_decimal(line: &[u8]) -> Option<(u64, &[u8])>
+    ensures { option_map (λ found. (found.0, words found.1.now)) result ≡ first_decimal (words line.now) }
+{
+    let text = skip_blanks(line);
+    if text.is_empty() {
+        return None;
+    }
+    let mut number = 0;
+    for (index, byte) in text.iter().enumerate() {
+        if is_blank(*byte) {
+            return Some((number, text.split_at(index).1));
+        }
+        number = with_digit(10, number, digit(*byte)?)?;
+    }
+    Some((number, &[]))
+}
+
+/// The decimal number that is the only word of a line.
+#[tactic(auto, using(crate::proofs::Leading::only_is))]
+pub fn only_decimal(line: &[u8]) -> Option<u64>
+    ensures { result ≡ option_and_then decimal_word (one_word (words line.now)) }
+{
+    let (number, rest) = split_decimal(line)?;
+    if no_words(rest) { Some(number) } else { None }
 }
 
 /// A number of 64 bits: decimal, or hexadecimal after `0x`.

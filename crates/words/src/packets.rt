@@ -5,7 +5,8 @@ ghost use Rattle.std.specs.Option.{is_some};
 ghost use Rattle.words.specs.Lines.{one_word, words};
 ghost use Rattle.words.specs.Packets.{word_at, eight_bytes, words_of, packet_bytes, packet_word, text_of_word};
 
-use crate::hexadecimal::{are_bytes, byte, bytes, write_bytes};
+use crate::digits::digit_value;
+use crate::hexadecimal::{are_bytes, bytes, write_bytes};
 use crate::lines::{one_word, skip_blanks};
 use byteorder::{ByteOrder, LittleEndian};
 use std::alloc::{AllocError, Global};
@@ -55,7 +56,7 @@ pub fn is_packet_word(word: &[u8]) -> bool
     are_bytes(word) & (word.len() == 16)
 }
 
-// A packet's bytes: just 64.
+// A packet's bytes: just 64. Whether all digits are digits is looked at once, behind them.
 fn packet_bytes(word: &[u8]) -> Option<[u8; 64]>
     ensures { result ≡ packet_bytes word.now }
 {
@@ -63,10 +64,13 @@ fn packet_bytes(word: &[u8]) -> Option<[u8; 64]>
         return None;
     }
     let mut bytes = [0; 64];
+    let mut all: u16 = 0;
     for place in 0..64 {
-        bytes[place] = byte(word[2 * place], word[2 * place + 1])?;
+        let both = digit_value(word[2 * place]) * 16 + digit_value(word[2 * place + 1]);
+        all |= both;
+        bytes[place] = (both % 256) as u8;
     }
-    Some(bytes)
+    if all < 256 { Some(bytes) } else { None }
 }
 
 /// A packet: its eight words, of 64 bytes.
