@@ -15,6 +15,7 @@ mod GroupEnds
 mod ReadBytes
 mod WordLemmas
 mod MaskLemmas
+mod ChunkLemmas
 mod RightRuns
 mod Layers
 mod LockLemmas
@@ -23,3 +24,7 @@ mod GroupFootprints
 mod AtomicFootprints
 mod TurnFootprints
 mod OrderedRuns
+mod PlaceLemmas
+mod FewLemmas
+mod RowLemmas
+mod AtomicLemmas

@@ -144,15 +144,6 @@ part_all at a (suc i) [] h = refl
 part_all at a zero (x ∷ old) h = absurd (omega arith)
 part_all at a (suc i) (x ∷ old) h = ap (λ v. unwrap_or (at a) x ∷ v) (part_all at (a + 1) i old (omega arith))
 
-pub length_part : (at : ℕ → Option ℕ) (a i : ℕ) (old : List ℕ) → length (seen_part at a i old) ≡ length old
-length_part at a zero old = refl
-length_part at a (suc i) [] = refl
-length_part at a (suc i) (x ∷ old) = ap suc (length_part at (a + 1) i old)
-
-pub length_seen : (at : ℕ → Option ℕ) (a : ℕ) (old : List ℕ) → length (seen at a old) ≡ length old
-length_seen at a [] = refl
-length_seen at a (x ∷ old) = ap suc (length_seen at (a + 1) old)
-
 pub seen_append : (at : ℕ → Option ℕ) (a b : ℕ) (xs ys : List ℕ) → b ≡ a + length xs → seen at a xs ++ seen at b ys ≡ seen at a (xs ++ ys)
 seen_append at a b [] ys is = let e : b ≡ a = omega arith in ap (λ p. seen at p ys) e
 seen_append at a b (x ∷ xs) ys is = ap (λ v. unwrap_or (at a) x ∷ v) (seen_append at (a + 1) b xs ys (omega arith))
@@ -194,81 +185,66 @@ pub record IsSize (size : ℕ) : Type 0 where
 pub size_64 : IsSize 64
 size_64 = record { apart = λ a x e. omega arith; near = λ a x n p q r. omega arith; within = λ b x p. omega arith; place = λ b x p. omega arith; behind = λ b x p. omega arith }
 
-pub size_chunk : IsSize (2 ^ 14)
+pub size_chunk : IsSize (2 ^ 13)
 size_chunk = record { apart = λ a x e. omega arith; near = λ a x n p q r. omega arith; within = λ b x p. omega arith; place = λ b x p. omega arith; behind = λ b x p. omega arith }
 
-pub size_region : IsSize (2 ^ 32)
-size_region = record { apart = λ a x e. omega arith; near = λ a x n p q r. omega arith; within = λ b x p. omega arith; place = λ b x p. omega arith; behind = λ b x p. omega arith }
+module _ {Block : Type 0} (byte_of : Block → ℕ → Option ℕ) (size : ℕ) (is : IsSize size) (block_at : ℕ → Option Block) where
+  pub at_known : (block : Block) (x : ℕ) → block_at (x / size) ≡ Some block → in_blocks byte_of size block_at x ≡ byte_of block (x % size)
+  at_known block x e = ap (option_and_then (λ b. byte_of b (x % size))) e
 
-module _ {Block : Type 0} (byte_of : Block → ℕ → Option ℕ) (size : ℕ) (is : IsSize size) where
-  pub at_known : (blocks : List Block) (block : Block) (x : ℕ) → slice_get blocks (x / size) ≡ Some block → in_blocks byte_of size blocks x ≡ byte_of block (x % size)
-  at_known blocks block x e = ap (option_and_then (λ b. byte_of b (x % size))) e
+  pub at_unknown : (x : ℕ) → block_at (x / size) ≡ None → in_blocks byte_of size block_at x ≡ None
+  at_unknown x e = ap (option_and_then (λ b. byte_of b (x % size))) e
 
-  pub at_unknown : (blocks : List Block) (x : ℕ) → slice_get blocks (x / size) ≡ None → in_blocks byte_of size blocks x ≡ None
-  at_unknown blocks x e = ap (option_and_then (λ b. byte_of b (x % size))) e
+  -- an access that lies in one block
+  pub seen_block : (a : ℕ) (block : Block) (old : List ℕ) → a % size + length old ≤ size → block_at (a / size) ≡ Some block
+      → seen (byte_of block) (a % size) old ≡ seen (in_blocks byte_of size block_at) a old
+  seen_block a block old fits known =
+      seen_same (byte_of block) (in_blocks byte_of size block_at) (a % size) a old (λ i h.
+      let home : (a + i) / size ≡ a / size = is.near a (a + i) (length old) fits (omega arith) (omega arith) in
+      let far : a % size + (a + i) ≡ (a + i) % size + a = is.apart a (a + i) (sym home) in
+      let place : (a + i) % size ≡ a % size + i = omega arith in
+      sym (at_known block (a + i) (ap block_at home ∙ known) ∙ ap (byte_of block) place))
 
+  pub seen_no_block : (a : ℕ) (old : List ℕ) → a % size + length old ≤ size → block_at (a / size) ≡ None
+      → old ≡ seen (in_blocks byte_of size block_at) a old
+  seen_no_block a old fits unknown =
+      seen_none (in_blocks byte_of size block_at) a old (λ i h.
+      let home : (a + i) / size ≡ a / size = is.near a (a + i) (length old) fits (omega arith) (omega arith) in
+      at_unknown (a + i) (ap block_at home ∙ unknown))
+
+module _ {Block : Type 0} (byte_of : Block → ℕ → Option ℕ) (size : ℕ) (is : IsSize size) (block_at after : ℕ → Option Block) (a : ℕ) (old new : Block)
+    (had : block_at (a / size) ≡ Some old) (has : after (a / size) ≡ Some new) (others : (n : ℕ) → n ≢ a / size → after n ≡ block_at n) where
   -- bytes laid over one block are laid over the whole
-  pub in_blocks_laid : (blocks : List Block) (a place : ℕ) (old new : Block) (bytes : List ℕ) → place ≡ a / size → a % size + length bytes ≤ size
-      → place < length blocks → old ≡ get_or blocks place old → ((y : ℕ) → byte_of new y ≡ laid (byte_of old) (a % size) bytes y)
-      → (x : ℕ) → in_blocks byte_of size (slice_set blocks place new) x ≡ laid (in_blocks byte_of size blocks) a bytes x
-  in_blocks_laid blocks a place old new bytes here fits known was change x =
-      at (cases_lt (x / size) place) (cases_lt place (x / size))
+  pub level_stored : (bytes : List ℕ) → a % size + length bytes ≤ size → ((y : ℕ) → byte_of new y ≡ laid (byte_of old) (a % size) bytes y)
+      → (x : ℕ) → in_blocks byte_of size after x ≡ laid (in_blocks byte_of size block_at) a bytes x
+  level_stored bytes fits change x =
+      at (cases_lt (x / size) (a / size)) (cases_lt (a / size) (x / size))
     where
-      other : x / size ≢ place → in_blocks byte_of size (slice_set blocks place new) x ≡ laid (in_blocks byte_of size blocks) a bytes x
+      other : x / size ≢ a / size → in_blocks byte_of size after x ≡ laid (in_blocks byte_of size block_at) a bytes x
       other not_here =
-          let before : in_blocks byte_of size (slice_set blocks place new) x ≡ in_blocks byte_of size blocks x =
-          ap (option_and_then (λ b. byte_of b (x % size))) (get_set_other blocks place (x / size) new not_here) in
+          let before : in_blocks byte_of size after x ≡ in_blocks byte_of size block_at x =
+          ap (option_and_then (λ b. byte_of b (x % size))) (others (x / size) not_here) in
           by_range a (length bytes) x
-          (λ p. before ∙ sym (laid_below (in_blocks byte_of size blocks) a bytes x p))
-          (λ p q. absurd (not_here (is.near a x (length bytes) fits p q ∙ sym here)))
-          (λ p. before ∙ sym (laid_past (in_blocks byte_of size blocks) a bytes x p))
+          (λ p. before ∙ sym (laid_below (in_blocks byte_of size block_at) a bytes x p))
+          (λ p q. absurd (not_here (is.near a x (length bytes) fits p q)))
+          (λ p. before ∙ sym (laid_past (in_blocks byte_of size block_at) a bytes x p))
 
-      same : x / size ≡ place → in_blocks byte_of size (slice_set blocks place new) x ≡ laid (in_blocks byte_of size blocks) a bytes x
+      same : x / size ≡ a / size → in_blocks byte_of size after x ≡ laid (in_blocks byte_of size block_at) a bytes x
       same e =
-          let got : slice_get (slice_set blocks place new) (x / size) ≡ Some new =
-          ap (slice_get (slice_set blocks place new)) e ∙ get_set_same blocks place new known in
-          let had : slice_get blocks (x / size) ≡ Some old =
-          ap (slice_get blocks) e ∙ get_read blocks place old was known in
-          at_known (slice_set blocks place new) new x got
+          at_known byte_of size is after new x (ap after e ∙ has)
           ∙ (change (x % size)
-          ∙ laid_moved (byte_of old) (in_blocks byte_of size blocks) (a % size) (x % size) a x bytes
-          (is.apart a x (sym here ∙ sym e)) (sym (at_known blocks old x had)))
+          ∙ laid_moved (byte_of old) (in_blocks byte_of size block_at) (a % size) (x % size) a x bytes
+          (is.apart a x (sym e)) (sym (at_known byte_of size is block_at old x (ap block_at e ∙ had))))
 
-      at : (x / size < place) ⊎ (place ≤ x / size) → (place < x / size) ⊎ (x / size ≤ place) → in_blocks byte_of size (slice_set blocks place new) x ≡ laid (in_blocks byte_of size blocks) a bytes x
+      at : (x / size < a / size) ⊎ (a / size ≤ x / size) → (a / size < x / size) ⊎ (x / size ≤ a / size) → in_blocks byte_of size after x ≡ laid (in_blocks byte_of size block_at) a bytes x
       at (inl p) q = other (λ e. absurd (omega arith))
       at (inr p) (inl q) = other (λ e. absurd (omega arith))
       at (inr p) (inr q) = same (omega arith)
 
-  -- an access that lies in one block
-  pub seen_block : (blocks : List Block) (a : ℕ) (block : Block) (old : List ℕ) → a % size + length old ≤ size → slice_get blocks (a / size) ≡ Some block
-      → seen (byte_of block) (a % size) old ≡ seen (in_blocks byte_of size blocks) a old
-  seen_block blocks a block old fits known =
-      seen_same (byte_of block) (in_blocks byte_of size blocks) (a % size) a old (λ i h.
-      let home : (a + i) / size ≡ a / size = is.near a (a + i) (length old) fits (omega arith) (omega arith) in
-      let far : a % size + (a + i) ≡ (a + i) % size + a = is.apart a (a + i) (sym home) in
-      let place : (a + i) % size ≡ a % size + i = omega arith in
-      sym (at_known blocks block (a + i) (ap (slice_get blocks) home ∙ known) ∙ ap (byte_of block) place))
-
-  pub seen_no_block : (blocks : List Block) (a : ℕ) (old : List ℕ) → a % size + length old ≤ size → slice_get blocks (a / size) ≡ None
-      → old ≡ seen (in_blocks byte_of size blocks) a old
-  seen_no_block blocks a old fits unknown =
-      seen_none (in_blocks byte_of size blocks) a old (λ i h.
-      let home : (a + i) / size ≡ a / size = is.near a (a + i) (length old) fits (omega arith) (omega arith) in
-      at_unknown blocks (a + i) (ap (slice_get blocks) home ∙ unknown))
-
-  -- empty blocks behind the others change nothing
-  pub in_blocks_more : (blocks : List Block) (block : Block) → ((y : ℕ) → byte_of block y ≡ None) → (x : ℕ) → in_blocks byte_of size (blocks ++ block ∷ []) x ≡ in_blocks byte_of size blocks x
-  in_blocks_more blocks block empty x = at (cases_lt (x / size) (length blocks)) (cases_lt (length blocks) (x / size))
-    where
-      at : (x / size < length blocks) ⊎ (length blocks ≤ x / size) → (length blocks < x / size) ⊎ (x / size ≤ length blocks) → in_blocks byte_of size (blocks ++ block ∷ []) x ≡ in_blocks byte_of size blocks x
-      at (inl p) q = ap (option_and_then (λ b. byte_of b (x % size))) (get_append_left blocks (block ∷ []) (x / size) p)
-      at (inr p) (inl q) =
-          let long : length (blocks ++ block ∷ []) ≡ length blocks + 1 = length-append blocks (block ∷ []) in
-          at_unknown (blocks ++ block ∷ []) x (get_past (blocks ++ block ∷ []) (x / size) (omega arith)) ∙ sym (at_unknown blocks x (get_past blocks (x / size) p))
-      at (inr p) (inr q) =
-          let e : x / size ≡ length blocks + 0 = omega arith in
-          at_known (blocks ++ block ∷ []) block x (ap (slice_get (blocks ++ block ∷ [])) e ∙ get_append_right blocks (block ∷ []) 0)
-          ∙ (empty (x % size) ∙ sym (at_unknown blocks x (get_past blocks (x / size) p)))
+  pub level_kept : a % size ≤ size → ((y : ℕ) → byte_of new y ≡ byte_of old y) → (x : ℕ) → in_blocks byte_of size after x ≡ in_blocks byte_of size block_at x
+  level_kept fits change x =
+      level_stored [] (omega arith) (λ y. change y ∙ sym (laid_nothing (byte_of old) (a % size) y)) x
+      ∙ laid_nothing (in_blocks byte_of size block_at) a x
 
 -- ---- one byte of a page
 pub page_set : (page : Page) (place byte : ℕ) → place < 64 → place < length page.bytes → (x : ℕ)
@@ -305,33 +281,6 @@ pub part_after_none : (at : ℕ → Option ℕ) (a i : ℕ) (old buffer new : Li
 part_after_none at a i old buffer new was h e is =
     let next : suc i ≡ i + 1 = omega arith in
     is ∙ (was ∙ (part_none at a i old h e ∙ ap (λ n. seen_part at a n old) next))
-
--- ---- what a level of blocks does, by what one of its blocks does
-module _ {Block : Type 0} (byte_of : Block → ℕ → Option ℕ) (size : ℕ) (is : IsSize size) where
-  pub level_stored : (value items grown : List Block) (a : ℕ) (old new : Block) (bytes : List ℕ) → items ≡ value → ((x : ℕ) → in_blocks byte_of size grown x ≡ in_blocks byte_of size items x)
-      → a % size + length bytes ≤ size → a / size < length grown → old ≡ get_or grown (a / size) old → ((y : ℕ) → byte_of new y ≡ laid (byte_of old) (a % size) bytes y)
-      → (x : ℕ) → in_blocks byte_of size (slice_set grown (a / size) new) x ≡ laid (in_blocks byte_of size value) a bytes x
-  level_stored value items grown a old new bytes view same fits known was change x =
-      in_blocks_laid byte_of size is grown a (a / size) old new bytes refl fits known was change x
-      ∙ laid_same (in_blocks byte_of size grown) (in_blocks byte_of size value) a bytes x (same x ∙ ap (λ b. in_blocks byte_of size b x) view)
-
-  pub level_kept : (value items grown : List Block) (a : ℕ) (old new : Block) → items ≡ value → ((x : ℕ) → in_blocks byte_of size grown x ≡ in_blocks byte_of size items x)
-      → a % size ≤ size → a / size < length grown → old ≡ get_or grown (a / size) old → ((y : ℕ) → byte_of new y ≡ byte_of old y)
-      → (x : ℕ) → in_blocks byte_of size (slice_set grown (a / size) new) x ≡ in_blocks byte_of size value x
-  level_kept value items grown a old new view same fits known was change x =
-      level_stored value items grown a old new [] view same (omega arith) known was (λ y. change y ∙ sym (laid_nothing (byte_of old) (a % size) y)) x
-      ∙ laid_nothing (in_blocks byte_of size value) a x
-
-  pub level_seen : (value items : List Block) (a : ℕ) (block : Block) (old new : List ℕ) → items ≡ value → a % size + length old ≤ size
-      → block ≡ get_or items (a / size) block → a / size < length items → new ≡ seen (byte_of block) (a % size) old → new ≡ seen (in_blocks byte_of size value) a old
-  level_seen value items a block old new view fits was known change =
-      change ∙ (seen_block byte_of size is items a block old fits (get_read items (a / size) block was known)
-      ∙ ap (λ b. seen (in_blocks byte_of size b) a old) view)
-
-  pub level_unseen : (value items : List Block) (a : ℕ) (old : List ℕ) → items ≡ value → a % size + length old ≤ size
-      → length items ≤ a / size → old ≡ seen (in_blocks byte_of size value) a old
-  level_unseen value items a old view fits far =
-      seen_no_block byte_of size is items a old fits (get_past items (a / size) far) ∙ ap (λ b. seen (in_blocks byte_of size b) a old) view
 
 -- ---- results
 pub always_err : {T E : Type 0} (r : Result T E) (P : Type 0) → P → OnErr r P

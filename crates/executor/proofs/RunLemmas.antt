@@ -6,17 +6,16 @@ use Rattle.std.specs.Prelude.{All}
 use Rattle.std.specs.List.{AllPairs}
 use Rattle.std.proofs.lemmas.List.Elements.{All-nil, All-cons}
 use Rattle.std.proofs.lemmas.List.Kept.{AllPairs-cons}
-use Rattle.executor.specs.declared.page.Page.{Page}
 use Rattle.std.proofs.Math.Nat.{add-mul, one-mul}
 use Rattle.std.proofs.lemmas.Bool.{cases_lt, lt-ltb, le-ltb}
 use Rattle.std.proofs.lemmas.Bool.Decides.{nat_tests}
 use Rattle.executor.specs.declared.written_range.WrittenRange.{WrittenRange}
 use Rattle.executor.specs.Written.{laid, all_laid, end_of, nothing, AreRuns}
-use Rattle.executor.specs.inner.Pages.{in_blocks, byte_at, region_byte}
+use Rattle.executor.specs.inner.Pages.{in_blocks}
 use Rattle.executor.specs.Told.{noted, runs_below, runs_of, with_byte}
-use Rattle.executor.specs.inner.Told.{adjoins_last, noted_all, Ascends, Follows, Told, Agrees, Gathers}
+use Rattle.executor.specs.inner.Told.{adjoins_last, noted_all, Ascends, Follows, Told, Gathers}
 use Rattle.executor.proofs.OnlyRuns.{only_runs}
-use Rattle.executor.proofs.Maps.{laid_inside, laid_below, laid_past, laid_same, laid_twice, by_range, get_read, get_past, at_known, at_unknown, IsSize, size_region}
+use Rattle.executor.proofs.Maps.{laid_inside, laid_below, laid_past, laid_same, laid_twice, by_range, at_known, IsSize}
 
 -- a run of its own, and a run with more
 abbrev pub alone : ℕ → List ℕ → WrittenRange
@@ -145,7 +144,7 @@ told_skipped at limit next runs le none told = record {
     by_limits x (inr p) (inl q) = from_on at limit x p ∙ (sym (none x p q) ∙ sym (up_to at next x q))
     by_limits x (inr p) (inr q) = from_on at limit x p ∙ sym (from_on at next x q)
 
-told_at : (at : ℕ → Option ℕ) (limit other : ℕ) (runs : List WrittenRange) → limit ≡ other → Told at limit runs → Told at other runs
+pub told_at : (at : ℕ → Option ℕ) (limit other : ℕ) (runs : List WrittenRange) → limit ≡ other → Told at limit runs → Told at other runs
 told_at at limit other runs e told = subst (λ n. Told at n runs) e told
 
 -- ---- gathering
@@ -179,33 +178,20 @@ gathers_gap base size place next part before runs so_far le fits lacks = λ at t
     ap at e ∙ (agrees (x - base) (omega arith) ∙ lacks (x - base) (omega arith) (omega arith)))
     (so_far at told agrees)
 
-module _ {Block : Type 0} (byte_of : Block → ℕ → Option ℕ) (size : ℕ) (is : IsSize size) (base whole : ℕ) (blocks : List Block) where
+module _ {Block : Type 0} (byte_of : Block → ℕ → Option ℕ) (size : ℕ) (is : IsSize size) (base whole : ℕ) (block_at : ℕ → Option Block) where
   -- one more block
-  pub gathers_block : (index : ℕ) (block : Block) (before runs new : List WrittenRange) → block ≡ get_or blocks index block → index < length blocks → (index + 1) * size ≤ whole
-      → Gathers base whole (in_blocks byte_of size blocks) (index * size) before runs → Gathers (base + index * size) size (byte_of block) size runs new
-      → Gathers base whole (in_blocks byte_of size blocks) ((index + 1) * size) before new
-  gathers_block index block before runs new was known fits so_far more = λ at told agrees.
+  pub gathers_block : (index : ℕ) (block : Block) (before runs new : List WrittenRange) → block_at index ≡ Some block → (index + 1) * size ≤ whole
+      → Gathers base whole (in_blocks byte_of size block_at) (index * size) before runs → Gathers (base + index * size) size (byte_of block) size runs new
+      → Gathers base whole (in_blocks byte_of size block_at) ((index + 1) * size) before new
+  gathers_block index block before runs new known fits so_far more = λ at told agrees.
       let split : (index + 1) * size ≡ index * size + size = add-mul index 1 size ∙ ap (λ n. index * size + n) (one-mul size) in
       told_at at (base + index * size + size) (base + (index + 1) * size) new (omega arith)
       (more at (so_far at told agrees)
       (λ x p.
       let sum : base + index * size + x ≡ base + (index * size + x) = omega arith in
-      let got : slice_get blocks ((index * size + x) / size) ≡ Some block =
-      ap (slice_get blocks) (is.within index x p) ∙ get_read blocks index block was known in
+      let got : block_at ((index * size + x) / size) ≡ Some block = ap block_at (is.within index x p) ∙ known in
       ap at sum ∙ (agrees (index * size + x) (omega arith)
-      ∙ (at_known byte_of size is blocks block (index * size + x) got ∙ ap (byte_of block) (is.place index x p)))))
-
-  -- behind the last block nothing is written
-  pub gathers_rest : (index : ℕ) (before runs : List WrittenRange) → length blocks ≤ index → index * size ≤ whole
-      → Gathers base whole (in_blocks byte_of size blocks) (index * size) before runs → Gathers base whole (in_blocks byte_of size blocks) whole before runs
-  gathers_rest index before runs done fits so_far = λ at told agrees.
-      told_skipped at (base + index * size) (base + whole) runs (omega arith)
-      (λ x p q.
-      let sum : x ≡ base + (x - base) = omega arith in
-      let far : index ≤ (x - base) / size = is.behind index (x - base) (omega arith) in
-      ap at sum ∙ (agrees (x - base) (omega arith)
-      ∙ at_unknown byte_of size is blocks (x - base) (get_past blocks ((x - base) / size) (omega arith))))
-      (so_far at told agrees)
+      ∙ (at_known byte_of size is block_at block (index * size + x) got ∙ ap (byte_of block) (is.place index x p)))))
 
 -- ---- the runs of a whole map
 follows_later : (end other : ℕ) (runs : List WrittenRange) → end ≤ other → Follows other runs → Follows end runs
@@ -253,7 +239,7 @@ told_only : (at : ℕ → Option ℕ) (limit : ℕ) (runs others : List WrittenR
 told_only at limit runs others one other =
     only_runs (λ x. if nat_lt x limit then at x else None) runs others (told_cut at limit runs one) (told_cut at limit others other)
 
-told_nothing : (at : ℕ → Option ℕ) → Told at 0 []
+pub told_nothing : (at : ℕ → Option ℕ) → Told at 0 []
 told_nothing at = record { ascends = tt; exact = λ x. sym (from_on at 0 x (omega arith)) }
 
 pub told_below : (at : ℕ → Option ℕ) (limit : ℕ) → Told at limit (runs_below at limit)
@@ -268,20 +254,7 @@ told_below at (suc limit) = one_more (at limit) refl (told_below at limit)
         (subst (λ rs. Told at (limit + 1) rs) (noted_one (runs_below at limit) limit byte)
         (told_noted at limit (byte ∷ []) (runs_below at limit) (omega arith) (λ i h. let e : limit + i ≡ limit = omega arith in let z : i ≡ 0 = omega arith in ap at e ∙ (is ∙ ap (slice_get (byte ∷ [])) (sym z))) told))
 
-pub gathers_all : (regions : List (List (List Page))) (index : ℕ) (runs : List WrittenRange) → length regions ≤ 2 ^ 32 → length regions ≤ index → index ≤ 2 ^ 32
-    → Gathers 0 (2 ^ 64) (byte_at regions) (index * 2 ^ 32) [] runs → AreRuns (byte_at regions) runs
-gathers_all regions index runs few done below gathered =
-    let start : Told (byte_at regions) 0 [] = record { ascends = tt; exact = λ x. sym (from_on (byte_at regions) 0 x (omega arith)) } in
-    let agrees : Agrees (byte_at regions) 0 (2 ^ 64) (byte_at regions) = λ x p. let e : 0 + x ≡ x = omega arith in ap (byte_at regions) e in
-    told_runs (byte_at regions) (0 + index * 2 ^ 32) runs (gathered (byte_at regions) start agrees)
-    (λ x p. at_unknown region_byte (2 ^ 32) size_region regions x (get_past regions (x / 2 ^ 32) (omega arith)))
-
-pub gathers_value : (regions : List (List (List Page))) (index : ℕ) (runs : List WrittenRange) → length regions ≤ index → index ≤ 2 ^ 32
-    → Gathers 0 (2 ^ 64) (byte_at regions) (index * 2 ^ 32) [] runs → runs ≡ runs_of (byte_at regions)
-gathers_value regions index runs done below gathered =
-    let agrees : Agrees (byte_at regions) 0 (2 ^ 64) (byte_at regions) = λ x p. let e : 0 + x ≡ x = omega arith in ap (byte_at regions) e in
-    told_only (byte_at regions) (2 ^ 64) runs (runs_of (byte_at regions))
-    (told_skipped (byte_at regions) (0 + index * 2 ^ 32) (2 ^ 64) runs (omega arith)
-    (λ x p q. at_unknown region_byte (2 ^ 32) size_region regions x (get_past regions (x / 2 ^ 32) (omega arith)))
-    (gathered (byte_at regions) (told_nothing (byte_at regions)) agrees))
-    (told_below (byte_at regions) (2 ^ 64))
+-- runs that tell a map below a limit tell all of it, where it has nothing from there on
+pub told_all : (at : ℕ → Option ℕ) (limit : ℕ) (runs : List WrittenRange) → limit ≤ 2 ^ 64 → ((x : ℕ) → limit ≤ x → at x ≡ None) → Told at limit runs → runs ≡ runs_of at
+told_all at limit runs le none told =
+    told_only at (2 ^ 64) runs (runs_of at) (told_skipped at limit (2 ^ 64) runs le (λ x p q. none x p) told) (told_below at (2 ^ 64))

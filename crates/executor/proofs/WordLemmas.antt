@@ -1,5 +1,5 @@
 -- Accesses of a few bytes of a page at once.
-use Rattle.std.proofs.Common.{◌≡◌, ℕ, zero, suc, ◌+◌, ◌-◌, ◌*◌, ◌/◌, ◌%◌, ◌^◌, ◌<◌, ◌≤◌, List, [], ◌∷◌, ◌++◌, length, take, drop, refl, sym, ap, ◌∙◌, arith, Option, Some, None, Bool, true, false, bit_or, bit_and, take-append-drop, get_or, slice_set}
+use Rattle.std.proofs.Common.{◌≡◌, ◌≢◌, ℕ, zero, suc, ◌+◌, ◌-◌, ◌*◌, ◌/◌, ◌%◌, ◌^◌, ◌<◌, ◌≤◌, List, [], ◌∷◌, ◌++◌, length, take, drop, refl, sym, ap, ◌∙◌, arith, Option, Some, None, Bool, true, false, bit_or, bit_and, take-append-drop}
 use Rattle.std.specs.Prelude.{slice_get, min, max}
 use Rattle.std.specs.Option.{unwrap_or}
 use Rattle.std.specs.Int.{bit_at, w64, to_le_bytes}
@@ -13,7 +13,7 @@ use Rattle.executor.specs.declared.page.Page.{Page}
 use Rattle.executor.specs.Written.{laid, seen}
 use Rattle.executor.specs.inner.Pages.{page_byte, in_blocks}
 use Rattle.executor.specs.inner.Words.{laid_if, or_below, seen_number}
-use Rattle.executor.proofs.Maps.{get_append_left, get_append_right, by_range, laid_below, laid_inside, laid_past, seen_none, IsSize, level_seen, level_unseen, level_stored, level_kept}
+use Rattle.executor.proofs.Maps.{get_append_left, get_append_right, by_range, laid_below, laid_inside, laid_past, seen_none, IsSize, seen_block, seen_no_block, level_stored, level_kept}
 
 -- ---- bits of a mask
 -- a bit of a part of a mask
@@ -175,24 +175,22 @@ page_written page place n ones low part long count all fits is x =
     ∙ page_marked page place low bytes (omega arith) put x
 
 -- ---- what a level of blocks does, by what one of its blocks does
-module _ {Block : Type 0} (byte_of : Block → ℕ → Option ℕ) (size : ℕ) (is : IsSize size) where
-  pub level_read : (value items : List Block) (a : ℕ) (block : Block) (below : List ℕ) (read : Option ℕ) → items ≡ value → a % size + length below ≤ size
-      → block ≡ get_or items (a / size) block → a / size < length items → or_below read below ≡ seen_number (byte_of block) (a % size) below
-      → or_below read below ≡ seen_number (in_blocks byte_of size value) a below
-  level_read value items a block below read view fits was known change =
-      change ∙ ap (little_number (length below)) (level_seen byte_of size is value items a block below _ view fits was known refl)
+module _ {Block : Type 0} (byte_of : Block → ℕ → Option ℕ) (size : ℕ) (is : IsSize size) (block_at : ℕ → Option Block) where
+  pub level_read : (a : ℕ) (block : Block) (below : List ℕ) (read : Option ℕ) → a % size + length below ≤ size
+      → block_at (a / size) ≡ Some block → or_below read below ≡ seen_number (byte_of block) (a % size) below
+      → or_below read below ≡ seen_number (in_blocks byte_of size block_at) a below
+  level_read a block below read fits known change = change ∙ ap (little_number (length below)) (seen_block byte_of size is block_at a block below fits known)
 
-  pub level_unread : (value items : List Block) (a : ℕ) (below : List ℕ) → items ≡ value → a % size + length below ≤ size → length items ≤ a / size
-      → little_number (length below) below ≡ seen_number (in_blocks byte_of size value) a below
-  level_unread value items a below view fits far = ap (little_number (length below)) (level_unseen byte_of size is value items a below view fits far)
+  pub level_unread : (a : ℕ) (below : List ℕ) → a % size + length below ≤ size → block_at (a / size) ≡ None
+      → little_number (length below) below ≡ seen_number (in_blocks byte_of size block_at) a below
+  level_unread a below fits unknown = ap (little_number (length below)) (seen_no_block byte_of size is block_at a below fits unknown)
 
-  pub level_overwritten : (value items : List Block) (a : ℕ) (old new : Block) (low : List ℕ) (done : Bool) → items ≡ value → a % size + length low ≤ size
-      → a / size < length items → old ≡ get_or items (a / size) old → ((y : ℕ) → byte_of new y ≡ laid_if done (byte_of old) (a % size) low y)
-      → (x : ℕ) → in_blocks byte_of size (slice_set items (a / size) new) x ≡ laid_if done (in_blocks byte_of size value) a low x
-  level_overwritten value items a old new low true view fits known was change =
-      level_stored byte_of size is value items items a old new low view (λ x. refl) fits known was change
-  level_overwritten value items a old new low false view fits known was change =
-      level_kept byte_of size is value items items a old new view (λ x. refl) (omega arith) known was change
+module _ {Block : Type 0} (byte_of : Block → ℕ → Option ℕ) (size : ℕ) (is : IsSize size) (block_at after : ℕ → Option Block) (a : ℕ) (old new : Block)
+    (had : block_at (a / size) ≡ Some old) (has : after (a / size) ≡ Some new) (others : (n : ℕ) → n ≢ a / size → after n ≡ block_at n) where
+  pub level_overwritten : (low : List ℕ) (done : Bool) → a % size + length low ≤ size → ((y : ℕ) → byte_of new y ≡ laid_if done (byte_of old) (a % size) low y)
+      → (x : ℕ) → in_blocks byte_of size after x ≡ laid_if done (in_blocks byte_of size block_at) a low x
+  level_overwritten low true fits change = level_stored byte_of size is block_at after a old new had has others low fits change
+  level_overwritten low false fits change = level_kept byte_of size is block_at after a old new had has others (omega arith) change
 
 -- how many low bytes there are of a number
 pub length_low : (size value : ℕ) → size ≤ 8 → length (take size (to_le_bytes w64 value)) ≡ size

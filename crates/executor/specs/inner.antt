@@ -12,3 +12,6 @@ pub mod Stops
 pub mod ItemRuns
 pub mod Words
 pub mod Whole
+pub mod Few
+pub mod Rows
+pub mod Found

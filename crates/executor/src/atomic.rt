@@ -1,20 +1,21 @@
 //! Atomic operations (PRM, Atomic Memory Operations).
-ghost use Rattle.std.specs.Prelude.{◌≡◌, ◌<◌, ◌^◌};
+ghost use Rattle.std.specs.Prelude.{◌≡◌, ◌<◌, ◌^◌, OnOk};
 ghost use Rattle.kernel_check.specs.declared.step.Step.TheVariants as step_arm;
-ghost use Rattle.executor.specs.Atomics.{replacing32, replacing64, told32, told64};
+ghost use Rattle.executor.specs.Atomics.{left32, left64, replacing32, replacing64, told32, told64};
 ghost use Rattle.executor.specs.inner.Held.{contents, surroundings};
 ghost use Rattle.executor.specs.Meaning.{act, onward};
+ghost use Rattle.executor.specs.inner.Room.{HasRoom};
 ghost use Rattle.executor.specs.inner.Turns.{Acts};
 
 use crate::act::Outcome;
-use crate::atomic_place::{find, place_of, put};
+use crate::atomic_place::{find32, find64, place_of, put};
 use crate::item::{Item, ItemContext};
 use crate::memory::Memory;
 use crate::number::Number;
 use crate::registers::Registers;
-use byteorder::{ByteOrder, LittleEndian};
 use kernel_check::{AtomicChange, AtomicStep, RegisterNumber, Source32, Source64};
-use std::alloc::Global;
+use queue_error::SegmentAddress;
+use std::alloc::{AllocError, Global};
 
 /// What an operation of 32 bits leaves in place of an old value, if it stores.
 #[inline]
@@ -90,6 +91,40 @@ fn tell64(item: &mut Item, target: Option<RegisterNumber>, old: u64)
     item.next += 1;
 }
 
+/// Leaves a number of 32 bits at a place, if an operation stores one.
+#[inline(always)]
+pub fn leave32(
+    alloc: Global,
+    memory: &mut Memory,
+    place: SegmentAddress,
+    value: Option<u32>,
+) -> Result<(), AllocError>
+    requires { HasRoom (contents memory.old) place 4 }
+    ensures { OnOk result (contents memory.new ≡ left32 (contents memory.old) place value) }
+{
+    match value {
+        None => Ok(()),
+        Some(value) => put(alloc, memory, place, 4, value as u64),
+    }
+}
+
+/// Leaves a number of 64 bits at a place, if an operation stores one.
+#[inline(always)]
+pub fn leave64(
+    alloc: Global,
+    memory: &mut Memory,
+    place: SegmentAddress,
+    value: Option<u64>,
+) -> Result<(), AllocError>
+    requires { HasRoom (contents memory.old) place 8 }
+    ensures { OnOk result (contents memory.new ≡ left64 (contents memory.old) place value) }
+{
+    match value {
+        None => Ok(()),
+        Some(value) => put(alloc, memory, place, 8, value),
+    }
+}
+
 /// An atomic operation of 32 bits.
 #[inline]
 pub fn atomic_step32(
@@ -103,18 +138,17 @@ pub fn atomic_step32(
     ensures { Acts (act (surroundings context.now) item.old (contents memory.old) (step_arm.Atomic32 step.now)) result item.new (contents memory.new) }
 {
     let place = place_of(&item.registers, step.pointer);
-    let mut bytes = [0; 4];
-    if let Err(rule) = find(context.view, memory, place, &mut bytes) {
-        return Outcome::Broke(rule, place);
-    }
-    let old = LittleEndian::read_u32(&bytes);
-    if let Some(value) = replacing32(&item.registers, &step.operation, old) {
-        if put(alloc, memory, place, &value.to_le_bytes()).is_err() {
-            return Outcome::OutOfMemory;
+    match find32(context.view, memory, place) {
+        Err(rule) => Outcome::Broke(rule, place),
+        Ok(old) => {
+            let value = replacing32(&item.registers, &step.operation, old);
+            if let Err(_) = leave32(alloc, memory, place, value) {
+                return Outcome::OutOfMemory;
+            }
+            tell32(item, step.target, old);
+            Outcome::GoesOn
         }
     }
-    tell32(item, step.target, old);
-    Outcome::GoesOn
 }
 
 /// An atomic operation of 64 bits.
@@ -130,16 +164,15 @@ pub fn atomic_step64(
     ensures { Acts (act (surroundings context.now) item.old (contents memory.old) (step_arm.Atomic64 step.now)) result item.new (contents memory.new) }
 {
     let place = place_of(&item.registers, step.pointer);
-    let mut bytes = [0; 8];
-    if let Err(rule) = find(context.view, memory, place, &mut bytes) {
-        return Outcome::Broke(rule, place);
-    }
-    let old = LittleEndian::read_u64(&bytes);
-    if let Some(value) = replacing64(&item.registers, &step.operation, old) {
-        if put(alloc, memory, place, &value.to_le_bytes()).is_err() {
-            return Outcome::OutOfMemory;
+    match find64(context.view, memory, place) {
+        Err(rule) => Outcome::Broke(rule, place),
+        Ok(old) => {
+            let value = replacing64(&item.registers, &step.operation, old);
+            if let Err(_) = leave64(alloc, memory, place, value) {
+                return Outcome::OutOfMemory;
+            }
+            tell64(item, step.target, old);
+            Outcome::GoesOn
         }
     }
-    tell64(item, step.target, old);
-    Outcome::GoesOn
 }

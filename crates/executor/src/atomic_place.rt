@@ -1,7 +1,12 @@
-//! The places of atomic operations.
-ghost use Rattle.std.specs.Prelude.{◌≡◌, ◌+◌, ◌≤◌, ◌^◌, None, Some, Ok, Err, IfOk, IfErr, OnOk, length, map};
+//! The places of atomic operations, and the numbers at them.
+ghost use Rattle.std.specs.Prelude.{◌≡◌, ◌+◌, ◌≤◌, ◌^◌, None, Some, IfOk, IfErr, OnOk, length, map, take};
+ghost use Rattle.std.specs.Int.{w64, to_le_bytes};
+ghost use Rattle.byteorder.specs.Endian.{little_number};
 ghost use Rattle.executor.specs.Accesses.{atomic_broken, lent};
-ghost use Rattle.executor.specs.Atomics.{bytes_found, place_of, put};
+ghost use Rattle.executor.specs.Atomics.{place_of, put};
+ghost use Rattle.executor.specs.Written.{seen};
+ghost use Rattle.executor.specs.inner.Found.{global_number, group_number, number_found};
+ghost use Rattle.executor.specs.inner.Pages.{byte_at};
 ghost use Rattle.executor.specs.inner.Room.{HasRoom};
 ghost use Rattle.executor.specs.inner.Held.{contents};
 ghost use Rattle.executor.specs.Items.{lent_region};
@@ -12,6 +17,8 @@ use crate::group_access;
 use crate::memory::Memory;
 use crate::registers::Registers;
 use crate::view::View;
+use crate::written::WrittenBytes;
+use byteorder::{ByteOrder, LittleEndian};
 use kernel_check::AtomicPointer;
 use policy::Right;
 use queue_error::{Rule, SegmentAddress};
@@ -57,56 +64,131 @@ fn atomic_access<'v>(view: &'v View<'v>, address: u64, size: usize) -> Result<&'
     Ok(&region.bytes[offset..offset + size])
 }
 
-/// Copies the bytes at a place into a buffer, which has as many as the operation accesses, or tells the
-/// rule that it breaks first.
-#[inline]
-pub fn find(
-    view: &View<'_>,
-    memory: &Memory,
-    place: SegmentAddress,
-    buffer: &mut [u8],
-) -> Result<(), Rule>
-    requires some { 1 ≤ length buffer.old }
-    requires few { length buffer.old ≤ 8 }
-    ensures ok { OnOk result (bytes_found (map lent_region view.now) (contents memory.now) place (length buffer.old) ≡ Ok buffer.new) }
-    ensures length { OnOk result (length buffer.new ≡ length buffer.old) }
-    ensures room { OnOk result (HasRoom (contents memory.now) place (length buffer.old)) }
-    ensures err { IfErr result (λ rule. bytes_found (map lent_region view.now) (contents memory.now) place (length buffer.old) ≡ Err rule) }
+/// The number of 32 bits that an access sees. That what it reads has no more bits is known of bytes in a buffer
+/// alone, so a number that had more would be read there.
+#[inline(always)]
+fn read32(written: &WrittenBytes, address: u64, below: &[u8]) -> u32
+    requires size { length below.now ≡ 4 }
+    requires end { address + 4 ≤ 2 ^ 64 }
+    ensures { result ≡ little_number 4 (seen (byte_at written.now) address below.now) }
 {
-    match place {
-        SegmentAddress::Global(address) => {
-            let bytes = atomic_access(view, address, buffer.len())?;
-            buffer.copy_from_slice(bytes);
-            memory.written.load(address, buffer);
-        }
-        SegmentAddress::Group(address) => {
-            let begin = group_access::atomic_begin_of(
-                memory.group.as_slice(),
-                address,
-                buffer.len(),
-            )?;
-            buffer.copy_from_slice(&memory.group[begin..begin + buffer.len()]);
-        }
+    let number = written.read(address, below);
+    if number < 1 << 32 {
+        return number as u32;
     }
-    Ok(())
+    read_bytes32(written, address, below)
 }
 
-/// Puts bytes at a place.
-#[inline]
+/// The same from a buffer.
+#[inline(never)]
+fn read_bytes32(written: &WrittenBytes, address: u64, below: &[u8]) -> u32
+    requires size { length below.now ≡ 4 }
+    requires end { address + 4 ≤ 2 ^ 64 }
+    ensures { result ≡ little_number 4 (seen (byte_at written.now) address below.now) }
+{
+    let mut bytes = [0; 4];
+    bytes.copy_from_slice(below);
+    written.load(address, &mut bytes);
+    LittleEndian::read_u32(&bytes)
+}
+
+/// The number of 32 bits in global memory, or the rule that an operation on it breaks first.
+#[inline(always)]
+fn find_global32(view: &View<'_>, written: &WrittenBytes, address: u64) -> Result<u32, Rule>
+    ensures found { result ≡ global_number (map lent_region view.now) (byte_at written.now) address 4 }
+    ensures room { IfOk result (λ old. address + 4 ≤ 2 ^ 64) }
+{
+    match atomic_access(view, address, 4) {
+        Err(rule) => Err(rule),
+        Ok(below) => Ok(read32(written, address, below)),
+    }
+}
+
+/// The number of 64 bits in global memory, or the rule that an operation on it breaks first.
+#[inline(always)]
+fn find_global64(view: &View<'_>, written: &WrittenBytes, address: u64) -> Result<u64, Rule>
+    ensures found { result ≡ global_number (map lent_region view.now) (byte_at written.now) address 8 }
+    ensures room { IfOk result (λ old. address + 8 ≤ 2 ^ 64) }
+{
+    match atomic_access(view, address, 8) {
+        Err(rule) => Err(rule),
+        Ok(below) => Ok(written.read(address, below)),
+    }
+}
+
+/// The number of 32 bits in group memory, or the rule that an operation on it breaks first.
+#[inline(always)]
+fn find_group32(group: &[u8], address: u32) -> Result<u32, Rule>
+    ensures found { result ≡ group_number group.now address 4 }
+    ensures room { IfOk result (λ old. address + 4 ≤ length group.now) }
+{
+    match group_access::atomic_begin_of(group, address, 4) {
+        Err(rule) => Err(rule),
+        Ok(begin) => {
+            let (_, bytes) = group.split_at(begin);
+            Ok(LittleEndian::read_u32(bytes))
+        }
+    }
+}
+
+/// The number of 64 bits in group memory, or the rule that an operation on it breaks first.
+#[inline(always)]
+fn find_group64(group: &[u8], address: u32) -> Result<u64, Rule>
+    ensures found { result ≡ group_number group.now address 8 }
+    ensures room { IfOk result (λ old. address + 8 ≤ length group.now) }
+{
+    match group_access::atomic_begin_of(group, address, 8) {
+        Err(rule) => Err(rule),
+        Ok(begin) => {
+            let (_, bytes) = group.split_at(begin);
+            Ok(LittleEndian::read_u64(bytes))
+        }
+    }
+}
+
+/// The number of 32 bits at a place, or the rule that an operation on it breaks first.
+#[inline(always)]
+pub fn find32(view: &View<'_>, memory: &Memory, place: SegmentAddress) -> Result<u32, Rule>
+    ensures found { result ≡ number_found (map lent_region view.now) (contents memory.now) place 4 }
+    ensures room { IfOk result (λ old. HasRoom (contents memory.now) place 4) }
+{
+    match place {
+        SegmentAddress::Global(address) => find_global32(view, &memory.written, address),
+        SegmentAddress::Group(address) => find_group32(memory.group.as_slice(), address),
+    }
+}
+
+/// The number of 64 bits at a place, or the rule that an operation on it breaks first.
+#[inline(always)]
+pub fn find64(view: &View<'_>, memory: &Memory, place: SegmentAddress) -> Result<u64, Rule>
+    ensures found { result ≡ number_found (map lent_region view.now) (contents memory.now) place 8 }
+    ensures room { IfOk result (λ old. HasRoom (contents memory.now) place 8) }
+{
+    match place {
+        SegmentAddress::Global(address) => find_global64(view, &memory.written, address),
+        SegmentAddress::Group(address) => find_group64(memory.group.as_slice(), address),
+    }
+}
+
+/// Puts a number's low bytes at a place.
+#[inline(always)]
 pub fn put(
     alloc: Global,
     memory: &mut Memory,
     place: SegmentAddress,
-    bytes: &[u8],
+    size: usize,
+    value: u64,
 ) -> Result<(), AllocError>
-    requires few { length bytes.now ≤ 8 }
-    requires room { HasRoom (contents memory.old) place (length bytes.now) }
-    ensures { OnOk result (contents memory.new ≡ put (contents memory.old) place bytes.now) }
+    requires few { size ≤ 8 }
+    requires room { HasRoom (contents memory.old) place size }
+    ensures { OnOk result (contents memory.new ≡ put (contents memory.old) place (take size (to_le_bytes w64 value))) }
 {
     match place {
-        SegmentAddress::Global(address) => memory.written.store(alloc, address, bytes),
+        SegmentAddress::Global(address) => memory.written.write(alloc, address, size, value),
         SegmentAddress::Group(address) => {
-            group_access::put(memory.group.as_mut_slice(), address as usize, bytes);
+            let bytes = value.to_le_bytes();
+            let (low, _) = bytes.split_at(size);
+            group_access::put(memory.group.as_mut_slice(), address as usize, low);
             Ok(())
         }
     }

@@ -4,6 +4,7 @@ ghost use Rattle.kernel_check.specs.Flat.{plain};
 ghost use Rattle.executor.specs.inner.Flat.{Goes};
 ghost use Rattle.executor.specs.inner.Held.{contents, surroundings};
 
+use crate::flat_atomics::*;
 use crate::flat_bits::*;
 use crate::flat_comparisons::*;
 use crate::flat_conversions::*;
@@ -469,6 +470,46 @@ pub fn go(
             offset,
             constant,
         } => store_group_constant64(context, r, next, memory, *sign, *base, *offset, *constant),
+        FlatStep::AtomicGlobal32 {
+            change,
+            target,
+            base,
+            source,
+            offset,
+            constant,
+        } => atomic_global32(
+            alloc, context, r, next, memory, *change, *target, *base, *source, *offset, *constant,
+        ),
+        FlatStep::AtomicGlobal64 {
+            change,
+            target,
+            base,
+            source,
+            offset,
+            constant,
+        } => atomic_global64(
+            alloc, context, r, next, memory, *change, *target, *base, *source, *offset, *constant,
+        ),
+        FlatStep::AtomicGroup32 {
+            change,
+            target,
+            base,
+            source,
+            offset,
+            constant,
+        } => atomic_group32(
+            alloc, context, r, next, memory, *change, *target, *base, *source, *offset, *constant,
+        ),
+        FlatStep::AtomicGroup64 {
+            change,
+            target,
+            base,
+            source,
+            offset,
+            constant,
+        } => atomic_group64(
+            alloc, context, r, next, memory, *change, *target, *base, *source, *offset, *constant,
+        ),
         FlatStep::Branch { next } => Gone::Next(*next),
         FlatStep::ConditionalBranch {
             condition,
@@ -476,6 +517,6 @@ pub fn go(
         } => Gone::Next(branch(r, next, *condition, *other)),
         FlatStep::Barrier => Gone::Arrived,
         FlatStep::Return => Gone::Ended,
-        _ => Gone::Other,
+        FlatStep::Other => Gone::Other,
     }
 }

@@ -12,7 +12,7 @@ use crate::dispatch::Dispatch;
 use crate::fault::RunFault;
 use crate::item::ItemContext;
 use crate::item_run::id_of;
-use crate::location::{Extent, Location};
+use crate::location::{Extent, Location, Place};
 use crate::memory::Memory;
 use crate::rounds::run_items;
 use crate::view::View;
@@ -133,7 +133,7 @@ fn run_program(
     let context = ItemContext {
         arguments: dispatch.arguments,
         view,
-        location,
+        location: Place::new(&location),
     };
     let mut memory = blank(alloc, dispatch.group_segment_size)?;
     if let Err(fault) = run_items(alloc, &context, program, count, &mut memory) {

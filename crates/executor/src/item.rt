@@ -1,10 +1,11 @@
 //! A work-item, and what surrounds it.
-ghost use Rattle.std.specs.Prelude.{◌≡◌};
+ghost use Rattle.std.specs.Prelude.{◌≡◌, true};
 ghost use Rattle.executor.specs.Items.{fresh};
+ghost use Rattle.executor.specs.inner.Few.{RestIsZero};
 ghost use Rattle.executor.specs.inner.Stops.{waits};
 ghost use Rattle.executor.specs.declared.item.Stop.TheVariants as stop_arm;
 
-use crate::location::Location;
+use crate::location::Place;
 use crate::registers::Registers;
 use crate::view::View;
 
@@ -58,6 +59,18 @@ impl StoppedItem {
         }
     }
 
+    /// Begins anew, where few registers were set since it began, or any. How it stopped is told when it stops again.
+    #[inline(always)]
+    pub fn begin_anew(&mut self, few: bool)
+        requires { few ≡ true → RestIsZero self.old.item.registers }
+        ensures item { self.new.item ≡ fresh }
+        ensures executed { self.new.executed ≡ 0 }
+    {
+        self.item.registers.clear(few);
+        self.item.next = 0;
+        self.executed = 0;
+    }
+
     /// Whether it waits at a barrier.
     #[inline(always)]
     pub fn waits(&self) -> bool
@@ -71,11 +84,11 @@ impl StoppedItem {
 }
 
 /// What a work-item can see and not change.
-#[derive(Clone, Copy)]
+#[derive(Drop)]
 pub struct ItemContext<'a> {
     /// The bytes of the argument block.
     pub arguments: &'a [u8],
     /// The regions that the packet holds.
     pub view: &'a View<'a>,
-    pub location: Location,
+    pub location: Place,
 }

@@ -1,11 +1,14 @@
 //! A work-item run until it waits at a barrier or ends.
-ghost use Rattle.std.specs.Prelude.{◌≡◌, ◌<◌, ◌≤◌, ℕ, IfErr, OnOk, length, slice_index};
+ghost use Rattle.std.specs.Prelude.{◌≡◌, ◌+◌, ◌<◌, ◌≤◌, ◌^◌, ℕ, Some, None, length, slice_index};
 ghost use Rattle.executor.specs.declared.fault.RunFault.TheVariants as fault_arm;
-ghost use Rattle.executor.specs.Group.{ready, context_of_item};
+ghost use Rattle.queue_error.specs.declared.error.SegmentAddress.TheVariants as segment;
+ghost use Rattle.queue_error.specs.declared.rule.Rule.TheVariants.{A5};
+ghost use Rattle.executor.specs.Group.{ready};
 ghost use Rattle.executor.specs.inner.Held.{contents, surroundings};
 ghost use Rattle.executor.specs.Locations.{id_of};
 ghost use Rattle.executor.specs.Meaning.{turn};
-ghost use Rattle.executor.specs.inner.ItemRuns.{ItemRuns, ItemFails};
+ghost use Rattle.executor.specs.inner.Few.{LeavesRest};
+ghost use Rattle.executor.specs.inner.ItemRuns.{ItemComes};
 ghost use Rattle.executor.specs.inner.Stops.{standing};
 ghost use Rattle.executor.specs.inner.Turns.{Acts};
 ghost use Rattle.executor.specs.declared.limits.TheConstants.{BUDGET};
@@ -15,8 +18,9 @@ use crate::fault::{ItemFault, RunFault};
 use crate::flat::{Gone, go};
 use crate::item::{Item, ItemContext, Stop, StoppedItem};
 use crate::limits::BUDGET;
-use crate::location::{Extent, Location};
+use crate::location::Extent;
 use crate::memory::Memory;
+use crate::registers::Registers;
 use kernel_check::Program;
 use queue_error::{Rule, SegmentAddress};
 use std::alloc::Global;
@@ -34,20 +38,30 @@ pub fn id_of(sizes: &Extent, number: u32) -> Extent
     }
 }
 
-/// What surrounds the item of a number.
-fn context_of_item<'a>(context: &ItemContext<'a>, number: u32) -> ItemContext<'a>
-    requires x { 1 ≤ context.now.location.current_size.x }
-    requires y { 1 ≤ context.now.location.current_size.y }
-    ensures surroundings { surroundings result ≡ context_of_item (surroundings context.now) number }
-    ensures arguments { result.arguments.now ≡ context.now.arguments.now }
+/// The id behind one, where ids of these sizes are numbered with x fastest.
+#[inline(always)]
+pub fn id_behind(sizes: &Extent, id: &Extent) -> Extent
+    requires x { id.now.x < sizes.now.x }
+    requires y { id.now.y < sizes.now.y }
+    requires z { id.now.z + 1 < 2 ^ 32 }
+    ensures { (number : ℕ) → id.now ≡ id_of sizes.now number → result ≡ id_of sizes.now (number + 1) }
 {
-    let location = Location {
-        item: id_of(&context.location.current_size, number),
-        ..context.location
-    };
-    ItemContext {
-        location,
-        ..*context
+    let x = id.x + 1;
+    if x < sizes.x {
+        return Extent {
+            x,
+            y: id.y,
+            z: id.z,
+        };
+    }
+    let y = id.y + 1;
+    if y < sizes.y {
+        return Extent { x: 0, y, z: id.z };
+    }
+    Extent {
+        x: 0,
+        y: 0,
+        z: id.z + 1,
     }
 }
 
@@ -88,77 +102,150 @@ pub fn run_item(
     number: u32,
     stopped: &mut StoppedItem,
     memory: &mut Memory,
-) -> Result<(), RunFault>
+    broken: &mut RunFault,
+) -> bool
     requires arguments { length context.now.arguments.now ≡ program.now.argument_bytes }
-    requires x { 1 ≤ context.now.location.current_size.x }
-    requires y { 1 ≤ context.now.location.current_size.y }
+    requires item { context.now.location.item ≡ id_of context.now.location.current_size number }
     requires within { stopped.old.executed ≤ BUDGET }
-    ensures ok { OnOk result (ItemRuns (surroundings context.now) program.now number
-        (ready stopped.old.item stopped.old.executed) (contents memory.old) (standing stopped.new) (contents memory.new)) }
-    ensures err { IfErr result (ItemFails (surroundings context.now) program.now number
-        (ready stopped.old.item stopped.old.executed) (contents memory.old)) }
+    ensures comes { ItemComes (surroundings context.now) program.now number
+        (ready stopped.old.item stopped.old.executed) (contents memory.old) result (standing stopped.new) (contents memory.new) broken.new }
+    ensures rest { LeavesRest program.now.steps result stopped.old.item.registers stopped.new.item.registers }
 {
-    let own = context_of_item(context, number);
     let flat_steps = program.flat_steps();
     let mut left = BUDGET - stopped.executed;
     let mut next = stopped.item.next;
     'turns: while left > 0 {
         let Some(flat) = flat_steps.get(next) else {
             stopped.stop = Stop::End;
-            return Ok(());
+            return true;
         };
         left -= 1;
-        match go(alloc, &own, &mut stopped.item.registers, next, memory, flat) {
+        match go(
+            alloc,
+            context,
+            &mut stopped.item.registers,
+            next,
+            memory,
+            flat,
+        ) {
             Gone::Onward => next += 1,
             Gone::Next(after) => next = after,
             Gone::Arrived => {
                 stopped.item.next = next + 1;
                 stopped.executed = BUDGET - left;
                 stopped.stop = Stop::Barrier;
-                return Ok(());
+                return true;
             }
             Gone::Ended => {
                 stopped.stop = Stop::End;
-                return Ok(());
+                return true;
             }
-            Gone::Broke(rule, address) => return Err(fault(
-                program,
-                number,
-                next,
-                rule,
-                Some(address),
-            )),
-            Gone::OutOfMemory => return Err(RunFault::OutOfMemory),
+            Gone::Broke(rule, address) => {
+                tell(broken, program, number, next, rule, address);
+                return false;
+            }
+            Gone::OutOfMemory => {
+                tell_want(broken);
+                return false;
+            }
             Gone::Other => {
                 stopped.item.next = next;
-                match turn(alloc, &own, program, &mut stopped.item, memory) {
+                match turn(alloc, context, program, &mut stopped.item, memory) {
                     Outcome::GoesOn => next = stopped.item.next,
                     Outcome::Arrived => {
                         stopped.executed = BUDGET - left;
                         stopped.stop = Stop::Barrier;
-                        return Ok(());
+                        return true;
                     }
                     Outcome::Ended => {
+                        stopped.item.registers = Registers::cleared();
                         stopped.stop = Stop::End;
-                        return Ok(());
+                        return true;
                     }
-                    Outcome::Broke(rule, address) => return Err(fault(
-                        program,
-                        number,
-                        next,
-                        rule,
-                        Some(address),
-                    )),
-                    Outcome::OutOfMemory => return Err(RunFault::OutOfMemory),
+                    Outcome::Broke(rule, address) => {
+                        tell(broken, program, number, next, rule, address);
+                        return false;
+                    }
+                    Outcome::OutOfMemory => {
+                        tell_want(broken);
+                        return false;
+                    }
                 }
             }
         }
     }
     if next < program.steps().len() {
-        return Err(fault(program, number, next, Rule::A5, None));
+        tell_spent(broken, program, number, next);
+        return false;
     }
     stopped.stop = Stop::End;
-    Ok(())
+    true
+}
+
+/// Tells the fault of an item that broke a rule at a step by an access to an address.
+#[inline(always)]
+fn tell(
+    broken: &mut RunFault,
+    program: &Program,
+    item: u32,
+    step: usize,
+    rule: Rule,
+    address: SegmentAddress,
+)
+    ensures { broken.new ≡ fault_arm.Fault (record { item = item; line = slice_index program.now.lines step; rule = rule; address = Some address }) }
+{
+    match address {
+        SegmentAddress::Global(address) => tell_global(broken, program, item, step, rule, address),
+        SegmentAddress::Group(address) => tell_group(broken, program, item, step, rule, address),
+    }
+}
+
+/// Tells that of an access to global memory. What runs items makes no value for it, and so has no room to clear.
+#[inline(never)]
+fn tell_global(
+    broken: &mut RunFault,
+    program: &Program,
+    item: u32,
+    step: usize,
+    rule: Rule,
+    address: u64,
+)
+    ensures { broken.new ≡ fault_arm.Fault (record { item = item; line = slice_index program.now.lines step; rule = rule; address = Some (segment.Global address) }) }
+{
+    let address = SegmentAddress::Global(address);
+    *broken = fault(program, item, step, rule, Some(address));
+}
+
+/// Tells that of an access to group memory.
+#[inline(never)]
+fn tell_group(
+    broken: &mut RunFault,
+    program: &Program,
+    item: u32,
+    step: usize,
+    rule: Rule,
+    address: u32,
+)
+    ensures { broken.new ≡ fault_arm.Fault (record { item = item; line = slice_index program.now.lines step; rule = rule; address = Some (segment.Group address) }) }
+{
+    let address = SegmentAddress::Group(address);
+    *broken = fault(program, item, step, rule, Some(address));
+}
+
+/// Tells that an item has spent its budget at a step.
+#[inline(never)]
+fn tell_spent(broken: &mut RunFault, program: &Program, item: u32, step: usize)
+    ensures { broken.new ≡ fault_arm.Fault (record { item = item; line = slice_index program.now.lines step; rule = A5; address = None }) }
+{
+    *broken = fault(program, item, step, Rule::A5, None);
+}
+
+/// Tells want of memory.
+#[inline(never)]
+fn tell_want(broken: &mut RunFault)
+    ensures { broken.new ≡ fault_arm.OutOfMemory }
+{
+    *broken = RunFault::OutOfMemory;
 }
 
 /// The fault of an item at a step, by an access to an address or by none.

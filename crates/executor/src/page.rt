@@ -147,7 +147,7 @@ impl Page {
 /// Where the next bits begin that are set, from a place on, and where they end: behind the last place where
 /// none is.
 #[inline(always)]
-fn next_run(mask: u64, place: usize) -> (usize, usize)
+pub fn next_run(mask: u64, place: usize) -> (usize, usize)
     requires { place < 64 }
     ensures { NextRun mask place result.0 result.1 }
 {

@@ -1,5 +1,6 @@
 //! The registers of a work-item, and what operations read and set in them.
-ghost use Rattle.std.specs.Prelude.{◌≡◌, false};
+ghost use Rattle.std.specs.Prelude.{◌≡◌, true, false};
+ghost use Rattle.executor.specs.inner.Few.{RestIsZero};
 ghost use Rattle.executor.specs.Registers.{cleared, read1, read32, read64, read_any, with1, with32, with64, with_any};
 
 use kernel_check::{AnyRegister, AnySource, RegisterNumber, Source1, Source32, Source64};
@@ -26,6 +27,42 @@ impl Registers {
             double: [0; 64],
             control: [false; 64],
         }
+    }
+
+    /// Sets all to zero; or the first eight of each class, where the others are zero.
+    #[inline(always)]
+    pub fn clear(&mut self, few: bool)
+        requires { few ≡ true → RestIsZero self.old }
+        ensures { self.new ≡ cleared }
+    {
+        if !few {
+            *self = Registers::cleared();
+            return;
+        }
+        self.single[0] = 0;
+        self.single[1] = 0;
+        self.single[2] = 0;
+        self.single[3] = 0;
+        self.single[4] = 0;
+        self.single[5] = 0;
+        self.single[6] = 0;
+        self.single[7] = 0;
+        self.double[0] = 0;
+        self.double[1] = 0;
+        self.double[2] = 0;
+        self.double[3] = 0;
+        self.double[4] = 0;
+        self.double[5] = 0;
+        self.double[6] = 0;
+        self.double[7] = 0;
+        self.control[0] = false;
+        self.control[1] = false;
+        self.control[2] = false;
+        self.control[3] = false;
+        self.control[4] = false;
+        self.control[5] = false;
+        self.control[6] = false;
+        self.control[7] = false;
     }
 
     /// One bit.

@@ -1,7 +1,8 @@
 //! The items of a work-group, from barrier to barrier.
-ghost use Rattle.std.specs.Prelude.{◌≡◌, ◌+◌, ◌-◌, ◌≤◌, IfOk, IfErr, OnOk, length, map};
+ghost use Rattle.std.specs.Prelude.{◌≡◌, ◌+◌, ◌-◌, ◌≤◌, true, IfOk, IfErr, OnOk, length, map};
 ghost use Rattle.std.specs.List.{list_all};
-ghost use Rattle.executor.specs.Group.{beginning, done, running, least_waiting, waits_before, Leads};
+ghost use Rattle.executor.specs.Group.{beginning, context_of_item, done, running, least_waiting, waits_before, Leads};
+ghost use Rattle.executor.specs.inner.Few.{SetFew};
 ghost use Rattle.executor.specs.inner.Held.{contents, surroundings};
 ghost use Rattle.executor.specs.Locations.{count_of};
 ghost use Rattle.executor.specs.Runs.{Fails};
@@ -10,8 +11,9 @@ ghost use Rattle.executor.specs.declared.limits.TheConstants.{MOST_GROUP_ITEMS};
 
 use crate::fault::RunFault;
 use crate::item::{ItemContext, StoppedItem};
-use crate::item_run::{fault, run_item};
+use crate::item_run::{fault, id_behind, run_item};
 use crate::memory::Memory;
+use crate::registers_set::set_few;
 use kernel_check::Program;
 use queue_error::Rule;
 use std::alloc::{AllocError, Global};
@@ -73,28 +75,57 @@ fn run_to_first_barrier(
 ) -> Result<Vec<StoppedItem>, RunFault>
     requires arguments { length context.now.arguments.now ≡ program.now.argument_bytes }
     requires count { count ≡ count_of context.now.location.current_size }
+    requires few { count ≤ MOST_GROUP_ITEMS }
     ensures ok { IfOk result (λ stopped. Leads (surroundings context.now) program.now (beginning count (contents memory.old))
         (running (after (count - length stopped.items) (map standing stopped.items)) (contents memory.new))) }
     ensures few { IfOk result (λ stopped. length stopped.items ≤ count) }
     ensures err { IfErr result (Fails (surroundings context.now) program.now (beginning count (contents memory.old))) }
 {
     let mut stopped: Vec<StoppedItem> = Vec::new(alloc);
+    let mut own = first_of(context);
+    let mut broken = RunFault::OutOfMemory;
+    let few = sets_few(program, count);
+    let mut item = StoppedItem::fresh();
     'items: for number in 0..count {
-        let mut item = StoppedItem::fresh();
-        if let Err(fault) = run_item(alloc, context, program, number, &mut item, memory) {
-            return Err(fault);
+        item.begin_anew(few);
+        if !run_item(alloc, &own, program, number, &mut item, memory, &mut broken) {
+            return Err(broken);
         }
-        keep_stopped(&mut stopped, item)?;
+        keep_stopped(&mut stopped, &item)?;
+        let item_behind = id_behind(&own.location.current_size(), &own.location.item_id());
+        own.location.move_to(&item_behind);
     }
     Ok(stopped)
 }
 
+/// Whether a kernel sets few registers, where so many items gain more by it than a look at each step costs.
+fn sets_few(program: &Program, count: u32) -> bool
+    ensures { result ≡ true → SetFew program.now.steps }
+{
+    let steps = program.steps();
+    if steps.len() / 8 < count as usize {
+        return set_few(steps);
+    }
+    false
+}
+
+/// What surrounds the first item of a group.
+fn first_of<'a>(context: &ItemContext<'a>) -> ItemContext<'a>
+    ensures { surroundings result ≡ context_of_item (surroundings context.now) 0 }
+{
+    ItemContext {
+        arguments: context.arguments,
+        view: context.view,
+        location: context.location.first(),
+    }
+}
+
 /// Puts an item behind others, but one that ended before any waits.
-fn keep_stopped(stopped: &mut Vec<StoppedItem>, item: StoppedItem) -> Result<(), AllocError>
-    ensures { OnOk result (stopped.new.items ≡ keep_stopped stopped.old.items item) }
+fn keep_stopped(stopped: &mut Vec<StoppedItem>, item: &StoppedItem) -> Result<(), AllocError>
+    ensures { OnOk result (stopped.new.items ≡ keep_stopped stopped.old.items item.now) }
 {
     if stopped.len() > 0 || item.waits() {
-        stopped.push(item)?;
+        stopped.push(*item)?;
     }
     Ok(())
 }
@@ -116,11 +147,23 @@ fn run_past_barrier(
     ensures count { OnOk result (length stopped.new ≡ length stopped.old) }
     ensures err { IfErr result (Fails (surroundings context.now) program.now (running (stopped_again 0 stopped.old) (contents memory.old))) }
 {
+    let mut own = first_of(context);
+    let mut broken = RunFault::OutOfMemory;
     'items: for number in 0..stopped.len() {
         let item = &mut stopped[number];
-        if let Err(fault) = run_item(alloc, context, program, number as u32, item, memory) {
-            return Err(fault);
+        if !run_item(
+            alloc,
+            &own,
+            program,
+            number as u32,
+            item,
+            memory,
+            &mut broken,
+        ) {
+            return Err(broken);
         }
+        let item_behind = id_behind(&own.location.current_size(), &own.location.item_id());
+        own.location.move_to(&item_behind);
     }
     Ok(())
 }

@@ -1,15 +1,14 @@
 //! What a work-group has written.
-ghost use Rattle.std.specs.Prelude.{◌≡◌, ◌+◌, ◌%◌, ◌^◌, ◌<◌, ◌≤◌, ℕ, List, None, OnOk, OnErr, IfOk, length, max, take};
+ghost use Rattle.std.specs.Prelude.{◌≡◌, ◌+◌, ◌%◌, ◌^◌, ◌<◌, ◌≤◌, ℕ, List, None, OnOk, OnErr, IfOk, length, nat_lt, take, true};
 ghost use Rattle.std.specs.Int.{w64, to_le_bytes};
-ghost use Rattle.executor.specs.inner.Pages.{byte_at, BreaksOff};
+ghost use Rattle.executor.specs.inner.Pages.{byte_at, BreaksOff, Parts, PlaceOf, StandsAt};
 ghost use Rattle.executor.specs.Written.{laid, seen, AreRuns};
 ghost use Rattle.executor.specs.Told.{runs_of};
 ghost use Rattle.executor.specs.inner.Words.{laid_if, or_below, seen_number};
 
+use crate::chunk::Chunk;
 use crate::word;
 use crate::written_range::WrittenRange;
-use crate::written_region::WrittenRegion;
-use aql_packet::REGION_SPAN;
 use byteorder::{ByteOrder, LittleEndian};
 use sequences::Sequence;
 use std::alloc::{AllocError, Global};
@@ -18,23 +17,42 @@ use std::marker::Model;
 /// How many bytes a page has.
 const PAGE: usize = 64;
 
+/// How many addresses a chunk covers.
+const CHUNK: u64 = 1 << 13;
+
+/// How many chunks are found without a search, by the low bits of their numbers.
+const HINTS: usize = 16;
+
+/// No chunk's number.
+const NO_CHUNK: u64 = u64::MAX;
+
 /// What a work-group has written so far, over memory that stays as it is: a finite map from address to
-/// byte, which a contract sees by `byte_at`. It takes memory for what was written to, and a store or a
-/// load makes the same few look-ups whatever was written before: region, chunk, page, mask.
+/// byte, which a contract sees by `byte_at`. It takes memory for the pages that were written to. A store or a
+/// load in the chunk that got a page last makes the same few look-ups whatever was written before: chunk, page,
+/// mask. Another chunk is looked for where the last with the low bits of its number stood, then by halves.
 #[derive(Drop, Debug)]
 pub struct WrittenBytes {
-    regions: Vec<WrittenRegion>,
+    // The chunks that were written to, by ascending number.
+    chunks: Vec<Chunk>,
+    // Where the chunk that was made or got a page last stands, and its number.
+    last: usize,
+    last_number: u64,
+    // No chunk has a number before this one, and none from the end on.
+    begin: u64,
+    end: u64,
+    // By the low bits of a number, where the chunk of such a number likely stands.
+    hints: [usize; HINTS],
 }
 
 impl Model for WrittenBytes {
-    ghost use Rattle.std.specs.Prelude.{◌≤◌, ◌^◌, List, length};
-    ghost use Rattle.executor.specs.declared.page.Page.{Page};
+    ghost use Rattle.std.specs.Prelude.{List};
+    ghost use Rattle.executor.specs.inner.Pages.{ChunkSeen, IsWritten};
 
-    ghost Value = { List (List (List Page)) };
+    ghost Value = { List ChunkSeen };
 
-    ghost view = { λ x. x.regions.items };
+    ghost view = { λ x. x.chunks.items };
 
-    ghost invariant = { λ x. length x.regions.items ≤ 2 ^ 32 };
+    ghost invariant = { λ x. IsWritten x.chunks.items x.last x.last_number x.begin x.end };
 }
 
 impl WrittenBytes {
@@ -43,7 +61,12 @@ impl WrittenBytes {
         ensures { (address : ℕ) → byte_at result address ≡ None }
     {
         WrittenBytes {
-            regions: Vec::new(alloc),
+            chunks: Vec::new(alloc),
+            last: 0,
+            last_number: NO_CHUNK,
+            begin: NO_CHUNK,
+            end: 0,
+            hints: [0; HINTS],
         }
     }
 
@@ -131,8 +154,9 @@ impl WrittenBytes {
         ensures value { IfOk result (λ runs. runs ≡ runs_of (byte_at self.now)) }
     {
         let mut runs = Vec::new(alloc);
-        for index in 0..self.regions.len() {
-            self.regions[index].add_runs(alloc, index as u64 * REGION_SPAN, &mut runs)?;
+        for index in 0..self.chunks.len() {
+            let chunk = &self.chunks[index];
+            chunk.add_runs(alloc, chunk.number() * CHUNK, &mut runs)?;
         }
         Ok(Sequence::from_vec(runs))
     }
@@ -144,9 +168,8 @@ impl WrittenBytes {
         ensures ok { OnOk result ((x : ℕ) → byte_at self.new x ≡ laid (byte_at self.old) address bytes.now x) }
         ensures err { OnErr result ((x : ℕ) → byte_at self.new x ≡ byte_at self.old x) }
     {
-        let index = (address / REGION_SPAN) as usize;
-        grow(alloc, &mut self.regions, index + 1)?;
-        self.regions[index].store(alloc, (address % REGION_SPAN) as usize, bytes)?;
+        let chunk = self.chunk_made(alloc, address / CHUNK)?;
+        self.chunks[chunk].store((address % CHUNK) as usize, bytes)?;
         Ok(())
     }
 
@@ -158,11 +181,9 @@ impl WrittenBytes {
         requires page { address % 64 + length below.now ≤ 64 }
         ensures { or_below result below.now ≡ seen_number (byte_at self.now) address below.now }
     {
-        let index = (address / REGION_SPAN) as usize;
-        if index < self.regions.len() {
-            self.regions[index].read((address % REGION_SPAN) as usize, below)
-        } else {
-            None
+        match self.place_of(address / CHUNK) {
+            Some(chunk) => self.chunks[chunk].read((address % CHUNK) as usize, below),
+            None => None,
         }
     }
 
@@ -188,11 +209,10 @@ impl WrittenBytes {
         requires page { address % 64 + size ≤ 64 }
         ensures { (x : ℕ) → byte_at self.new x ≡ laid_if result (byte_at self.old) address (take size (to_le_bytes w64 value)) x }
     {
-        let index = (address / REGION_SPAN) as usize;
-        if index >= self.regions.len() {
-            return false;
+        match self.place_of(address / CHUNK) {
+            Some(chunk) => self.chunks[chunk].overwrite((address % CHUNK) as usize, size, value),
+            None => false,
         }
-        self.regions[index].overwrite((address % REGION_SPAN) as usize, size, value)
     }
 
     /// Writes a number's low bytes, and makes the pages that they lie in.
@@ -220,21 +240,89 @@ impl WrittenBytes {
         requires { address % 64 + length buffer.old ≤ 64 }
         ensures { buffer.new ≡ seen (byte_at self.now) address buffer.old }
     {
-        let index = (address / REGION_SPAN) as usize;
-        if index < self.regions.len() {
-            self.regions[index].load((address % REGION_SPAN) as usize, buffer);
+        if let Some(chunk) = self.place_of(address / CHUNK) {
+            self.chunks[chunk].load((address % CHUNK) as usize, buffer);
         }
     }
-}
 
-/// Puts regions in which nothing is written behind others, until there are so many.
-fn grow(alloc: Global, regions: &mut Vec<WrittenRegion>, count: usize) -> Result<(), AllocError>
-    ensures enough { OnOk result (count ≤ length regions.new.items) }
-    ensures few { length regions.new.items ≤ max count (length regions.old.items) }
-    ensures bytes { (x : ℕ) → byte_at regions.new.items x ≡ byte_at regions.old.items x }
-{
-    for _ in regions.len()..count {
-        regions.push(WrittenRegion::new(alloc))?;
+    /// Where the chunk of a number stands, if it is there.
+    #[inline(always)]
+    fn place_of(&self, number: u64) -> Option<usize>
+        requires { number < 2 ^ 51 }
+        ensures { PlaceOf self.now number result }
+    {
+        if number == self.last_number {
+            return Some(self.last);
+        }
+        if number < self.begin {
+            return None;
+        }
+        if number >= self.end {
+            return None;
+        }
+        let hint = self.hints[(number % HINTS as u64) as usize];
+        if self.stands_at(hint, number) {
+            return Some(hint);
+        }
+        self.search(number)
     }
-    Ok(())
+
+    /// Whether the chunk of a number stands at a place.
+    #[inline(always)]
+    fn stands_at(&self, place: usize, number: u64) -> bool
+        ensures { result ≡ true → StandsAt self.now place number }
+    {
+        if place >= self.chunks.len() {
+            return false;
+        }
+        self.chunks[place].number() == number
+    }
+
+    /// Where the chunk of a number stands, found by halves, if it is there.
+    #[inline(never)]
+    fn search(&self, number: u64) -> Option<usize>
+        ensures { PlaceOf self.now number result }
+    {
+        let place = self.place_from(number);
+        if place >= self.chunks.len() {
+            return None;
+        }
+        let found = self.chunks[place].number();
+        if found == number { Some(place) } else { None }
+    }
+
+    /// How many chunks have lesser numbers.
+    fn place_from(&self, number: u64) -> usize
+        ensures { Parts self.now number result }
+    {
+        self.chunks.as_slice().partition_point(
+            |chunk: &Chunk| -> bool
+                ensures { result ≡ nat_lt chunk.now.number number }
+            { chunk.number() < number },
+        )
+    }
+
+    /// Where the chunk of a number stands, which is made if it isn't there, and is the last from now on. No
+    /// byte is written.
+    fn chunk_made(&mut self, alloc: Global, number: u64) -> Result<usize, AllocError>
+        requires { number < 2 ^ 51 }
+        ensures bytes { (x : ℕ) → byte_at self.new x ≡ byte_at self.old x }
+        ensures place { IfOk result (λ place. StandsAt self.new place number) }
+    {
+        if let Some(known) = self.place_of(number) {
+            self.last = known;
+            self.last_number = number;
+            self.hints[(number % HINTS as u64) as usize] = known;
+            return Ok(known);
+        }
+        let place = self.place_from(number);
+        let chunk = Chunk::new(alloc, number)?;
+        self.chunks.insert(place, chunk)?;
+        self.last = place;
+        self.last_number = number;
+        self.hints[(number % HINTS as u64) as usize] = place;
+        self.begin = self.begin.min(number);
+        self.end = self.end.max(number + 1);
+        Ok(place)
+    }
 }

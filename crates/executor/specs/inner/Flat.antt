@@ -13,13 +13,13 @@ Makes None a before next m x = ⊥
 Makes (Some s) a before next m x = act a (record { registers = before; next = next }) m s ≡ x
 
 -- an item at a step goes on with other registers, at the next step or at the one that is told, arrives at a barrier with its next step
--- behind it, ends, or breaks a rule by an access to an address; without memory nothing is said, and where nothing is
+-- behind it, ends with the registers that it had, or breaks a rule by an access to an address; without memory nothing is said, and where nothing is
 -- told all stays
 abbrev pub Goes : Option Step → Surroundings → Registers → ℕ → Contents → Gone → Registers → Contents → Type 0
 Goes s a before next m gone.Onward after now = Makes s a before next m (goes_on (record { registers = after; next = next + 1 }) now)
 Goes s a before next m (gone.Next then) after now = Makes s a before next m (goes_on (record { registers = after; next = then }) now)
 Goes s a before next m gone.Arrived after now = Makes s a before next m (arrives (record { registers = after; next = next + 1 }) now)
-Goes s a before next m gone.Ended after now = Makes s a before next m (ends now)
+Goes s a before next m gone.Ended after now = (after ≡ before) × Makes s a before next m (ends now)
 Goes s a before next m (gone.Broke rule address) after now = Makes s a before next m (broke rule (Some address))
 Goes s a before next m gone.OutOfMemory after now = Unit {0}
 Goes s a before next m gone.Other after now = (after ≡ before) × (now ≡ m)

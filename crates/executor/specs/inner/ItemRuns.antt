@@ -1,5 +1,5 @@
 -- What running one work-item of a group answers (own).
-use Rattle.std.specs.Prelude.{◌≡◌, ℕ, List, ◌∷◌, ◌++◌, length}
+use Rattle.std.specs.Prelude.{◌≡◌, ℕ, Bool, true, false, List, ◌∷◌, ◌++◌, length}
 use Rattle.executor.specs.Group.{Standing, running, faulted, Leads}
 use Rattle.executor.specs.Items.{Contents, Surroundings}
 use Rattle.executor.specs.inner.Stops.{AreStopped}
@@ -17,3 +17,8 @@ abbrev pub ItemFails : Surroundings → Program → ℕ → Standing → Content
 ItemFails a p n from before fault.OutOfMemory = Unit {0}
 ItemFails a p n from before (fault.Fault f) = (earlier rest : List Standing) → AreStopped earlier → length earlier ≡ n
     → Leads a p (running (earlier ++ from ∷ rest) before) (faulted f)
+
+-- what came of an item: it ran until it stopped, or it broke a rule
+abbrev pub ItemComes : Surroundings → Program → ℕ → Standing → Contents → Bool → Standing → Contents → RunFault → Type 0
+ItemComes a p n from before true to now fault = ItemRuns a p n from before to now
+ItemComes a p n from before false to now fault = ItemFails a p n from before fault

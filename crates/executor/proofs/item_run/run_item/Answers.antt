@@ -4,17 +4,20 @@ use Rattle.executor.specs.Group.{ready, context_of_item}
 use Rattle.executor.specs.Meaning.{turn, goes_on, arrives, ends, broke}
 use Rattle.executor.specs.declared.fault.RunFault.{RunFault}
 use Rattle.executor.specs.declared.item.Item.{Item}
+use Rattle.executor.specs.inner.Few.{RestIsZero}
 use Rattle.executor.specs.inner.Held.{contents, surroundings}
 use Rattle.executor.specs.inner.ItemRuns.{ItemFails}
 use Rattle.queue_error.specs.declared.rule.Rule.TheVariants.{A5}
 use Rattle.executor.proofs.FlatLemmas.{flat_turn}
 use Rattle.executor.proofs.GroupLemmas.{spent, stops}
 use Rattle.executor.proofs.ItemLemmas.{reached_more, reached_arrives, reached_ends, reached_breaks, turn_alike}
+use Rattle.executor.proofs.FewLemmas.{cleared_rest, kept_on, kept_there}
 use Rattle.executor.proofs.Maps.{get_read}
+use Rattle.executor.proofs.PlaceLemmas.{in_place}
 use Rattle.executor.proofs.item_run.run_item.Goals as goal
 
-pub returns-in_default-clause-ok : goal.returns-in_default-clause-ok
-returns-in_default-clause-ok c =
+pub returns-in_default-clause-comes : goal.returns-in_default-clause-comes
+returns-in_default-clause-comes c =
     let a = surroundings c.args.context.now in
     let p = c.args.program.now in
     let n = c.args.number in
@@ -26,7 +29,7 @@ returns-in_default-clause-ok c =
     let before = contents c.args.memory.now in
     let far : length c.flat_steps-flat_steps.result.now ≤ next = search rules in
     let past : length p.steps ≤ next = omega (arith, far, c.flat_steps-flat_steps.ensures.count) in
-    reached_ends a p n first before (record { registers = r; next = next }) left m c.turns.invariant.1 m (stops (context_of_item a n) p.steps (record { registers = r; next = next }) (65536 - left) m past)
+    reached_ends a p n first before (record { registers = r; next = next }) left m c.turns.invariant.1.0 m (stops (context_of_item a n) p.steps (record { registers = r; next = next }) (65536 - left) m past)
 
 pub turns-preserved-in-Next : goal.turns-preserved-in-Next
 turns-preserved-in-Next c =
@@ -45,15 +48,18 @@ turns-preserved-in-Next c =
     let flats = c.flat_steps-flat_steps.result.now in
     let found : slice_get flats next ≡ Some c.in-Some.flat.now = get_read flats next c.in-Some.flat.now c.in-Some.ensures.lookup.1 c.in-Some.ensures.lookup.3.0 in
     let is : turn (context_of_item a n) p.steps (record { registers = r; next = next }) (65536 - left) m ≡ goes_on (record { registers = c.go.new.r; next = c.in-Next.after }) (contents c.go.new.memory) =
-    flat_turn (surroundings c.context_of_item-own.result) (context_of_item a n) flats p.steps r next m c.in-Some.flat.now (goes_on (record { registers = c.go.new.r; next = c.in-Next.after }) (contents c.go.new.memory))
-    c.context_of_item-own.ensures.surroundings c.flat_steps-flat_steps.ensures.value found c.in-Next.ensures (65536 - left) spent_less in (
+    flat_turn a (context_of_item a n) flats p.steps r next m c.in-Some.flat.now (goes_on (record { registers = c.go.new.r; next = c.in-Next.after }) (contents c.go.new.memory))
+    (in_place a n c.requires.item) c.flat_steps-flat_steps.ensures.value found c.in-Next.ensures (65536 - left) spent_less in (
       omega (arith, few),
-      reached_more a p n first before (record { registers = r; next = next }) left m c.turns.invariant.1
-          (record { registers = c.go.new.r; next = c.in-Next.after }) (contents c.go.new.memory) few some is,
+      (
+        reached_more a p n first before (record { registers = r; next = next }) left m c.turns.invariant.1.0
+            (record { registers = c.go.new.r; next = c.in-Next.after }) (contents c.go.new.memory) few some is,
+        λ few rest. kept_on (context_of_item a n) (record { registers = r; next = next }) m (c.turns.invariant.1.1 few rest) p.steps few (65536 - left) (record { registers = c.go.new.r; next = c.in-Next.after }) (contents c.go.new.memory) is,
+      ),
     )
 
-pub returns-in-Broke-clause-err : goal.returns-in-Broke-clause-err
-returns-in-Broke-clause-err c =
+pub returns-in-Broke-clause-comes : goal.returns-in-Broke-clause-comes
+returns-in-Broke-clause-comes c =
     let a = surroundings c.args.context.now in
     let p = c.args.program.now in
     let n = c.args.number in
@@ -69,10 +75,10 @@ returns-in-Broke-clause-err c =
     let flats = c.flat_steps-flat_steps.result.now in
     let found : slice_get flats next ≡ Some c.in-Some.flat.now = get_read flats next c.in-Some.flat.now c.in-Some.ensures.lookup.1 c.in-Some.ensures.lookup.3.0 in
     let is : turn (context_of_item a n) p.steps (record { registers = r; next = next }) (65536 - left) m ≡ broke c.in-Broke.rule (Some c.in-Broke.address) =
-    flat_turn (surroundings c.context_of_item-own.result) (context_of_item a n) flats p.steps r next m c.in-Some.flat.now (broke c.in-Broke.rule (Some c.in-Broke.address))
-    c.context_of_item-own.ensures.surroundings c.flat_steps-flat_steps.ensures.value found c.in-Broke.ensures (65536 - left) spent_less in
-    subst (λ (f : RunFault). ItemFails a p n first before f) (sym c.fault.ensures)
-    (reached_breaks a p n first before (record { registers = r; next = next }) left m c.turns.invariant.1 c.in-Broke.rule (Some c.in-Broke.address) is)
+    flat_turn a (context_of_item a n) flats p.steps r next m c.in-Some.flat.now (broke c.in-Broke.rule (Some c.in-Broke.address))
+    (in_place a n c.requires.item) c.flat_steps-flat_steps.ensures.value found c.in-Broke.ensures (65536 - left) spent_less in
+    subst (λ (f : RunFault). ItemFails a p n first before f) (sym c.tell.ensures)
+    (reached_breaks a p n first before (record { registers = r; next = next }) left m c.turns.invariant.1.0 c.in-Broke.rule (Some c.in-Broke.address) is)
 
 pub turns-preserved-in-Onward : goal.turns-preserved-in-Onward
 turns-preserved-in-Onward c =
@@ -92,14 +98,14 @@ turns-preserved-in-Onward c =
     let found : slice_get flats next ≡ Some c.in-Some.flat.now = get_read flats next c.in-Some.flat.now c.in-Some.ensures.lookup.1 c.in-Some.ensures.lookup.3.0 in
     let there : Item = record { registers = c.go.new.r; next = next + 1 } in
     let is : turn (context_of_item a n) p.steps (record { registers = r; next = next }) (65536 - left) m ≡ goes_on there (contents c.go.new.memory) =
-    flat_turn (surroundings c.context_of_item-own.result) (context_of_item a n) flats p.steps r next m c.in-Some.flat.now (goes_on there (contents c.go.new.memory))
-    c.context_of_item-own.ensures.surroundings c.flat_steps-flat_steps.ensures.value found c.in-Onward.ensures (65536 - left) spent_less in (
+    flat_turn a (context_of_item a n) flats p.steps r next m c.in-Some.flat.now (goes_on there (contents c.go.new.memory))
+    (in_place a n c.requires.item) c.flat_steps-flat_steps.ensures.value found c.in-Onward.ensures (65536 - left) spent_less in (
       omega (arith, few),
-      reached_more a p n first before (record { registers = r; next = next }) left m c.turns.invariant.1 there (contents c.go.new.memory) few some is,
+      (reached_more a p n first before (record { registers = r; next = next }) left m c.turns.invariant.1.0 there (contents c.go.new.memory) few some is, λ few rest. kept_on (context_of_item a n) (record { registers = r; next = next }) m (c.turns.invariant.1.1 few rest) p.steps few (65536 - left) (there) (contents c.go.new.memory) is),
     )
 
-pub returns-in-Arrived-clause-ok : goal.returns-in-Arrived-clause-ok
-returns-in-Arrived-clause-ok c =
+pub returns-in-Arrived-clause-comes : goal.returns-in-Arrived-clause-comes
+returns-in-Arrived-clause-comes c =
     let a = surroundings c.args.context.now in
     let p = c.args.program.now in
     let n = c.args.number in
@@ -116,12 +122,12 @@ returns-in-Arrived-clause-ok c =
     let found : slice_get flats next ≡ Some c.in-Some.flat.now = get_read flats next c.in-Some.flat.now c.in-Some.ensures.lookup.1 c.in-Some.ensures.lookup.3.0 in
     let there : Item = record { registers = c.go.new.r; next = next + 1 } in
     let is : turn (context_of_item a n) p.steps (record { registers = r; next = next }) (65536 - left) m ≡ arrives there (contents c.go.new.memory) =
-    flat_turn (surroundings c.context_of_item-own.result) (context_of_item a n) flats p.steps r next m c.in-Some.flat.now (arrives there (contents c.go.new.memory))
-    c.context_of_item-own.ensures.surroundings c.flat_steps-flat_steps.ensures.value found c.in-Arrived.ensures (65536 - left) spent_less in
-    reached_arrives a p n first before (record { registers = r; next = next }) left m c.turns.invariant.1 there (contents c.go.new.memory) few some is
+    flat_turn a (context_of_item a n) flats p.steps r next m c.in-Some.flat.now (arrives there (contents c.go.new.memory))
+    (in_place a n c.requires.item) c.flat_steps-flat_steps.ensures.value found c.in-Arrived.ensures (65536 - left) spent_less in
+    reached_arrives a p n first before (record { registers = r; next = next }) left m c.turns.invariant.1.0 there (contents c.go.new.memory) few some is
 
-pub returns-in-Ended-clause-ok : goal.returns-in-Ended-clause-ok
-returns-in-Ended-clause-ok c =
+pub returns-in-Ended-clause-comes : goal.returns-in-Ended-clause-comes
+returns-in-Ended-clause-comes c =
     let a = surroundings c.args.context.now in
     let p = c.args.program.now in
     let n = c.args.number in
@@ -137,9 +143,9 @@ returns-in-Ended-clause-ok c =
     let flats = c.flat_steps-flat_steps.result.now in
     let found : slice_get flats next ≡ Some c.in-Some.flat.now = get_read flats next c.in-Some.flat.now c.in-Some.ensures.lookup.1 c.in-Some.ensures.lookup.3.0 in
     let is : turn (context_of_item a n) p.steps (record { registers = r; next = next }) (65536 - left) m ≡ ends (contents c.go.new.memory) =
-    flat_turn (surroundings c.context_of_item-own.result) (context_of_item a n) flats p.steps r next m c.in-Some.flat.now (ends (contents c.go.new.memory))
-    c.context_of_item-own.ensures.surroundings c.flat_steps-flat_steps.ensures.value found c.in-Ended.ensures (65536 - left) spent_less in
-    reached_ends a p n first before (record { registers = r; next = next }) left m c.turns.invariant.1 (contents c.go.new.memory) is
+    flat_turn a (context_of_item a n) flats p.steps r next m c.in-Some.flat.now (ends (contents c.go.new.memory))
+    (in_place a n c.requires.item) c.flat_steps-flat_steps.ensures.value found c.in-Ended.ensures.1 (65536 - left) spent_less in
+    reached_ends a p n first before (record { registers = r; next = next }) left m c.turns.invariant.1.0 (contents c.go.new.memory) is
 
 pub turns-preserved : goal.turns-preserved
 turns-preserved c =
@@ -156,13 +162,13 @@ turns-preserved c =
     let some : 0 < left = omega arith in
     let spent_less : 65536 - left < 65536 = omega (arith, few, some) in
     let is : turn (context_of_item a n) p.steps (record { registers = r; next = next }) (65536 - left) m ≡ goes_on c.turn.new.item (contents c.turn.new.memory) =
-    turn_alike (surroundings c.context_of_item-own.result) (context_of_item a n) p.steps c.go.new.r r next (65536 - left) (contents c.go.new.memory) m (goes_on c.turn.new.item (contents c.turn.new.memory))
-    c.context_of_item-own.ensures.surroundings c.in-Other.ensures.0 c.in-Other.ensures.1
+    turn_alike a (context_of_item a n) p.steps c.go.new.r r next (65536 - left) (contents c.go.new.memory) m (goes_on c.turn.new.item (contents c.turn.new.memory))
+    (in_place a n c.requires.item) c.in-Other.ensures.0 c.in-Other.ensures.1
     (c.in-GoesOn.ensures (65536 - left) spent_less) in
-    (omega (arith, few), reached_more a p n first before (record { registers = r; next = next }) left m c.turns.invariant.1 c.turn.new.item (contents c.turn.new.memory) few some is)
+    (omega (arith, few), (reached_more a p n first before (record { registers = r; next = next }) left m c.turns.invariant.1.0 c.turn.new.item (contents c.turn.new.memory) few some is, λ few rest. kept_on (context_of_item a n) (record { registers = r; next = next }) m (c.turns.invariant.1.1 few rest) p.steps few (65536 - left) (c.turn.new.item) (contents c.turn.new.memory) is))
 
-pub returns-in-Arrived-turn-clause-ok : goal.returns-in-Arrived-turn-clause-ok
-returns-in-Arrived-turn-clause-ok c =
+pub returns-in-Arrived-turn-clause-comes : goal.returns-in-Arrived-turn-clause-comes
+returns-in-Arrived-turn-clause-comes c =
     let a = surroundings c.args.context.now in
     let p = c.args.program.now in
     let n = c.args.number in
@@ -176,13 +182,13 @@ returns-in-Arrived-turn-clause-ok c =
     let some : 0 < left = omega arith in
     let spent_less : 65536 - left < 65536 = omega (arith, few, some) in
     let is : turn (context_of_item a n) p.steps (record { registers = r; next = next }) (65536 - left) m ≡ arrives c.turn.new.item (contents c.turn.new.memory) =
-    turn_alike (surroundings c.context_of_item-own.result) (context_of_item a n) p.steps c.go.new.r r next (65536 - left) (contents c.go.new.memory) m (arrives c.turn.new.item (contents c.turn.new.memory))
-    c.context_of_item-own.ensures.surroundings c.in-Other.ensures.0 c.in-Other.ensures.1
+    turn_alike a (context_of_item a n) p.steps c.go.new.r r next (65536 - left) (contents c.go.new.memory) m (arrives c.turn.new.item (contents c.turn.new.memory))
+    (in_place a n c.requires.item) c.in-Other.ensures.0 c.in-Other.ensures.1
     (c.in-Arrived-turn.ensures (65536 - left) spent_less) in
-    reached_arrives a p n first before (record { registers = r; next = next }) left m c.turns.invariant.1 c.turn.new.item (contents c.turn.new.memory) few some is
+    reached_arrives a p n first before (record { registers = r; next = next }) left m c.turns.invariant.1.0 c.turn.new.item (contents c.turn.new.memory) few some is
 
-pub returns-in-Ended-turn-clause-ok : goal.returns-in-Ended-turn-clause-ok
-returns-in-Ended-turn-clause-ok c =
+pub returns-in-Ended-turn-clause-comes : goal.returns-in-Ended-turn-clause-comes
+returns-in-Ended-turn-clause-comes c =
     let a = surroundings c.args.context.now in
     let p = c.args.program.now in
     let n = c.args.number in
@@ -196,13 +202,13 @@ returns-in-Ended-turn-clause-ok c =
     let some : 0 < left = omega arith in
     let spent_less : 65536 - left < 65536 = omega (arith, few, some) in
     let is : turn (context_of_item a n) p.steps (record { registers = r; next = next }) (65536 - left) m ≡ ends (contents c.turn.new.memory) =
-    turn_alike (surroundings c.context_of_item-own.result) (context_of_item a n) p.steps c.go.new.r r next (65536 - left) (contents c.go.new.memory) m (ends (contents c.turn.new.memory))
-    c.context_of_item-own.ensures.surroundings c.in-Other.ensures.0 c.in-Other.ensures.1
+    turn_alike a (context_of_item a n) p.steps c.go.new.r r next (65536 - left) (contents c.go.new.memory) m (ends (contents c.turn.new.memory))
+    (in_place a n c.requires.item) c.in-Other.ensures.0 c.in-Other.ensures.1
     (c.in-Ended-turn.ensures (65536 - left) spent_less) in
-    reached_ends a p n first before (record { registers = r; next = next }) left m c.turns.invariant.1 (contents c.turn.new.memory) is
+    reached_ends a p n first before (record { registers = r; next = next }) left m c.turns.invariant.1.0 (contents c.turn.new.memory) is
 
-pub returns-in-Broke-turn-clause-err : goal.returns-in-Broke-turn-clause-err
-returns-in-Broke-turn-clause-err c =
+pub returns-in-Broke-turn-clause-comes : goal.returns-in-Broke-turn-clause-comes
+returns-in-Broke-turn-clause-comes c =
     let a = surroundings c.args.context.now in
     let p = c.args.program.now in
     let n = c.args.number in
@@ -216,14 +222,14 @@ returns-in-Broke-turn-clause-err c =
     let some : 0 < left = omega arith in
     let spent_less : 65536 - left < 65536 = omega (arith, few, some) in
     let is : turn (context_of_item a n) p.steps (record { registers = r; next = next }) (65536 - left) m ≡ broke c.in-Broke-turn.rule (Some c.in-Broke-turn.address) =
-    turn_alike (surroundings c.context_of_item-own.result) (context_of_item a n) p.steps c.go.new.r r next (65536 - left) (contents c.go.new.memory) m (broke c.in-Broke-turn.rule (Some c.in-Broke-turn.address))
-    c.context_of_item-own.ensures.surroundings c.in-Other.ensures.0 c.in-Other.ensures.1
+    turn_alike a (context_of_item a n) p.steps c.go.new.r r next (65536 - left) (contents c.go.new.memory) m (broke c.in-Broke-turn.rule (Some c.in-Broke-turn.address))
+    (in_place a n c.requires.item) c.in-Other.ensures.0 c.in-Other.ensures.1
     (c.in-Broke-turn.ensures (65536 - left) spent_less) in
-    subst (λ (f : RunFault). ItemFails a p n first before f) (sym c.fault-in-Broke-turn.ensures)
-    (reached_breaks a p n first before (record { registers = r; next = next }) left m c.turns.invariant.1 c.in-Broke-turn.rule (Some c.in-Broke-turn.address) is)
+    subst (λ (f : RunFault). ItemFails a p n first before f) (sym c.tell-in-Broke-turn.ensures)
+    (reached_breaks a p n first before (record { registers = r; next = next }) left m c.turns.invariant.1.0 c.in-Broke-turn.rule (Some c.in-Broke-turn.address) is)
 
-pub returns-then-next-steps-clause-err : goal.returns-then-next-steps-clause-err
-returns-then-next-steps-clause-err c =
+pub returns-then-next-steps-clause-comes : goal.returns-then-next-steps-clause-comes
+returns-then-next-steps-clause-comes c =
     let a = surroundings c.args.context.now in
     let p = c.args.program.now in
     let n = c.args.number in
@@ -235,12 +241,12 @@ returns-then-next-steps-clause-err c =
     let before = contents c.args.memory.now in
     let all : 65536 - left ≡ 65536 = omega arith in
     let there : next < length p.steps = omega (arith, ap length c.steps.ensures.value, c.if-next-steps.true) in
-    subst (λ (f : RunFault). ItemFails a p n first before f) (sym c.fault-then-next-steps.ensures)
-    (reached_breaks a p n first before (record { registers = r; next = next }) left m c.turns.invariant.1 A5 None
+    subst (λ (f : RunFault). ItemFails a p n first before f) (sym c.tell_spent.ensures)
+    (reached_breaks a p n first before (record { registers = r; next = next }) left m c.turns.invariant.1.0 A5 None
     (spent (context_of_item a n) p.steps (record { registers = r; next = next }) (65536 - left) m there all))
 
-pub returns-clause-ok : goal.returns-clause-ok
-returns-clause-ok c =
+pub returns-clause-comes : goal.returns-clause-comes
+returns-clause-comes c =
     let a = surroundings c.args.context.now in
     let p = c.args.program.now in
     let n = c.args.number in
@@ -251,4 +257,58 @@ returns-clause-ok c =
     let first = ready c.args.stopped.now.item c.args.stopped.now.executed in
     let before = contents c.args.memory.now in
     let past : length p.steps ≤ next = omega (arith, ap length c.steps.ensures.value, c.if-next-steps.false) in
-    reached_ends a p n first before (record { registers = r; next = next }) left m c.turns.invariant.1 m (stops (context_of_item a n) p.steps (record { registers = r; next = next }) (65536 - left) m past)
+    reached_ends a p n first before (record { registers = r; next = next }) left m c.turns.invariant.1.0 m (stops (context_of_item a n) p.steps (record { registers = r; next = next }) (65536 - left) m past)
+
+pub returns-in_default-clause-rest : goal.returns-in_default-clause-rest
+returns-in_default-clause-rest c = c.turns.invariant.1.1
+
+pub returns-clause-rest : goal.returns-clause-rest
+returns-clause-rest c = c.turns.invariant.1.1
+
+pub returns-in-Ended-clause-rest : goal.returns-in-Ended-clause-rest
+returns-in-Ended-clause-rest c = λ few rest. subst RestIsZero (sym c.in-Ended.ensures.0) (c.turns.invariant.1.1 few rest)
+
+pub returns-in-Ended-turn-clause-rest : goal.returns-in-Ended-turn-clause-rest
+returns-in-Ended-turn-clause-rest c = λ few rest. subst RestIsZero (sym c.cleared-stopped.ensures) cleared_rest
+
+pub returns-in-Arrived-clause-rest : goal.returns-in-Arrived-clause-rest
+returns-in-Arrived-clause-rest c =
+    let a = surroundings c.args.context.now in
+    let p = c.args.program.now in
+    let n = c.args.number in
+    let r = c.turns.stopped.item.registers in
+    let next = c.turns.next in
+    let left = c.turns.left in
+    let m = contents c.turns.memory in
+    let first = ready c.args.stopped.now.item c.args.stopped.now.executed in
+    let before = contents c.args.memory.now in
+    let few : left ≤ 65536 = c.turns.invariant.0 in
+    let some : 0 < left = omega arith in
+    let spent_less : 65536 - left < 65536 = omega (arith, few, some) in
+    let flats = c.flat_steps-flat_steps.result.now in
+    let found : slice_get flats next ≡ Some c.in-Some.flat.now = get_read flats next c.in-Some.flat.now c.in-Some.ensures.lookup.1 c.in-Some.ensures.lookup.3.0 in
+    let there : Item = record { registers = c.go.new.r; next = next + 1 } in
+    let is : turn (context_of_item a n) p.steps (record { registers = r; next = next }) (65536 - left) m ≡ arrives there (contents c.go.new.memory) =
+    flat_turn a (context_of_item a n) flats p.steps r next m c.in-Some.flat.now (arrives there (contents c.go.new.memory))
+    (in_place a n c.requires.item) c.flat_steps-flat_steps.ensures.value found c.in-Arrived.ensures (65536 - left) spent_less in
+    λ few rest. kept_there (context_of_item a n) (record { registers = r; next = next }) m (c.turns.invariant.1.1 few rest) p.steps few (65536 - left) (there) (contents c.go.new.memory) is
+
+pub returns-in-Arrived-turn-clause-rest : goal.returns-in-Arrived-turn-clause-rest
+returns-in-Arrived-turn-clause-rest c =
+    let a = surroundings c.args.context.now in
+    let p = c.args.program.now in
+    let n = c.args.number in
+    let r = c.turns.stopped.item.registers in
+    let next = c.turns.next in
+    let left = c.turns.left in
+    let m = contents c.turns.memory in
+    let first = ready c.args.stopped.now.item c.args.stopped.now.executed in
+    let before = contents c.args.memory.now in
+    let few : left ≤ 65536 = c.turns.invariant.0 in
+    let some : 0 < left = omega arith in
+    let spent_less : 65536 - left < 65536 = omega (arith, few, some) in
+    let is : turn (context_of_item a n) p.steps (record { registers = r; next = next }) (65536 - left) m ≡ arrives c.turn.new.item (contents c.turn.new.memory) =
+    turn_alike a (context_of_item a n) p.steps c.go.new.r r next (65536 - left) (contents c.go.new.memory) m (arrives c.turn.new.item (contents c.turn.new.memory))
+    (in_place a n c.requires.item) c.in-Other.ensures.0 c.in-Other.ensures.1
+    (c.in-Arrived-turn.ensures (65536 - left) spent_less) in
+    λ few rest. kept_there (context_of_item a n) (record { registers = r; next = next }) m (c.turns.invariant.1.1 few rest) p.steps few (65536 - left) (c.turn.new.item) (contents c.turn.new.memory) is

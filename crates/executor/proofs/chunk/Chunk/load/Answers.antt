@@ -1,13 +1,7 @@
-use Rattle.std.proofs.Common.{arith}
-use Rattle.executor.specs.inner.Pages.{page_byte}
-use Rattle.executor.proofs.Maps.{level_seen, level_unseen, size_64}
+use Rattle.executor.proofs.ChunkLemmas.{chunk_loaded}
 use Rattle.executor.proofs.chunk.Chunk.load.Goals as goal
 
-pub returns-then-index-len : goal.returns-then-index-len
-returns-then-index-len c =
-    level_seen page_byte 64 size_64 c.args.self.now c.self.inside.pages.items c.args.place c.index.result.now c.args.buffer.now c.load.new.buffer
-    c.self.view_is (omega arith) c.index.ensures (omega arith) c.load.ensures
-
-pub returns-else-index-len : goal.returns-else-index-len
-returns-else-index-len c =
-    level_unseen page_byte 64 size_64 c.args.self.now c.self.inside.pages.items c.args.place c.args.buffer.now c.self.view_is (omega arith) (omega arith)
+pub returns : goal.returns
+returns c =
+    chunk_loaded c.args.self.now _ c.self.view_is c.self.invariant c.args.place c.index.result.now c.index.ensures
+    c.args.buffer.now c.load.new.buffer c.requires.page c.load.ensures

@@ -1,12 +1,16 @@
-use Rattle.std.proofs.Common.{take, ◌^◌, arith}
+use Rattle.std.proofs.Common.{take, arith}
 use Rattle.std.specs.Int.{w64, to_le_bytes}
-use Rattle.executor.specs.inner.Pages.{region_byte}
-use Rattle.executor.proofs.Maps.{size_region}
-use Rattle.executor.proofs.WordLemmas.{length_low, level_overwritten}
+use Rattle.executor.proofs.ChunkLemmas.{written_over, written_whole}
+use Rattle.executor.proofs.WordLemmas.{length_low}
 use Rattle.executor.proofs.written.WrittenBytes.overwrite.Goals as goal
 
-pub returns : goal.returns
-returns c =
-    level_overwritten region_byte (2 ^ 32) size_region c.args.self.now c.self.inside.regions.items c.args.address c.index_mut.result.now c.overwrite.new.self
-    (take c.args.size (to_le_bytes w64 c.args.value)) c.overwrite.result c.self.view_is (omega (arith, length_low c.args.size c.args.value c.requires.few))
-    (omega arith) c.index_mut.ensures.value c.overwrite.ensures
+pub invariant_of-self : goal.invariant_of-self
+invariant_of-self c =
+    written_whole c.args.self.now _ c.self.view_is _ _ _ _ c.self.invariant c.args.address c.in-Some.chunk c.index_mut.result.now c.in-Some.ensures c.index_mut.ensures.value
+    c.overwrite.new.self c.overwrite.ensures.number
+
+pub returns-in-Some : goal.returns-in-Some
+returns-in-Some c =
+    written_over c.args.self.now _ c.self.view_is _ _ _ _ c.self.invariant c.args.address c.in-Some.chunk c.index_mut.result.now c.in-Some.ensures c.index_mut.ensures.value
+    c.overwrite.new.self c.overwrite.ensures.number (take c.args.size (to_le_bytes w64 c.args.value)) c.overwrite.result
+    (omega (arith, length_low c.args.size c.args.value c.requires.few, c.requires.page)) c.overwrite.ensures.bytes
