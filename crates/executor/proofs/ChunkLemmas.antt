@@ -5,19 +5,19 @@ use Rattle.std.specs.List.{insert}
 use Rattle.std.specs.List.Sorted.{IsNonDecreasingBy, IsPartitionPoint}
 use Rattle.std.specs.Int.{bit_at, w64}
 use Rattle.std.specs.Option.{option_and_then}
-use Rattle.std.proofs.lemmas.Bool.{cases_lt}
+use Rattle.std.proofs.lemmas.Bool.{cases_eq, cases_lt}
 use Rattle.std.proofs.lemmas.Bool.Decides.{nat_tests}
 use Rattle.std.proofs.lemmas.Nat.Bits.{bit_at_set_other, bit_at_set_same}
 use Rattle.std.proofs.Common.{length-append, ltb, ltb-true, ltb-false}
 use Rattle.executor.specs.declared.page.Page.{Page}
 use Rattle.executor.specs.declared.written_range.WrittenRange.{WrittenRange}
-use Rattle.executor.specs.inner.Pages.{ChunkSeen, IsChunk, page_byte, page_at, page_of, chunk_byte, chunk_of, byte_at, unplaced, number_at, Rises, StandsAt, PlaceOf, Parts, IsWritten}
+use Rattle.executor.specs.inner.Pages.{ChunkSeen, IsChunk, page_byte, page_at, page_of, chunk_byte, chunk_of, byte_at, unplaced, number_at, Rises, StandsAt, PlaceOf, Parts, IsApart, IsWritten}
 use Rattle.byteorder.specs.Endian.{little_number}
 use Rattle.executor.specs.Written.{laid, seen, AreRuns}
 use Rattle.executor.specs.Told.{runs_of}
 use Rattle.executor.specs.inner.Told.{Told, Gathers, NextRun}
 use Rattle.executor.specs.inner.Words.{laid_if, or_below, seen_number}
-use Rattle.executor.proofs.Maps.{size_64, size_chunk, at_known, at_unknown, laid_same, seen_block, seen_no_block, level_stored}
+use Rattle.executor.proofs.Maps.{size_64, size_chunk, at_known, at_unknown, laid_same, seen_block, seen_no_block, seen_none, level_stored}
 use Rattle.executor.proofs.RunLemmas.{told_all, told_at, told_nothing, told_runs, told_skipped, gathers_gap, gathers_block}
 use Rattle.executor.proofs.WordLemmas.{level_read, level_unread, level_overwritten}
 
@@ -362,6 +362,15 @@ module _ (value chunks : List ChunkSeen) (view : chunks ≡ value) (last last_nu
 pub place_past : (chunks : List ChunkSeen) (last last_number begin limit number : ℕ) → IsWritten chunks last last_number begin limit → limit ≤ number → PlaceOf chunks number None
 place_past chunks last last_number begin limit number is past = λ k h e. absurd (omega (arith, rises_below 0 limit chunks k is.rises h, e))
 
+-- no chunk of a number stands anywhere that is so far before all, or behind them
+pub apart_before : (chunks : List ChunkSeen) (last last_number begin limit number : ℕ) → IsWritten chunks last last_number begin limit → number + 1 < begin → IsApart chunks number
+apart_before chunks last last_number begin limit number is less =
+    (λ k h e. absurd (omega (arith, is.begins k h, e, less)), λ k h e. absurd (omega (arith, is.begins k h, e, less)))
+
+pub apart_behind : (chunks : List ChunkSeen) (last last_number begin limit number : ℕ) → IsWritten chunks last last_number begin limit → limit ≤ number → IsApart chunks number
+apart_behind chunks last last_number begin limit number is more =
+    (place_past chunks last last_number begin limit number is more, place_past chunks last last_number begin limit (number + 1) is (omega (arith, more)))
+
 pub place_missed : (chunks : List ChunkSeen) (last last_number begin limit number place : ℕ) → IsWritten chunks last last_number begin limit → Parts chunks number place
     → (place < length chunks → number_at chunks place ≢ number) → PlaceOf chunks number None
 place_missed chunks last last_number begin limit number place is parts missed = λ k h e. at k h e (cases_lt k place) (cases_lt place k)
@@ -629,6 +638,16 @@ module _ (value chunks : List ChunkSeen) (view : chunks ≡ value) (last last_nu
 
     pub written_unloaded : (old : List ℕ) → a % 64 + length old ≤ 64 → old ≡ seen (byte_at value) a old
     written_unloaded old fits = seen_no_block chunk_byte (2 ^ 13) size_chunk (chunk_of value) a old (omega arith) (missing value (a / 2 ^ 13) none)
+
+-- an access of a few bytes sees those below where there is no chunk, nor a next one
+pub written_apart : (value : List ChunkSeen) (a : ℕ) (below : List ℕ) → IsApart value (a / 2 ^ 13) → length below ≤ 8 → little_number (length below) below ≡ seen_number (byte_at value) a below
+written_apart value a below apart few =
+    ap (little_number (length below)) (seen_none (byte_at value) a below (λ i h. elim (cases_eq ((a + i) / 2 ^ 13) (a / 2 ^ 13)) [
+      | inl same ↦ at_unknown chunk_byte (2 ^ 13) size_chunk (chunk_of value) (a + i) (ap (chunk_of value) same ∙ missing value (a / 2 ^ 13) apart.0)
+      | inr other ↦
+          let next : (a + i) / 2 ^ 13 ≡ a / 2 ^ 13 + 1 = omega (arith, other, h, few) in
+          at_unknown chunk_byte (2 ^ 13) size_chunk (chunk_of value) (a + i) (ap (chunk_of value) next ∙ missing value (a / 2 ^ 13 + 1) apart.1)
+    ]))
 
 -- what is stored in a chunk that was made for it
 module _ (value chunks before : List ChunkSeen) (view : chunks ≡ value) (same_bytes : (x : ℕ) → byte_at value x ≡ byte_at before x) (last last_number begin limit : ℕ) (is : IsWritten chunks last last_number begin limit)

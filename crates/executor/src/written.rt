@@ -1,7 +1,7 @@
 //! What a work-group has written.
 ghost use Rattle.std.specs.Prelude.{◌≡◌, ◌+◌, ◌%◌, ◌^◌, ◌<◌, ◌≤◌, ℕ, List, None, OnOk, OnErr, IfOk, length, nat_lt, take, true};
 ghost use Rattle.std.specs.Int.{w64, to_le_bytes};
-ghost use Rattle.executor.specs.inner.Pages.{byte_at, BreaksOff, Parts, PlaceOf, StandsAt};
+ghost use Rattle.executor.specs.inner.Pages.{byte_at, BreaksOff, IsApart, Parts, PlaceOf, StandsAt};
 ghost use Rattle.executor.specs.Written.{laid, seen, AreRuns};
 ghost use Rattle.executor.specs.Told.{runs_of};
 ghost use Rattle.executor.specs.inner.Words.{laid_if, or_below, seen_number};
@@ -113,6 +113,12 @@ impl WrittenBytes {
         requires end { address + length below.now ≤ 2 ^ 64 }
         ensures { result ≡ seen_number (byte_at self.now) address below.now }
     {
+        let number = address / CHUNK;
+        if number != self.last_number {
+            if self.is_apart(number) {
+                return word::read(below, below.len());
+            }
+        }
         if (address % PAGE as u64) as usize + below.len() > PAGE {
             return self.read_across(address, below);
         }
@@ -243,6 +249,18 @@ impl WrittenBytes {
         if let Some(chunk) = self.place_of(address / CHUNK) {
             self.chunks[chunk].load((address % CHUNK) as usize, buffer);
         }
+    }
+
+    /// Whether chunks of a number and of the next lie apart from all that there are.
+    #[inline(always)]
+    fn is_apart(&self, number: u64) -> bool
+        requires { number < 2 ^ 51 }
+        ensures { result ≡ true → IsApart self.now number }
+    {
+        if number + 1 < self.begin {
+            return true;
+        }
+        number >= self.end
     }
 
     /// Where the chunk of a number stands, if it is there.

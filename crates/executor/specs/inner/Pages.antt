@@ -83,6 +83,10 @@ abbrev pub PlaceOf : List ChunkSeen → ℕ → Option ℕ → Type 0
 PlaceOf chunks number None = (place : ℕ) → place < length chunks → number_at chunks place ≢ number
 PlaceOf chunks number (Some place) = StandsAt chunks place number
 
+-- that there is no chunk of a number, nor of the next
+abbrev pub IsApart : List ChunkSeen → ℕ → Type 0
+IsApart chunks number = PlaceOf chunks number None × PlaceOf chunks (number + 1) None
+
 -- that all chunks before a place have lesser numbers, and none from it on
 pub record Parts (chunks : List ChunkSeen) (number place : ℕ) : Type 0 where
   pub within : place ≤ length chunks
