@@ -9,7 +9,7 @@ ghost use Rattle.executor.specs.Locations.{id_of};
 ghost use Rattle.executor.specs.Meaning.{turn};
 ghost use Rattle.executor.specs.inner.Few.{LeavesRest};
 ghost use Rattle.executor.specs.inner.ItemRuns.{ItemComes};
-ghost use Rattle.executor.specs.inner.Stops.{standing};
+ghost use Rattle.executor.specs.inner.Stops.{executed_by, standing};
 ghost use Rattle.executor.specs.inner.Turns.{Acts};
 ghost use Rattle.executor.specs.declared.limits.TheConstants.{BUDGET};
 
@@ -106,13 +106,12 @@ pub fn run_item(
 ) -> bool
     requires arguments { length context.now.arguments.now ≡ program.now.argument_bytes }
     requires item { context.now.location.item ≡ id_of context.now.location.current_size number }
-    requires within { stopped.old.executed ≤ BUDGET }
     ensures comes { ItemComes (surroundings context.now) program.now number
-        (ready stopped.old.item stopped.old.executed) (contents memory.old) result (standing stopped.new) (contents memory.new) broken.new }
+        (ready stopped.old.item (executed_by stopped.old)) (contents memory.old) result (standing stopped.new) (contents memory.new) broken.new }
     ensures rest { LeavesRest program.now.steps result stopped.old.item.registers stopped.new.item.registers }
 {
     let flat_steps = program.flat_steps();
-    let mut left = BUDGET - stopped.executed;
+    let mut left = stopped.left.min(BUDGET);
     let mut next = stopped.item.next;
     'turns: while left > 0 {
         let Some(flat) = flat_steps.get(next) else {
@@ -132,7 +131,7 @@ pub fn run_item(
             Gone::Next(after) => next = after,
             Gone::Arrived => {
                 stopped.item.next = next + 1;
-                stopped.executed = BUDGET - left;
+                stopped.left = left;
                 stopped.stop = Stop::Barrier;
                 return true;
             }
@@ -153,7 +152,7 @@ pub fn run_item(
                 match turn(alloc, context, program, &mut stopped.item, memory) {
                     Outcome::GoesOn => next = stopped.item.next,
                     Outcome::Arrived => {
-                        stopped.executed = BUDGET - left;
+                        stopped.left = left;
                         stopped.stop = Stop::Barrier;
                         return true;
                     }

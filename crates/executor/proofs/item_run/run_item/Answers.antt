@@ -7,10 +7,11 @@ use Rattle.executor.specs.declared.item.Item.{Item}
 use Rattle.executor.specs.inner.Few.{RestIsZero}
 use Rattle.executor.specs.inner.Held.{contents, surroundings}
 use Rattle.executor.specs.inner.ItemRuns.{ItemFails}
+use Rattle.executor.specs.inner.Stops.{executed_by}
 use Rattle.queue_error.specs.declared.rule.Rule.TheVariants.{A5}
 use Rattle.executor.proofs.FlatLemmas.{flat_turn}
 use Rattle.executor.proofs.GroupLemmas.{spent, stops}
-use Rattle.executor.proofs.ItemLemmas.{reached_more, reached_arrives, reached_ends, reached_breaks, turn_alike}
+use Rattle.executor.proofs.ItemLemmas.{reached_first, reached_more, reached_arrives, reached_ends, reached_breaks, turn_alike}
 use Rattle.executor.proofs.FewLemmas.{cleared_rest, kept_on, kept_there}
 use Rattle.executor.proofs.Maps.{get_read}
 use Rattle.executor.proofs.PlaceLemmas.{in_place}
@@ -25,11 +26,21 @@ returns-in_default-clause-comes c =
     let next = c.turns.next in
     let left = c.turns.left in
     let m = contents c.turns.memory in
-    let first = ready c.args.stopped.now.item c.args.stopped.now.executed in
+    let first = ready c.args.stopped.now.item (executed_by c.args.stopped.now) in
     let before = contents c.args.memory.now in
     let far : length c.flat_steps-flat_steps.result.now ≤ next = search rules in
     let past : length p.steps ≤ next = omega (arith, far, c.flat_steps-flat_steps.ensures.count) in
     reached_ends a p n first before (record { registers = r; next = next }) left m c.turns.invariant.1.0 m (stops (context_of_item a n) p.steps (record { registers = r; next = next }) (65536 - left) m past)
+
+pub turns-init : goal.turns-init
+turns-init c = (
+  omega (arith, c.min-left.ensures),
+  (
+    reached_first (surroundings c.args.context.now) c.args.program.now c.args.number c.args.stopped.now.item c.args.stopped.now.left c.min-left.result
+        (contents c.args.memory.now) c.min-left.ensures,
+    λ few rest. rest,
+  ),
+)
 
 pub turns-preserved-in-Next : goal.turns-preserved-in-Next
 turns-preserved-in-Next c =
@@ -40,7 +51,7 @@ turns-preserved-in-Next c =
     let next = c.turns.next in
     let left = c.turns.left in
     let m = contents c.turns.memory in
-    let first = ready c.args.stopped.now.item c.args.stopped.now.executed in
+    let first = ready c.args.stopped.now.item (executed_by c.args.stopped.now) in
     let before = contents c.args.memory.now in
     let few : left ≤ 65536 = c.turns.invariant.0 in
     let some : 0 < left = omega arith in
@@ -67,7 +78,7 @@ returns-in-Broke-clause-comes c =
     let next = c.turns.next in
     let left = c.turns.left in
     let m = contents c.turns.memory in
-    let first = ready c.args.stopped.now.item c.args.stopped.now.executed in
+    let first = ready c.args.stopped.now.item (executed_by c.args.stopped.now) in
     let before = contents c.args.memory.now in
     let few : left ≤ 65536 = c.turns.invariant.0 in
     let some : 0 < left = omega arith in
@@ -89,7 +100,7 @@ turns-preserved-in-Onward c =
     let next = c.turns.next in
     let left = c.turns.left in
     let m = contents c.turns.memory in
-    let first = ready c.args.stopped.now.item c.args.stopped.now.executed in
+    let first = ready c.args.stopped.now.item (executed_by c.args.stopped.now) in
     let before = contents c.args.memory.now in
     let few : left ≤ 65536 = c.turns.invariant.0 in
     let some : 0 < left = omega arith in
@@ -113,7 +124,7 @@ returns-in-Arrived-clause-comes c =
     let next = c.turns.next in
     let left = c.turns.left in
     let m = contents c.turns.memory in
-    let first = ready c.args.stopped.now.item c.args.stopped.now.executed in
+    let first = ready c.args.stopped.now.item (executed_by c.args.stopped.now) in
     let before = contents c.args.memory.now in
     let few : left ≤ 65536 = c.turns.invariant.0 in
     let some : 0 < left = omega arith in
@@ -135,7 +146,7 @@ returns-in-Ended-clause-comes c =
     let next = c.turns.next in
     let left = c.turns.left in
     let m = contents c.turns.memory in
-    let first = ready c.args.stopped.now.item c.args.stopped.now.executed in
+    let first = ready c.args.stopped.now.item (executed_by c.args.stopped.now) in
     let before = contents c.args.memory.now in
     let few : left ≤ 65536 = c.turns.invariant.0 in
     let some : 0 < left = omega arith in
@@ -156,7 +167,7 @@ turns-preserved c =
     let next = c.turns.next in
     let left = c.turns.left in
     let m = contents c.turns.memory in
-    let first = ready c.args.stopped.now.item c.args.stopped.now.executed in
+    let first = ready c.args.stopped.now.item (executed_by c.args.stopped.now) in
     let before = contents c.args.memory.now in
     let few : left ≤ 65536 = c.turns.invariant.0 in
     let some : 0 < left = omega arith in
@@ -176,7 +187,7 @@ returns-in-Arrived-turn-clause-comes c =
     let next = c.turns.next in
     let left = c.turns.left in
     let m = contents c.turns.memory in
-    let first = ready c.args.stopped.now.item c.args.stopped.now.executed in
+    let first = ready c.args.stopped.now.item (executed_by c.args.stopped.now) in
     let before = contents c.args.memory.now in
     let few : left ≤ 65536 = c.turns.invariant.0 in
     let some : 0 < left = omega arith in
@@ -196,7 +207,7 @@ returns-in-Ended-turn-clause-comes c =
     let next = c.turns.next in
     let left = c.turns.left in
     let m = contents c.turns.memory in
-    let first = ready c.args.stopped.now.item c.args.stopped.now.executed in
+    let first = ready c.args.stopped.now.item (executed_by c.args.stopped.now) in
     let before = contents c.args.memory.now in
     let few : left ≤ 65536 = c.turns.invariant.0 in
     let some : 0 < left = omega arith in
@@ -216,7 +227,7 @@ returns-in-Broke-turn-clause-comes c =
     let next = c.turns.next in
     let left = c.turns.left in
     let m = contents c.turns.memory in
-    let first = ready c.args.stopped.now.item c.args.stopped.now.executed in
+    let first = ready c.args.stopped.now.item (executed_by c.args.stopped.now) in
     let before = contents c.args.memory.now in
     let few : left ≤ 65536 = c.turns.invariant.0 in
     let some : 0 < left = omega arith in
@@ -237,7 +248,7 @@ returns-then-next-steps-clause-comes c =
     let next = c.turns.next in
     let left = c.turns.left in
     let m = contents c.turns.memory in
-    let first = ready c.args.stopped.now.item c.args.stopped.now.executed in
+    let first = ready c.args.stopped.now.item (executed_by c.args.stopped.now) in
     let before = contents c.args.memory.now in
     let all : 65536 - left ≡ 65536 = omega arith in
     let there : next < length p.steps = omega (arith, ap length c.steps.ensures.value, c.if-next-steps.true) in
@@ -254,7 +265,7 @@ returns-clause-comes c =
     let next = c.turns.next in
     let left = c.turns.left in
     let m = contents c.turns.memory in
-    let first = ready c.args.stopped.now.item c.args.stopped.now.executed in
+    let first = ready c.args.stopped.now.item (executed_by c.args.stopped.now) in
     let before = contents c.args.memory.now in
     let past : length p.steps ≤ next = omega (arith, ap length c.steps.ensures.value, c.if-next-steps.false) in
     reached_ends a p n first before (record { registers = r; next = next }) left m c.turns.invariant.1.0 m (stops (context_of_item a n) p.steps (record { registers = r; next = next }) (65536 - left) m past)
@@ -280,7 +291,7 @@ returns-in-Arrived-clause-rest c =
     let next = c.turns.next in
     let left = c.turns.left in
     let m = contents c.turns.memory in
-    let first = ready c.args.stopped.now.item c.args.stopped.now.executed in
+    let first = ready c.args.stopped.now.item (executed_by c.args.stopped.now) in
     let before = contents c.args.memory.now in
     let few : left ≤ 65536 = c.turns.invariant.0 in
     let some : 0 < left = omega arith in
@@ -302,7 +313,7 @@ returns-in-Arrived-turn-clause-rest c =
     let next = c.turns.next in
     let left = c.turns.left in
     let m = contents c.turns.memory in
-    let first = ready c.args.stopped.now.item c.args.stopped.now.executed in
+    let first = ready c.args.stopped.now.item (executed_by c.args.stopped.now) in
     let before = contents c.args.memory.now in
     let few : left ≤ 65536 = c.turns.invariant.0 in
     let some : 0 < left = omega arith in
