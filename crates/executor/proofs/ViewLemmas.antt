@@ -1,11 +1,12 @@
 -- The regions that are lent, as items see them.
-use Rattle.std.proofs.Common.{◌≡◌, ◌≢◌, ◌∙◌, ℕ, zero, suc, ◌+◌, ◌-◌, ◌/◌, ◌%◌, ◌^◌, ◌<◌, ◌≤◌, ◌==◌, ◌&&◌, List, [], ◌∷◌, ◌++◌, length, get_or, set, slice_get, replicate, refl, sym, ap, arith, subst, Bool, true, false, Option, Some, None, All, inl, inr, tt}
+use Rattle.std.proofs.Common.{◌≡◌, ◌≢◌, ◌∙◌, ℕ, zero, suc, ◌+◌, ◌-◌, ◌/◌, ◌%◌, ◌^◌, ◌<◌, ◌≤◌, ◌==◌, ◌&&◌, List, [], ◌∷◌, ◌++◌, length, get_or, set, slice_get, replicate, take, refl, sym, ap, arith, subst, Bool, true, false, Option, Some, None, All, inl, inr, tt}
 use Rattle.std.specs.Prelude.{find, map, option_map, nat_le, nat_lt, if◌then◌else◌}
 use Rattle.std.proofs.lemmas.Bool.{cases_eq, cond-false, cond-true, le-ltb, lt-ltb}
 use Rattle.std.proofs.lemmas.Bool.Decides.{nat_tests}
 use Rattle.std.proofs.lemmas.List.{length-append, length-replicate, length-set, take_all}
 use Rattle.policy.specs.Rights.{has}
 use Rattle.policy.specs.declared.rights.Right.{Right}
+use Rattle.policy.specs.declared.rights.Right.TheVariants.{Read, Write}
 use Rattle.executor.specs.Accesses.{covers_address, region_of}
 use Rattle.executor.specs.Items.{lent_region}
 use Rattle.executor.specs.inner.Places.{held, if_long, if_reached, reach, IsEntry, IsView, Numbered}
@@ -143,6 +144,72 @@ module _ (region : HeldRegion) (right : Right) (offset n : ℕ) (some : 1 ≤ n)
       by_long false = refl
       by_long true = by_right (has region.rights right) (nat_le (offset + n) (length region.bytes.now)) refl refl far
 
+module _ (region : HeldRegion) (right : Right) (offset n : ℕ) where
+  -- the same of a region that has those bytes
+  pub reached_whole : 1 ≤ n → offset + n ≤ reach region right → Some region ≡ if_reached right offset n (Some region)
+  reached_whole some fits = by_right (has region.rights right) refl fits
+    where
+      by_right : (b : Bool) → has region.rights right ≡ b → offset + n ≤ (if b then length region.bytes.now else 0) → Some region ≡ if_reached right offset n (Some region)
+      by_right false is within = absurd (omega (arith, within, some))
+      by_right true is within =
+          let whole : nat_le (offset + n) (length region.bytes.now) ≡ true = grind (arith, nat_tests, within) in
+          rw is (rw whole refl)
+
+  pub unreached_whole : reach region right < offset + n → None ≡ if_reached right offset n (Some region)
+  unreached_whole far = by_right (has region.rights right) (nat_le (offset + n) (length region.bytes.now)) refl far
+    where
+      by_right : (b whole : Bool) → nat_le (offset + n) (length region.bytes.now) ≡ whole → (if b then length region.bytes.now else 0) < offset + n → None ≡ (if b && whole then Some region else None)
+      by_right false whole fits past = refl
+      by_right true false fits past = refl
+      by_right true true fits past = absurd (grind (arith, nat_tests, fits, past))
+
+module _ (items : List Entry) (value : List HeldRegion) (view : held items ≡ value) (is : IsView items) (address n : ℕ) where
+  abbrev found : Option HeldRegion
+  found = find (λ region. has_byte_at region address) value
+
+  carried : find (λ region. has_byte_at region address) (held items) ≡ found
+  carried = ap (λ (regions : List HeldRegion). find (λ region. has_byte_at region address) regions) view
+
+  -- what is found where there is no entry
+  pub nothing_there : length items ≤ address / 2 ^ 32 → None ≡ found
+  nothing_there past = found_past address items is past ∙ carried
+
+  module _ (e : Entry) (at : slice_get items (address / 2 ^ 32) ≡ Some e) where
+    seen_there : if_long (address % 2 ^ 32) (Some e.region) ≡ found
+    seen_there = sym (found_there address items e is at) ∙ carried
+
+    entry_is : IsEntry (0 + address / 2 ^ 32) e
+    entry_is = entry_of 0 (address / 2 ^ 32) items e is.numbered at
+
+    -- and where there is one
+    pub long_there : address % 2 ^ 32 < length e.region.bytes.now → Some e.region ≡ found
+    long_there long = sym (cond-true _ _ _ (lt-ltb _ _ long)) ∙ seen_there
+
+    pub short_there : length e.region.bytes.now ≤ address % 2 ^ 32 → None ≡ found
+    short_there short = sym (cond-false _ _ _ (le-ltb _ _ short)) ∙ seen_there
+
+    pub readable_there : 1 ≤ n → address % 2 ^ 32 + n ≤ e.readable → Some e.region ≡ if_reached Read (address % 2 ^ 32) n found
+    readable_there some fits = reached e.region Read (address % 2 ^ 32) n some (omega (arith, fits, entry_is.readable)) ∙ ap (if_reached Read (address % 2 ^ 32) n) seen_there
+
+    pub unreadable_there : 1 ≤ n → e.readable < address % 2 ^ 32 + n → None ≡ if_reached Read (address % 2 ^ 32) n found
+    unreadable_there some far = unreached e.region Read (address % 2 ^ 32) n some (omega (arith, far, entry_is.readable)) ∙ ap (if_reached Read (address % 2 ^ 32) n) seen_there
+
+    pub writable_there : 1 ≤ n → address % 2 ^ 32 + n ≤ e.writable → Some e.region ≡ if_reached Write (address % 2 ^ 32) n found
+    writable_there some fits = reached e.region Write (address % 2 ^ 32) n some (omega (arith, fits, entry_is.writable)) ∙ ap (if_reached Write (address % 2 ^ 32) n) seen_there
+
+    pub unwritable_there : 1 ≤ n → e.writable < address % 2 ^ 32 + n → None ≡ if_reached Write (address % 2 ^ 32) n found
+    unwritable_there some far = unreached e.region Write (address % 2 ^ 32) n some (omega (arith, far, entry_is.writable)) ∙ ap (if_reached Write (address % 2 ^ 32) n) seen_there
+
+    pub changeable_there : 1 ≤ n → address % 2 ^ 32 + n ≤ e.readable → address % 2 ^ 32 + n ≤ e.writable
+        → Some e.region ≡ if_reached Write (address % 2 ^ 32) n (if_reached Read (address % 2 ^ 32) n found)
+    changeable_there some reads writes =
+        reached_whole e.region Write (address % 2 ^ 32) n some (omega (arith, writes, entry_is.writable)) ∙ ap (if_reached Write (address % 2 ^ 32) n) (readable_there some reads)
+
+    pub unchangeable_there : 1 ≤ n → address % 2 ^ 32 + n ≤ e.readable → e.writable < address % 2 ^ 32 + n
+        → None ≡ if_reached Write (address % 2 ^ 32) n (if_reached Read (address % 2 ^ 32) n found)
+    unchangeable_there some reads far =
+        unreached_whole e.region Write (address % 2 ^ 32) n (omega (arith, far, entry_is.writable)) ∙ ap (if_reached Write (address % 2 ^ 32) n) (readable_there some reads)
+
 -- ---- one region more
 
 -- an entry behind others, with none between
@@ -201,3 +268,19 @@ module _ (none e : Entry) (nothing : none.region.handle.0 ≡ 0) (something : 1 
         at_end : (rs : List HeldRegion) (above : ℕ) → All (λ region. region.handle.0 < above) (rs ++ e.region ∷ []) → e.region.handle.0 < above
         at_end [] above all = all 0 e.region (omega arith)
         at_end (r ∷ rs) above all = at_end rs above (λ i d within. all (suc i) d (omega (arith, within)))
+
+  -- what is put behind entries, of which there are none at its place
+  pub put_held : (items resized : List Entry) (place : ℕ) → length items ≤ place → resized ≡ take (place + 1) items ++ replicate (place + 1 - length items) none → held (set resized place e) ≡ held items ++ e.region ∷ []
+  put_held items resized place behind are =
+      let all : take (place + 1) items ≡ items = take_all (place + 1) items (omega (arith, behind)) in
+      let more : place + 1 - length items ≡ suc (place - length items) = omega (arith, behind) in
+      let spread : resized ≡ items ++ replicate (suc (place - length items)) none = are ∙ (ap (λ xs. xs ++ replicate (place + 1 - length items) none) all ∙ ap (λ k. items ++ replicate k none) more) in
+      ap (λ xs. held (set xs place e)) spread ∙ held_more items (place - length items) place (omega (arith, behind))
+
+  pub put_view : ((n : ℕ) → IsEntry n none) → (items resized : List Entry) (place : ℕ) → IsView items → length items ≤ place → resized ≡ take (place + 1) items ++ replicate (place + 1 - length items) none
+      → IsEntry place e → e.region.handle.0 ≡ place → IsView (set resized place e)
+  put_view empty items resized place is behind are own number =
+      let all : take (place + 1) items ≡ items = take_all (place + 1) items (omega (arith, behind)) in
+      let more : place + 1 - length items ≡ suc (place - length items) = omega (arith, behind) in
+      let spread : resized ≡ items ++ replicate (suc (place - length items)) none = are ∙ (ap (λ xs. xs ++ replicate (place + 1 - length items) none) all ∙ ap (λ k. items ++ replicate k none) more) in
+      subst (λ xs. IsView (set xs place e)) (sym spread) (view_more empty items (place - length items) place (omega (arith, behind)) is own number)
