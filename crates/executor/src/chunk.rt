@@ -107,16 +107,6 @@ impl Chunk {
         self.pages[page].read(place % PAGE, below)
     }
 
-    /// Whether all bytes from a place on, in one page, are written.
-    #[inline(always)]
-    pub fn has_whole(&self, place: usize, size: usize) -> bool
-        requires place { place < 2 ^ 13 }
-        requires few { size ≤ 8 }
-    {
-        let page = self.places[place / PAGE] as usize;
-        self.pages[page].has_whole(place % PAGE, size)
-    }
-
     /// Writes a number's low bytes from a place on, in one page, where that page is there already.
     /// Whether it is.
     #[inline(always)]

@@ -8,7 +8,6 @@ ghost use Rattle.executor.specs.inner.Flat.{Goes};
 ghost use Rattle.executor.specs.inner.Held.{contents, surroundings};
 
 use crate::atomic::{leave32, leave64};
-use crate::address::address_of;
 use crate::atomic_place::{find32, find64, place_of};
 use crate::flat::Gone;
 use crate::flat_sources::{group_pointer, register_and, source_of};
@@ -141,29 +140,6 @@ fn change64(
     }
 }
 
-/// An operation of 32 bits and one source at a place, whatever is written there. Where its number is known to be written
-/// as a whole, the same is compiled to a straight way.
-#[inline(never)]
-fn change_anew32(
-    alloc: Global,
-    context: &ItemContext<'_>,
-    r: &mut Registers,
-    next: usize,
-    memory: &mut Memory,
-    change: Change,
-    target: MaybeRegister,
-    pointer: AtomicPointer,
-    source: Operand,
-    constant: u32,
-) -> Gone
-    requires { next < 2 ^ 32 }
-    ensures { Goes (atomic32_step (maybe target) pointer (changed change (source_of source constant))) (surroundings context.now) r.old next (contents memory.old) result r.new (contents memory.new) }
-{
-    change32(
-        alloc, context, r, next, memory, change, target, pointer, source, constant,
-    )
-}
-
 /// An operation of 32 bits and one source on global memory.
 #[inline]
 pub fn atomic_global32(
@@ -182,38 +158,8 @@ pub fn atomic_global32(
     requires { next < 2 ^ 32 }
     ensures { Goes (plain (flat.AtomicGlobal32 change target base source offset constant)) (surroundings context.now) r.old next (contents memory.old) result r.new (contents memory.new) }
 {
-    let pointer = register_and(base, offset as u64);
-    let is_known = memory.written.has_whole(address_of(r, pointer), 4);
-    let pointer = AtomicPointer::Global(pointer);
-    if is_known {
-        return change32(
-            alloc, context, r, next, memory, change, target, pointer, source, constant,
-        );
-    }
-    change_anew32(
-        alloc, context, r, next, memory, change, target, pointer, source, constant,
-    )
-}
-
-/// An operation of 64 bits and one source at a place, whatever is written there. Where its number is known to be written
-/// as a whole, the same is compiled to a straight way.
-#[inline(never)]
-fn change_anew64(
-    alloc: Global,
-    context: &ItemContext<'_>,
-    r: &mut Registers,
-    next: usize,
-    memory: &mut Memory,
-    change: Change,
-    target: MaybeRegister,
-    pointer: AtomicPointer,
-    source: Operand,
-    constant: u64,
-) -> Gone
-    requires { next < 2 ^ 32 }
-    ensures { Goes (atomic64_step (maybe target) pointer (changed change (source_of source constant))) (surroundings context.now) r.old next (contents memory.old) result r.new (contents memory.new) }
-{
-    change64(
+    let pointer = AtomicPointer::Global(register_and(base, offset as u64));
+    change32(
         alloc, context, r, next, memory, change, target, pointer, source, constant,
     )
 }
@@ -236,16 +182,18 @@ pub fn atomic_global64(
     requires { next < 2 ^ 32 }
     ensures { Goes (plain (flat.AtomicGlobal64 change target base source offset constant)) (surroundings context.now) r.old next (contents memory.old) result r.new (contents memory.new) }
 {
-    let pointer = register_and(base, offset as u64);
-    let is_known = memory.written.has_whole(address_of(r, pointer), 8);
-    let pointer = AtomicPointer::Global(pointer);
-    if is_known {
-        return change64(
-            alloc, context, r, next, memory, change, target, pointer, source, constant as u64,
-        );
-    }
-    change_anew64(
-        alloc, context, r, next, memory, change, target, pointer, source, constant as u64,
+    let pointer = AtomicPointer::Global(register_and(base, offset as u64));
+    change64(
+        alloc,
+        context,
+        r,
+        next,
+        memory,
+        change,
+        target,
+        pointer,
+        source,
+        constant as u64,
     )
 }
 

@@ -94,16 +94,6 @@ impl Page {
         }
     }
 
-    /// Whether all bytes from a place on are written.
-    #[inline(always)]
-    pub fn has_whole(&self, place: usize, size: usize) -> bool
-        requires place { place < 64 }
-        requires few { size ≤ 8 }
-    {
-        let all = ones(size);
-        (self.mask >> place) & all == all
-    }
-
     /// The number that an access from a place on sees, byte by byte.
     #[inline(never)]
     fn read_mixed(&self, place: usize, below: &[u8]) -> u64

@@ -128,17 +128,6 @@ impl WrittenBytes {
         }
     }
 
-    /// Whether all bytes of an access in one page are written, in the chunk at hand.
-    #[inline(always)]
-    pub fn has_whole(&self, address: u64, size: usize) -> bool
-        requires few { size ≤ 8 }
-    {
-        if address / CHUNK != self.last_number {
-            return false;
-        }
-        self.chunks[self.last].has_whole((address % CHUNK) as usize, size)
-    }
-
     /// Writes a number's low bytes from an address on. Without memory all is as before; but of an access
     /// that crosses into the next page of 64 bytes the part before that page may then be written.
     #[inline(always)]
