@@ -117,8 +117,8 @@ impl Page {
         requires page { place + size ≤ 64 }
         ensures { (x : ℕ) → page_byte self.new x ≡ laid (page_byte self.old) place (take size (to_le_bytes w64 value)) x }
     {
-        word::write(&mut self.bytes[place..], size, value);
         self.mask |= ones(size) << place;
+        word::write(&mut self.bytes[place..], size, value);
     }
 
     /// Adds the written bytes to runs of addresses below `base`, the page's first.
