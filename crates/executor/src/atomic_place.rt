@@ -224,3 +224,22 @@ pub fn put(
         }
     }
 }
+
+/// Where the chunk at hand has all bytes of a number that an operation may change, and which number they are.
+#[inline(always)]
+pub fn known(
+    view: &View<'_>,
+    written: &WrittenBytes,
+    address: u64,
+    size: usize,
+) -> Option<(usize, u64)> {
+    if changeable_region_of(view, address, size).is_none() {
+        return None;
+    }
+    if address % size as u64 != 0 {
+        return None;
+    }
+    let chunk = written.at_hand(address)?;
+    let number = written.read_whole(chunk, address, size)?;
+    Some((chunk, number))
+}

@@ -107,6 +107,13 @@ impl Chunk {
         self.pages[page].read(place % PAGE, below)
     }
 
+    /// The number from a place on, in one page, if all its bytes are written.
+    #[inline(always)]
+    pub fn read_whole(&self, place: usize, size: usize) -> Option<u64> {
+        let page = self.places[place / PAGE] as usize;
+        self.pages[page].read_whole(place % PAGE, size)
+    }
+
     /// Writes a number's low bytes from a place on, in one page, where that page is there already.
     /// Whether it is.
     #[inline(always)]

@@ -8,14 +8,17 @@ ghost use Rattle.executor.specs.inner.Flat.{Goes};
 ghost use Rattle.executor.specs.inner.Held.{contents, surroundings};
 
 use crate::atomic::{leave32, leave64};
-use crate::atomic_place::{find32, find64, place_of};
+use crate::access::StoreError;
+use crate::address::address_of;
+use crate::atomic_place::{find32, find64, known, place_of};
 use crate::flat::Gone;
 use crate::flat_sources::{group_pointer, register_and, source_of};
 use crate::item::ItemContext;
 use crate::memory::Memory;
 use crate::number::Number;
 use crate::registers::Registers;
-use kernel_check::{AtomicPointer, Change, MaybeRegister, Operand, RegisterNumber};
+use kernel_check::{AtomicPointer, Change, MaybeRegister, Operand, RegisterNumber, Source};
+use queue_error::SegmentAddress;
 use std::alloc::Global;
 
 /// What an operation of 32 bits leaves of an old value.
@@ -158,10 +161,25 @@ pub fn atomic_global32(
     requires { next < 2 ^ 32 }
     ensures { Goes (plain (flat.AtomicGlobal32 change target base source offset constant)) (surroundings context.now) r.old next (contents memory.old) result r.new (contents memory.new) }
 {
-    let pointer = AtomicPointer::Global(register_and(base, offset as u64));
-    change32(
-        alloc, context, r, next, memory, change, target, pointer, source, constant,
-    )
+    let address = address_of(r, register_and(base, offset as u64));
+    if let Some((chunk, number)) = known(context.view, &memory.written, address, 4) {
+        let value = r.read32(source_of(source, constant));
+        let old = number as u32;
+        let left = changed32(change, old, value);
+        if memory.written.overwrite_at(chunk, address, 4, left as u64) {
+            tell32(r, target, old);
+            return Gone::Onward;
+        }
+        return Gone::OutOfMemory;
+    }
+    match change_anew32(alloc, context, r, memory, change, address, source_of(source, constant)) {
+        Ok(old) => {
+            tell32(r, target, old);
+            Gone::Onward
+        }
+        Err(StoreError::Broke(rule)) => Gone::Broke(rule, SegmentAddress::Global(address)),
+        Err(StoreError::OutOfMemory) => Gone::OutOfMemory,
+    }
 }
 
 /// An operation of 64 bits and one source on global memory.
@@ -182,19 +200,25 @@ pub fn atomic_global64(
     requires { next < 2 ^ 32 }
     ensures { Goes (plain (flat.AtomicGlobal64 change target base source offset constant)) (surroundings context.now) r.old next (contents memory.old) result r.new (contents memory.new) }
 {
-    let pointer = AtomicPointer::Global(register_and(base, offset as u64));
-    change64(
-        alloc,
-        context,
-        r,
-        next,
-        memory,
-        change,
-        target,
-        pointer,
-        source,
-        constant as u64,
-    )
+    let address = address_of(r, register_and(base, offset as u64));
+    if let Some((chunk, number)) = known(context.view, &memory.written, address, 8) {
+        let value = r.read64(source_of(source, constant as u64));
+        let old = number;
+        let left = changed64(change, old, value);
+        if memory.written.overwrite_at(chunk, address, 8, left) {
+            tell64(r, target, old);
+            return Gone::Onward;
+        }
+        return Gone::OutOfMemory;
+    }
+    match change_anew64(alloc, context, r, memory, change, address, source_of(source, constant as u64)) {
+        Ok(old) => {
+            tell64(r, target, old);
+            Gone::Onward
+        }
+        Err(StoreError::Broke(rule)) => Gone::Broke(rule, SegmentAddress::Global(address)),
+        Err(StoreError::OutOfMemory) => Gone::OutOfMemory,
+    }
 }
 
 /// An operation of 32 bits and one source on group memory.
@@ -252,4 +276,54 @@ pub fn atomic_group64(
         source,
         constant as u64,
     )
+}
+
+/// An operation of 32 bits on global memory, whatever is written there. The old value.
+#[inline(never)]
+fn change_anew32(
+    alloc: Global,
+    context: &ItemContext<'_>,
+    r: &Registers,
+    memory: &mut Memory,
+    change: Change,
+    address: u64,
+    source: Source<u32>,
+) -> Result<u32, StoreError> {
+    let place = SegmentAddress::Global(address);
+    let value = r.read32(source);
+    match find32(context.view, memory, place) {
+        Err(rule) => Err(StoreError::Broke(rule)),
+        Ok(old) => {
+            let left = changed32(change, old, value);
+            if let Err(_) = leave32(alloc, memory, place, Some(left)) {
+                return Err(StoreError::OutOfMemory);
+            }
+            Ok(old)
+        }
+    }
+}
+
+/// An operation of 64 bits on global memory, whatever is written there. The old value.
+#[inline(never)]
+fn change_anew64(
+    alloc: Global,
+    context: &ItemContext<'_>,
+    r: &Registers,
+    memory: &mut Memory,
+    change: Change,
+    address: u64,
+    source: Source<u64>,
+) -> Result<u64, StoreError> {
+    let place = SegmentAddress::Global(address);
+    let value = r.read64(source);
+    match find64(context.view, memory, place) {
+        Err(rule) => Err(StoreError::Broke(rule)),
+        Ok(old) => {
+            let left = changed64(change, old, value);
+            if let Err(_) = leave64(alloc, memory, place, Some(left)) {
+                return Err(StoreError::OutOfMemory);
+            }
+            Ok(old)
+        }
+    }
 }

@@ -94,6 +94,17 @@ impl Page {
         }
     }
 
+    /// The number from a place on, if all its bytes are written.
+    #[inline(always)]
+    pub fn read_whole(&self, place: usize, size: usize) -> Option<u64> {
+        let all = ones(size);
+        if (self.mask >> place) & all == all {
+            Some(word::read(&self.bytes[place..], size))
+        } else {
+            None
+        }
+    }
+
     /// The number that an access from a place on sees, byte by byte.
     #[inline(never)]
     fn read_mixed(&self, place: usize, below: &[u8]) -> u64

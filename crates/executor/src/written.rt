@@ -128,6 +128,28 @@ impl WrittenBytes {
         }
     }
 
+    /// Where the chunk of an address stands, if it is the one at hand.
+    #[inline(always)]
+    pub fn at_hand(&self, address: u64) -> Option<usize> {
+        if address / CHUNK == self.last_number {
+            Some(self.last)
+        } else {
+            None
+        }
+    }
+
+    /// The number that an access in one page of a chunk sees, if all its bytes are written.
+    #[inline(always)]
+    pub fn read_whole(&self, chunk: usize, address: u64, size: usize) -> Option<u64> {
+        self.chunks[chunk].read_whole((address % CHUNK) as usize, size)
+    }
+
+    /// Writes a number's low bytes in one page of a chunk, where that page is there already. Whether it is.
+    #[inline(always)]
+    pub fn overwrite_at(&mut self, chunk: usize, address: u64, size: usize, value: u64) -> bool {
+        self.chunks[chunk].overwrite((address % CHUNK) as usize, size, value)
+    }
+
     /// Writes a number's low bytes from an address on. Without memory all is as before; but of an access
     /// that crosses into the next page of 64 bytes the part before that page may then be written.
     #[inline(always)]
