@@ -8,9 +8,9 @@ use Rattle.script.proofs.run.run_watched.Goals as goal
 
 pub loop-init : goal.loop-init
 loop-init g c = (
-  going_none (law g.L.Style.answering g.V.Watch.watching c.args.later.now) _ _ _ _ c.new.ensures.line c.new.ensures.number,
-  c.new.ensures.out,
-  omega (arith, c.new.ensures.number),
+  going_none (law g.L.Style.answering g.V.Watch.watching c.args.later.now) _ _ _ _ c.new-session.ensures.line c.new-session.ensures.number,
+  c.new-session.ensures.out,
+  omega (arith, c.new-session.ensures.number),
   omega arith,
   refl,
   refl,

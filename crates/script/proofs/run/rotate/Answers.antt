@@ -1,7 +1,0 @@
--- A rotation that was refused leaves the world.
-use Rattle.world.specs.declared.request.Request.TheVariants as request
-use Rattle.world.proofs.Refusing.{refused_stays}
-use Rattle.script.proofs.run.rotate.Goals as goal
-
-pub returns-in-Err-clause-kept : goal.returns-in-Err-clause-kept
-returns-in-Err-clause-kept c = λ refused. refused_stays _ _ request.Rotate _ c.in-Err.ensures.served
