@@ -2,3 +2,4 @@ pub mod Words
 pub mod Readings
 pub mod Parts
 pub mod Entries
+pub mod Journals
