@@ -3,3 +3,5 @@ pub mod Readings
 pub mod Parts
 pub mod Entries
 pub mod Journals
+pub mod Standing
+pub mod JournalReadings

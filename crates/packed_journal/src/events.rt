@@ -7,8 +7,9 @@ ghost use Rattle.packed_journal.specs.Entries.{read_change, read_close, read_eve
 use crate::reading::{
     read_client, read_operation, read_packet_named, read_queue, read_rights_on, read_rows,
 };
+use crate::packets::read_packet;
 use crate::unread::{
-    Unread, read_bytes, read_digest, read_number, read_packet, read_small, read_tag, wrong,
+    Unread, read_bytes, read_digest, read_number, read_small, read_tag, wrong,
 };
 use aql_packet::{Address, AgentHandle, SignalHandle};
 use core_model::{Call, Event};
