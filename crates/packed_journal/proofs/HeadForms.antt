@@ -5,8 +5,8 @@ use Rattle.std.specs.Prelude.{◌==◌, Result, Ok, Err, if◌then◌else◌}
 use Rattle.packed_journal.specs.declared.heads.Head.{Head}
 use Rattle.packed_journal.specs.declared.unread.Unread.{Unread}
 use Rattle.packed_journal.specs.declared.unread.Unread.TheVariants.{Ended, Wrong}
-use Rattle.packed_journal.specs.declared.steps.Headless.{Headless}
-use Rattle.packed_journal.specs.declared.steps.Headless.TheVariants as headless
+use Rattle.packed_journal.specs.declared.stepping.Headless.{Headless}
+use Rattle.packed_journal.specs.declared.stepping.Headless.TheVariants as headless
 use Rattle.packed_journal.specs.Words.{Word, Number, Digest, number_within, packed_number}
 use Rattle.packed_journal.specs.Readings.{Read, bytes_of, fit, both, read_digest, read_number}
 use Rattle.packed_journal.specs.Journals.{beginning, form_of_head, name, words_of_head}

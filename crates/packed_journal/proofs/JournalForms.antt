@@ -10,10 +10,10 @@ use Rattle.core_model.specs.declared.event.Event.TheVariants as event
 use Rattle.core_model.specs.declared.entry.Entry.{Entry}
 use Rattle.packed_journal.specs.declared.unread.Unread.{Unread}
 use Rattle.packed_journal.specs.declared.unread.Unread.TheVariants.{Ended, Wrong}
-use Rattle.packed_journal.specs.declared.steps.Step.{Step}
-use Rattle.packed_journal.specs.declared.steps.Step.TheVariants as step
-use Rattle.packed_journal.specs.declared.steps.Halt.{Halt}
-use Rattle.packed_journal.specs.declared.steps.Halt.TheVariants as halt
+use Rattle.packed_journal.specs.declared.stepping.Step.{Step}
+use Rattle.packed_journal.specs.declared.stepping.Step.TheVariants as step
+use Rattle.packed_journal.specs.declared.stepping.Halt.{Halt}
+use Rattle.packed_journal.specs.declared.stepping.Halt.TheVariants as halt
 use Rattle.packed_journal.specs.Words.{Word}
 use Rattle.packed_journal.specs.Readings.{Read, bytes_of, fit, words_of_list}
 use Rattle.packed_journal.specs.Entries.{form_of_entry, kept_policy, read_entry, words_of_effect, words_of_entry, words_of_event, words_of_outcome}

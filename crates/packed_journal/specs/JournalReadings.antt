@@ -7,12 +7,12 @@ use Rattle.core_model.specs.declared.entry.Entry.{Entry}
 use Rattle.packed_journal.specs.declared.unread.Unread.{Unread}
 use Rattle.packed_journal.specs.declared.unread.Unread.TheVariants.{Ended, Wrong}
 use Rattle.packed_journal.specs.declared.heads.Head.{Head}
-use Rattle.packed_journal.specs.declared.steps.Headless.{Headless}
-use Rattle.packed_journal.specs.declared.steps.Headless.TheVariants as headless
-use Rattle.packed_journal.specs.declared.steps.Step.{Step}
-use Rattle.packed_journal.specs.declared.steps.Step.TheVariants as step
-use Rattle.packed_journal.specs.declared.steps.Halt.{Halt}
-use Rattle.packed_journal.specs.declared.steps.Halt.TheVariants as halt
+use Rattle.packed_journal.specs.declared.stepping.Headless.{Headless}
+use Rattle.packed_journal.specs.declared.stepping.Headless.TheVariants as headless
+use Rattle.packed_journal.specs.declared.stepping.Step.{Step}
+use Rattle.packed_journal.specs.declared.stepping.Step.TheVariants as step
+use Rattle.packed_journal.specs.declared.stepping.Halt.{Halt}
+use Rattle.packed_journal.specs.declared.stepping.Halt.TheVariants as halt
 use Rattle.packed_journal.specs.Words.{packed_number}
 use Rattle.packed_journal.specs.Readings.{Read, fit, made, both, read_digest, read_number}
 use Rattle.packed_journal.specs.Entries.{form_of_entry, kept_policy, read_entry, words_of_entry}

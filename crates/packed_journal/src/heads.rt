@@ -7,7 +7,7 @@ ghost use Rattle.packed_journal.specs.JournalReadings.{begins_with, rest_behind,
 
 use crate::numbers::put_number;
 use crate::parts::put_bytes;
-use crate::steps::Headless;
+use crate::stepping::Headless;
 use crate::unread::{Unread, read_digest, read_number, wrong};
 
 /// What a journal begins with.

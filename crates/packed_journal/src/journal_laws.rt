@@ -3,8 +3,8 @@
 ghost use Rattle.std.specs.Prelude.{◌≡◌, ◌++◌, ◌*◌, ◌-◌, ◌<◌, ◌≤◌, ◌^◌, ℕ, List, Ok, Some, Option, length, map, true, false};
 ghost use Rattle.core_model.specs.declared.entry.Entry.{Entry};
 ghost use Rattle.packed_journal.specs.declared.heads.Head.{Head};
-ghost use Rattle.packed_journal.specs.declared.steps.Step.{Step};
-ghost use Rattle.packed_journal.specs.declared.steps.Step.TheVariants as step;
+ghost use Rattle.packed_journal.specs.declared.stepping.Step.{Step};
+ghost use Rattle.packed_journal.specs.declared.stepping.Step.TheVariants as step;
 ghost use Rattle.packed_journal.specs.Readings.{fit};
 ghost use Rattle.packed_journal.specs.Journals.{Place, is_full, journal, words_of_head};
 ghost use Rattle.packed_journal.specs.JournalReadings.{Told, all_fit, bytes_of_step, kept, read_journal, read_step, written};

@@ -6,12 +6,12 @@ ghost use Rattle.packed_journal.specs.Entries.{read_entry};
 ghost use Rattle.packed_journal.specs.Journals.{Place, end_of, form_of_head, opening, turn_of};
 ghost use Rattle.packed_journal.specs.JournalReadings.{begun, rest_behind, behind_read, behind_turn, if_entry, if_first, if_there, read_beginning, read_step, rests, steps};
 ghost use Rattle.packed_journal.specs.Standing.{Stands};
-ghost use Rattle.packed_journal.specs.declared.steps.Step.TheVariants as step;
+ghost use Rattle.packed_journal.specs.declared.stepping.Step.TheVariants as step;
 
 use crate::chains::{Chain, add, copied, put_between, put_end, put_first};
 use crate::heads::{Head, begins_with, rest_behind, read_head};
 use crate::outcomes::read_entry;
-use crate::steps::{Halt, Headless, Step};
+use crate::stepping::{Halt, Headless, Step};
 use crate::unread::Unread;
 use sha2::{Digest, Sha512};
 use std::alloc::{AllocError, Global};
@@ -72,7 +72,7 @@ fn end_behind<'a>(
 
 // A full block that ended, or why it didn't.
 fn turned(read: Result<&[u8], Unread>) -> Result<(Step, &[u8]), Halt>
-    ensures { steps result ≡ if_there step.Block (rests read) }
+    ensures { steps result ≡ if_there step.Block (rests read.entry) }
 {
     match read {
         Ok(rest) => Ok((Step::Block, rest)),
@@ -83,7 +83,7 @@ fn turned(read: Result<&[u8], Unread>) -> Result<(Step, &[u8]), Halt>
 
 // The journal's end, or why it didn't end.
 fn ended(read: Result<&[u8], Unread>) -> Result<(Step, &[u8]), Halt>
-    ensures { steps result ≡ if_there step.End (rests read) }
+    ensures { steps result ≡ if_there step.End (rests read.entry) }
 {
     match read {
         Ok(rest) => Ok((Step::End, rest)),

@@ -1,6 +1,6 @@
 //! Packets: which of their words aren't zero, and these as numbers.
 
-ghost use Rattle.std.specs.Prelude.{◌≡◌, ◌++◌, ◌+◌, ◌*◌, ◌≤◌, ◌<◌, length, vec_capacity, vec_len, if◌then◌else◌};
+ghost use Rattle.std.specs.Prelude.{◌≡◌, ◌++◌, ◌+◌, ◌*◌, ◌≤◌, ◌<◌, ◌==◌, length, vec_capacity, vec_len, if◌then◌else◌};
 ghost use Rattle.packed_journal.specs.Words.{Packet, appended, mask_of, packed, packed_full, packed_words};
 ghost use Rattle.packed_journal.specs.Readings.{reads, read_full, read_packet, read_word, read_words};
 

@@ -1,4 +1,4 @@
-use Rattle.packed_journal.specs.declared.steps.Step.TheVariants as step
+use Rattle.packed_journal.specs.declared.stepping.Step.TheVariants as step
 use Rattle.packed_journal.proofs.JournalForms.{step_told}
 use Rattle.packed_journal.proofs.journal_laws.law_blocks_end_where_they_are_full.Goals as goal
 
