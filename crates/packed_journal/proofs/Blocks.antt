@@ -45,3 +45,10 @@ goes_on place old h = (rw h (sym (append-nil old)), rw h refl)
 -- behind one whose block is full stand its end and the next one's beginning
 pub turns : (place : Place) (old new : List ℕ) → is_full place ≡ true → new ≡ old ++ turn_of place → (new ≡ old ++ between place) × (onward place ≡ begins (digest_of place) place.number)
 turns place old new h n = (n ∙ rw h refl, rw h refl)
+
+-- the front of bytes, before those that are left
+pub front_is : (form bytes rest : List ℕ) → bytes ≡ form ++ rest → take (length bytes - length rest) bytes ≡ form
+front_is form bytes rest e =
+    let long : length (form ++ rest) ≡ length form + length rest = length-append form rest in
+    let whole : length bytes ≡ length (form ++ rest) = ap length e in
+    ap (take (length bytes - length rest)) e ∙ take_at form rest (length bytes - length rest) (omega (arith, long, whole))

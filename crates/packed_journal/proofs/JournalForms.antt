@@ -71,12 +71,14 @@ event_unmarked (event.Reload rows) policy others rest = refl
 pub entry_unmarked : (entry : Entry) (policy rest : List ℕ) → begins_with 0 (form_of_entry entry policy ++ rest) ≡ false
 entry_unmarked entry policy rest = event_unmarked entry.event policy _ rest
 
+plain_step : (place : Place) (bytes : List ℕ) → is_full place ≡ false → begins_with 0 bytes ≡ false → is_last place ≡ false → read_step place bytes ≡ if_entry (read_entry bytes)
+plain_step place bytes full plain last = rw (full, plain, last) refl
+
 -- what was written of a step is read so
 pub entry_step : (place : Place) (entry : Entry) (policy rest : List ℕ) → is_full place ≡ false → is_last place ≡ false → fit (words_of_entry entry policy) ≡ true →
     read_step place (form_of_entry entry policy ++ rest) ≡ Ok (step.Entry entry (kept_policy entry.event policy), rest)
 entry_step place entry policy rest full last fits_ =
-    let plain : begins_with 0 (form_of_entry entry policy ++ rest) ≡ false = entry_unmarked entry policy rest in
-    rw (full, plain, last) (ap if_entry (entry_back entry policy rest fits_))
+    plain_step place (form_of_entry entry policy ++ rest) full (entry_unmarked entry policy rest) last ∙ ap if_entry (entry_back entry policy rest fits_)
 
 pub block_step : (place : Place) (rest : List ℕ) → is_full place ≡ true → read_step place (turn_of place ++ rest) ≡ Ok (step.Block, rest)
 block_step place rest full = rw full (ap (if_there step.Block) (behind_back (turn_of place) rest))

@@ -15,7 +15,7 @@ pub journal_back : (head : Head) (entries : List (Entry × List ℕ)) (rest : Li
 journal_back head entries rest steps f fits_ few enough =
     ap (read_journal steps) (append_assoc (beginning head) (body (opening head) (forms_of entries)) rest)
     ∙ ap (and_body steps) (beginning_back head (body (opening head) (forms_of entries) ++ rest) f)
-    ∙ ap (with_head head) (body_back entries rest fits_ (opening head) steps refl few enough)
+    ∙ ap (with_head head) (body_back entries rest fits_ (opening head) steps refl (omega (arith, few)) enough)
 
 abbrev JournalTold : List ℕ → Option (Head × (List Told × List ℕ)) → Type 0
 JournalTold bytes None = ⊤

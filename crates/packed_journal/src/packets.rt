@@ -91,7 +91,10 @@ fn read_words(mask: u8, bytes: &[u8]) -> Result<([u64; 8], &[u8]), Unread>
     let mut left = mask;
     let mut rest = bytes;
     for place in 0..8 {
-        let (word, behind) = read_word(left % 2, rest)?;
+        let (word, behind) = match read_word(left % 2, rest) {
+            Ok(read) => read,
+            Err(why) => return Err(why),
+        };
         words[place] = word;
         left = left / 2;
         rest = behind;
