@@ -1,12 +1,13 @@
 -- What is cached stays what the history says when an entry is put behind it and the fields follow.
-use Rattle.std.proofs.Common.{◌≡◌, ℕ, ◌+◌, ◌≤◌, List, [], ◌∷◌, length, sym, ◌∙◌, ap, subst, refl, true, false, Some, None, arith, length-append, map, fold}
+use Rattle.std.proofs.Common.{◌≡◌, ℕ, ◌+◌, ◌≤◌, List, [], ◌∷◌, length, sym, ◌∙◌, ap, subst, refl, true, false, Some, None, arith, length-append, fold}
 use Rattle.std.proofs.Common.{All}
-use Rattle.access_core.proofs.Terms.{AreBlocksOf, ArgumentBlock, ClientId, Effect, Event, HasBlockPlaces, History, HoldsNone, InFlight, Inside, IsCached, IsEntered, IsSound, Ledger, Object, Outcome}
+use Rattle.access_core.proofs.Terms.{AreBlocksOf, AreLaid, ArgumentBlock, ClientId, Effect, Event, History, HoldsNone, InFlight, Inside, IsCached, IsEntered, IsSound, Ledger, Object, Outcome}
 use Rattle.access_core.proofs.Terms.{Owed}
 use Rattle.access_core.proofs.Terms.{PacketId, QUEUES, Queue, QueueId, Right, Start, block_of, is_given, byte_after, byte_at, cached_openings, cached_view, due, entered-owed}
-use Rattle.access_core.proofs.Terms.{enters, entry_of, flight, flight-more, history_of, places_of, in_force, in_force-more, in_force_after, lacks_room, launched_by, lengths_of}
+use Rattle.access_core.proofs.Terms.{enters, entry_of, flight, flight-more, history_of, in_force, in_force-more, in_force_after, lacks_room, launched_by, lengths_of}
 use Rattle.access_core.proofs.Terms.{lies_in_region, lies_in_regions, ltb-false, memory_at, memory_at-more, openings-more, owed, queue_at, queue_in}
 use Rattle.access_core.proofs.Terms.{region_lengths, signals-more, signals_after, start_of, with_entry, AscendFrom, Openings, openings_after}
+use Rattle.core_model.specs.declared.origin.Origin.{Origin}
 use Rattle.core_model.specs.Policies.{policy_at, rows_after}
 use Rattle.core_model.proofs.More.{rows_at-more}
 use Rattle.policy.specs.declared.rows.PolicyRows.{PolicyRows}
@@ -47,11 +48,12 @@ pub record QueuesAfter (a : Inside) (new : List Queue) (opened count : ℕ) (eve
 pub record FieldsAfter (a b : Inside) (event : Event) (outcome : Outcome) (effects : List Effect) : Type 0 where
   pub same : ((b.start ≡ a.start) × (b.kernels ≡ a.kernels) × (b.segments ≡ a.segments)) × (b.capacity ≡ a.capacity)
   pub audit : IsEntered a.audit b.audit (entry_of event outcome effects)
-  pub grants : GrantsAfter a b.grants b.blocks.items event outcome effects
+  pub blocks : List ArgumentBlock
+  pub grants : GrantsAfter a b.grants blocks event outcome effects
   pub memory : MemoryAfter a.memory b.memory effects
   pub values : b.signals ≡ fold signals_after a.signals effects
   pub queues : QueuesAfter a b.queues.items b.opened b.in_flight_count event outcome effects
-  pub block_room : HasBlockPlaces b.queues.items b.in_flight_count (places_of b.blocks)
+  pub laid : AreLaid b.queues.items (a.start.before + length a.audit.items + 1) blocks
 
 -- what is due to an event after a history is due by the fields that show it
 due-inside : (a : Inside) (old : History) (event : Event) (owing : Owed) → history_of a ≡ old → due old event ≡ owing → due (history_of a) event ≡ owing
@@ -74,6 +76,9 @@ module _ (a b : Inside) (event : Event) (outcome : Outcome) (effects : List Effe
   longer : length b.audit.items ≡ length a.audit.items + 1
   longer = ap length after.audit.items ∙ length-append a.audit.items (entry_of event outcome effects ∷ [])
 
+  entries-after : a.start.before + length a.audit.items + 1 ≡ b.start.before + length b.audit.items
+  entries-after = let same = ap (λ (o : Origin). o.before) after.same.0.0 in omega (arith, same, longer)
+
   granted-after : (client : ClientId) (on : Object) (right : Right) → ledger.in_force b.grants client on right ≡ in_force (start_of b) b.audit.items client on right
   granted-after client on right = grind (arith, in_force-more)
 
@@ -91,6 +96,8 @@ module _ (a b : Inside) (event : Event) (outcome : Outcome) (effects : List Effe
       record {
         granted = granted-after;
         rules = rules-after;
+        blocks = after.blocks;
+        laid = subst (λ n. AreLaid b.queues.items n after.blocks) entries-after after.laid;
         held = λ queue id client on right. rw (after.same.0.0, after.same.0.1, after.audit.items) (after.grants.held queue id client on right);
         unheld = after.grants.unheld;
         blocks_are = rw (after.same.0.0, after.same.0.1, after.audit.items) after.grants.blocks_are;
@@ -111,7 +118,6 @@ module _ (a b : Inside) (event : Event) (outcome : Outcome) (effects : List Effe
         within = rw (after.same.0.0, after.same.0.1, after.audit.items, flight-more)
             (all-after (λ f. lies_in_regions (region_lengths a.start.policy) f.packet ≡ true) (entry_of event outcome effects)
             (flight (start_of a) a.audit.items) after.queues.within was.within);
-        block_room = after.block_room;
         room = omega (arith, longer, room, after.queues.in_flight_count, after.same.1);
         places = omega (arith, longer, after.audit.room, after.same.1, was.places);
         few = omega (arith, after.same.1, was.few);

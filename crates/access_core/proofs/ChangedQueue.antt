@@ -1,8 +1,8 @@
 -- One queue of the list changed: what is kept of it, and of the others.
-use Rattle.std.proofs.Common.{◌≡◌, ℕ, zero, suc, ◌+◌, ◌<◌, ◌≤◌, Bool, true, false, List, [], ◌∷◌, length, map, All, refl, sym, ◌∙◌, ap, subst, eqb-true, option_map, Option}
+use Rattle.std.proofs.Common.{◌≡◌, ℕ, zero, suc, ◌≤◌, Bool, true, false, List, [], ◌∷◌, length, map, All, refl, sym, ◌∙◌, ap, subst, eqb-true, option_map, Option}
 use Rattle.std.proofs.Common.{Some, None, arith, ◌==◌, get_or, slice_get, slice_set, if◌then◌else◌}
 use Rattle.access_core.proofs.Terms.{All-cons, All-head, All-tail, AscendFrom, Entry, IsQueueIndex, IsSound, IsThere, PacketId, Queue, QueueId, QueueView, Start, cached_openings, cached_queue, cached_view, changed_if, error_places, found-all, found-passes}
-use Rattle.access_core.proofs.Terms.{free_of, free_places, freed_by, has_number, length-map, places_freed, slice_get-get_or, queue_at, queue_in, with_queue}
+use Rattle.access_core.proofs.Terms.{freed_by, has_number, length-map, places_freed, slice_get-get_or, queue_at, queue_in, with_queue}
 use Rattle.access_core.proofs.Numbered.{above-place, none-above}
 
 pub freed-at : (id : Option PacketId) (qs : List Queue) (n : QueueId) (q : Queue) → queue_in qs n ≡ Some q → freed_by id qs n ≡ places_freed id q.places
@@ -62,23 +62,6 @@ kept-there qs n i q kept found at value =
     let here : Some kept ≡ Some q = ap Some value ∙ sym (slice_get-get_or qs i kept at.0) ∙ sym at.1 ∙ found in
     cc
 
--- how many packets more can be in flight, where one queue is changed
-free-with : (below : ℕ) (qs : List Queue) (n : QueueId) (change : Queue → Queue) (q : Queue) → AscendFrom below qs → queue_in qs n ≡ Some q
-    → free_places (with_queue qs n change) + free_of q ≡ free_places qs + free_of (change q)
-free-with below [] n change q ascending found = absurd cc
-free-with below (x ∷ xs) n change q ascending found = by_test (has_number n x) refl found (free-with x.number.0 xs n change q ascending.1)
-  where
-    by_test : (b : Bool) → has_number n x ≡ b → (if b then Some x else queue_in xs n) ≡ Some q
-        → (queue_in xs n ≡ Some q → free_places (with_queue xs n change) + free_of q ≡ free_places xs + free_of (change q))
-        → free_places (with_queue (x ∷ xs) n change) + free_of q ≡ free_places (x ∷ xs) + free_of (change q)
-    by_test true is found rest =
-        let same : x ≡ q = cc in
-        let old = ap free_of same in
-        let new = ap (λ y. free_of (change y)) same in
-        let others = ap free_places (behind-untouched n change xs x.number.0 ascending.1 (head-number n x is)) in
-        rw is (omega (arith, old, new, others))
-    by_test false is found rest = let more = rest found in rw is (omega (arith, more))
-
 -- what is told of each queue stays, where it does of the one that is changed
 map-with : {X : Type 0} (f : Queue → X) (below : ℕ) (qs : List Queue) (n : QueueId) (change : Queue → Queue) (q : Queue) → AscendFrom below qs → queue_in qs n ≡ Some q → f (change q) ≡ f q
     → map f (with_queue qs n change) ≡ map f qs
@@ -132,10 +115,6 @@ module _ (qs : List Queue) (n : QueueId) (change : Queue → Queue) (q : Queue) 
   pub errors-changed : error_places (change q) ≡ error_places q → map error_places (with_queue qs n change) ≡ map error_places qs
   errors-changed same = map-with error_places 0 qs n change q ascending found same
 
-  -- as many packets more can be in flight of the changed list as the changed queue has places for
-  pub free-changed : free_places (with_queue qs n change) + free_of q ≡ free_places qs + free_of (change q)
-  free-changed = free-with 0 qs n change q ascending found
-
   pub length-changed : length (with_queue qs n change) ≡ length qs
   length-changed = length-map qs (changed_if n change)
 
@@ -151,18 +130,18 @@ module _ (qs : List Queue) (n : QueueId) (change : Queue → Queue) (q : Queue) 
         all-with (λ x. x.number.0 ≤ opened) 0 qs n change q ascending found
         (subst (λ k. k ≤ opened) (sym (ap (λ (k : QueueId). k.0) (same q))) (found-all (λ x. x.number.0 ≤ opened) (has_number n) qs q all found)) all
 
-    -- the changed queue is kept at its number, the others are as they were
-    pub cached-changed : (m : QueueId) → cached_view (queue_in (with_queue qs n change) m) ≡ (if n.0 == m.0 then cached_view (Some (change q)) else cached_view (queue_in qs m))
-    cached-changed m = ap cached_view (found-with qs n change m same) ∙ by_test (n.0 == m.0) refl
+    -- what is told of the changed queue is told at its number, and of the others as before
+    pub found-changed : {X : Type 0} (told : Option Queue → X) (m : QueueId) → told (queue_in (with_queue qs n change) m) ≡ (if n.0 == m.0 then told (Some (change q)) else told (queue_in qs m))
+    found-changed told m = ap told (found-with qs n change m same) ∙ by_test (n.0 == m.0) refl
       where
-        is_found : (o : Option Queue) → queue_in qs m ≡ o → (n.0 == m.0) ≡ false → cached_view (option_map (changed_if n change) o) ≡ cached_view o
+        is_found : (o : Option Queue) → queue_in qs m ≡ o → (n.0 == m.0) ≡ false → told (option_map (changed_if n change) o) ≡ told o
         is_found None is other = refl
         is_found (Some x) is other =
             let its : has_number m x ≡ true = found-passes (has_number m) qs x is in
             let not_it : has_number n x ≡ false = grind arith in
             rw not_it refl
 
-        by_test : (b : Bool) → (n.0 == m.0) ≡ b → cached_view (option_map (changed_if n change) (queue_in qs m)) ≡ (if b then cached_view (Some (change q)) else cached_view (queue_in qs m))
+        by_test : (b : Bool) → (n.0 == m.0) ≡ b → told (option_map (changed_if n change) (queue_in qs m)) ≡ (if b then told (Some (change q)) else told (queue_in qs m))
         by_test true is =
             let here : m ≡ n = ap (λ k. record { 0 = k }) (sym (eqb-true _ _ is)) in
             let its : has_number n q ≡ true = found-passes (has_number n) qs q found in
@@ -176,7 +155,7 @@ module _ (qs : List Queue) (n : QueueId) (change : Queue → Queue) (q : Queue) 
         → ((m : QueueId) → queue_at start new m ≡ (if n.0 == m.0 then view (queue_at start old m) else queue_at start old m))
         → (m : QueueId) → cached_view (queue_in (with_queue qs n change) m) ≡ queue_at start new m
     queues-changed view start old new alike was now m =
-        cached-changed m ∙ by_test (n.0 == m.0) refl ∙ sym (now m)
+        found-changed cached_view m ∙ by_test (n.0 == m.0) refl ∙ sym (now m)
       where
         by_test : (b : Bool) → (n.0 == m.0) ≡ b → (if b then cached_view (Some (change q)) else cached_view (queue_in qs m)) ≡ (if b then view (queue_at start old m) else queue_at start old m)
         by_test true is =

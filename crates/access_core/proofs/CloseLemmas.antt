@@ -12,12 +12,13 @@ use Rattle.core_model.specs.declared.entry.Effect.TheVariants as effect
 use Rattle.core_model.specs.declared.outcome.Outcome.TheVariants as outcome
 use Rattle.core_model.specs.declared.refusal.Refusal.TheVariants as refusal
 use Rattle.grants.specs.Pairs.{is_named}
-use Rattle.access_core.proofs.Terms.{All-filter, All-head, All-tail, All-weaker, AreBlocksOf, ArgumentBlock, AscendFrom, Call, ClientId, Close, Effect, Entry, Event, HasBlockPlaces, History, InFlight, Inside, IsCached, IsSound, LAUNCH_PROGRESS, Ledger, MOST_IN_FLIGHT, Object, Openings, Outcome, PacketId, Place, Progress, Queue, QueueId, QueueView}
-use Rattle.access_core.proofs.Terms.{Right, Roomy, arguments-more, block_behind, block_of, byte_after, cached_opening, cached_openings, cached_queue, cached_view, due, enters, entry_of, error_places, flight, flight_after_effect, flight_of, flying_in, found-passes, free_of, free_places, has_number, held, held-more, history_of}
-use Rattle.access_core.proofs.Terms.{in_flight, is_block, is_full, is_given, is_packet, lacks_room, length-map, list_any, map-append, name_of, owner, packet_of, place_of, places_in, places_of, progress, queue_at, queue_in, refuses, release_from, releases, releases_in, releases_of, same_packet, signals_after, start_of, with_entry, without_blocks, without_queue}
+use Rattle.access_core.proofs.Terms.{All-filter, All-head, All-tail, All-weaker, AreLaid, ArgumentBlock, AscendFrom, Call, ClientId, Close, Effect, Entry, Event, History, InFlight, Inside, IsCached, IsSound, LAUNCH_PROGRESS, Object, Openings, Outcome, PacketId, Place, Progress, Queue, QueueId, QueueView}
+use Rattle.access_core.proofs.Terms.{Right, arguments-more, block_behind, block_of, byte_after, cached_opening, cached_openings, cached_queue, cached_view, due, enters, entry_of, error_places, flight, flight_after_effect, flight_of, flying_in, found-passes, has_number, held, held-more, history_of}
+use Rattle.access_core.proofs.Terms.{in_flight, is_block, is_full, is_given, is_packet, lacks_room, length-map, list_any, map-append, name_of, owner, packet_of, place_of, places_in, progress, queue_at, queue_in, refuses, release_from, releases, releases_in, releases_of, same_packet, signals_after, start_of, with_entry, without_blocks, without_queue}
 use Rattle.access_core.proofs.Calls.{due-by}
 use Rattle.access_core.proofs.CachedMore.{GrantsAfter, QueuesAfter, none-launched}
 use Rattle.access_core.proofs.HeldAfter.{map-left, rows-still}
+use Rattle.access_core.proofs.Laid.{laid-closed}
 use Rattle.access_core.proofs.NamedOnce.{none-named}
 use Rattle.access_core.proofs.Numbered.{ascend-lower, found-at, none-above}
 use Rattle.access_core.proofs.QueueAt.{after, flight-unlaunched, further, map-map, of_queue, queue_at-more}
@@ -111,10 +112,6 @@ found-without queue [] m = either (queue.0 == m.0) None
     either true o = refl
     either false o = refl
 found-without queue (x ∷ xs) m = grind (arith, found-without queue xs m)
-
-free-append : (xs ys : List Queue) → free_places (xs ++ ys) ≡ free_places xs + free_places ys
-free-append [] ys = omega arith
-free-append (x ∷ xs) ys = omega (arith, free-append xs ys)
 
 -- ---- the releases of a queue's packets
 
@@ -240,14 +237,14 @@ module _ (a : Inside) (kept : IsCached a) (queue : QueueId) where
   abbrev Now : List Entry
   Now = with_entry a.audit.items (Call (Close queue)) outcome.Accepted Told
 
-  held-closed : (q : QueueId) (id : PacketId) (client : ClientId) (on : Object) (right : Right) → is_given (without_blocks queue a.blocks.items) q id client on right ≡ held (start_of a) Now q id client on right
+  held-closed : (q : QueueId) (id : PacketId) (client : ClientId) (on : Object) (right : Right) → is_given (without_blocks queue kept.blocks) q id client on right ≡ held (start_of a) Now q id client on right
   held-closed q id client on right =
-      any-left (λ b. is_named b.rights b.client client on right) q id a.blocks.items
+      any-left (λ b. is_named b.rights b.client client on right) q id kept.blocks
       ∙ by_queue (q.0 == queue.0) refl (held (start_of a) a.audit.items q id client on right) (kept.held q id client on right)
       ∙ sym (held-more (start_of a) a.audit.items (entry_of (Call (Close queue)) outcome.Accepted Told) q id client on right ∙ (rw (drops-closed queue q id Flying) refl))
     where
-      by_queue : (b : Bool) → (q.0 == queue.0) ≡ b → (h : Bool) → is_given a.blocks.items q id client on right ≡ h
-          → (is_given a.blocks.items q id client on right && not (q.0 == queue.0)) ≡ ((h || false) && not (q.0 == queue.0 && list_any (is_packet queue id) Flying))
+      by_queue : (b : Bool) → (q.0 == queue.0) ≡ b → (h : Bool) → is_given kept.blocks q id client on right ≡ h
+          → (is_given kept.blocks q id client on right && not (q.0 == queue.0)) ≡ ((h || false) && not (q.0 == queue.0 && list_any (is_packet queue id) Flying))
       by_queue false is h given = rw (is, given) (plain h)
         where
           plain : (b : Bool) → (b && true) ≡ ((b || false) && true)
@@ -256,35 +253,39 @@ module _ (a : Inside) (kept : IsCached a) (queue : QueueId) where
       by_queue true is true given =
           let same : queue ≡ q = ap (λ n. record { 0 = n }) (sym (eqb-true _ _ is)) in
           let named : list_any (is_packet queue id) Flying ≡ true =
-          (λ i. list_any (is_packet (same i) id) Flying) ∙ none-named q id Flying a.blocks.items kept.blocks_are ∙ any-block (λ b. is_named b.rights b.client client on right) q id a.blocks.items given in
+          (λ i. list_any (is_packet (same i) id) Flying) ∙ none-named q id Flying kept.blocks kept.blocks_are ∙ any-block (λ b. is_named b.rights b.client client on right) q id kept.blocks given in
           rw (is, given, named) refl
 
-  arguments-closed : (q : QueueId) (id : PacketId) → block_of (without_blocks queue a.blocks.items) q id ≡ arguments (start_of a) Now q id
+  arguments-closed : (q : QueueId) (id : PacketId) → block_of (without_blocks queue kept.blocks) q id ≡ arguments (start_of a) Now q id
   arguments-closed q id =
-      block-left q id [] a.blocks.items
+      block-left q id [] kept.blocks
       ∙ by_queue (q.0 == queue.0) refl (list_any (is_packet queue id) Flying) refl
       ∙ sym (arguments-more (start_of a) a.audit.items (entry_of (Call (Close queue)) outcome.Accepted Told) q id ∙ (rw (drops-closed queue q id Flying) refl))
     where
       by_queue : (b : Bool) → (q.0 == queue.0) ≡ b → (n : Bool) → list_any (is_packet queue id) Flying ≡ n
-          → (if b then [] else block_of a.blocks.items q id) ≡ (if b && n then [] else arguments (start_of a) a.audit.items q id)
+          → (if b then [] else block_of kept.blocks q id) ≡ (if b && n then [] else arguments (start_of a) a.audit.items q id)
       by_queue false is n named = kept.arguments q id
       by_queue true is true named = refl
       by_queue true is false named =
           let same : q ≡ queue = ap (λ n. record { 0 = n }) (eqb-true _ _ is) in
-          sym (none-behind a kept q id Flying a.blocks.items [] kept.blocks_are ((λ i. list_any (is_packet (same i) id) Flying) ∙ named)) ∙ kept.arguments q id
+          sym (none-behind a kept q id Flying kept.blocks [] kept.blocks_are ((λ i. list_any (is_packet (same i) id) Flying) ∙ named)) ∙ kept.arguments q id
 
-  pub grants-closed : GrantsAfter a a.grants (without_blocks queue a.blocks.items) (Call (Close queue)) outcome.Accepted Told
+  pub grants-closed : GrantsAfter a a.grants (without_blocks queue kept.blocks) (Call (Close queue)) outcome.Accepted Told
   grants-closed = record {
     granted = λ client on right. refl;
     rules = refl;
     held = held-closed;
     unheld = kept.unheld;
-    blocks_are = rw flight-closed (map-left packet_of stays a.blocks.items ∙ ap (filter stays) kept.blocks_are ∙ sym (map-left name_of stays Flying));
+    blocks_are = rw flight-closed (map-left packet_of stays kept.blocks ∙ ap (filter stays) kept.blocks_are ∙ sym (map-left name_of stays Flying));
     arguments = arguments-closed;
   }
     where
       stays : QueueId × PacketId → Bool
       stays named = not (named.0.0 == queue.0)
+
+  -- and where the blocks lie that are left
+  pub closed-laid : AreLaid (without_queue queue a.queues.items) (a.start.before + length a.audit.items + 1) (without_blocks queue kept.blocks)
+  closed-laid = laid-closed a.queues.items (a.start.before + length a.audit.items) kept.blocks kept.laid queue (found-without queue a.queues.items)
 
   -- a release changes neither memory nor signals
   pub memory-closed : (x byte : ℕ) (gs : List InFlight) → fold (byte_after x) byte (releases_of queue gs) ≡ byte
@@ -330,20 +331,6 @@ module _ (a : Inside) (kept : IsCached a) (queue : QueueId) where
         by_queue : (m : QueueId) (b : Bool) → cached_view (if b then None else queue_in a.queues.items m) ≡ (if b then cached_view None else queue_at (start_of a) a.audit.items m)
         by_queue m true = refl
         by_queue m false = kept.queues m
-
-    -- its eight places for argument blocks are needed no more
-    pub room-closed : (blocks : Roomy ArgumentBlock) → places_of blocks ≡ places_of a.blocks → HasBlockPlaces (without_queue queue a.queues.items) (a.in_flight_count - flying_in a.queues.items queue) (places_of blocks)
-    room-closed blocks same =
-        let apart = parted 0 queue a.queues.items at.q kept.ascending at.found in
-        let free = ap free_places apart.whole ∙ free-append apart.before (at.q ∷ apart.behind) in
-        let less = ap free_places apart.left ∙ free-append apart.before apart.behind in
-        let long = ap length apart.whole ∙ length-append apart.before (at.q ∷ apart.behind) in
-        let short = ap length apart.left ∙ length-append apart.before apart.behind in
-        let flying = flying-at a.queues.items queue at.q at.found in
-        record {
-          free = omega (arith, free, less, long, short, flying, flying-below, at.sound.free, kept.block_room.free);
-          enough = omega (arith, long, short, same, kept.block_room.enough);
-        }
 
     -- its errors' places go
     pub errors-closed : (before : List ℕ) × (lost : ℕ) × (behind : List ℕ) × (map error_places a.queues.items ≡ before ++ lost ∷ behind) × (map error_places (without_queue queue a.queues.items) ≡ before ++ behind)

@@ -56,19 +56,19 @@ module _ (a : Inside) (kept : IsCached a) (client : ClientId) (on : Object) (rig
   abbrev holding : InFlight → Bool
   holding f = holds_one_of (start_of a) a.audit.items client on rights f
 
-  same_test : (queue : QueueId) (id : PacketId) → has_block (lists_one client on rights) a.blocks.items queue id ≡ passes holding (flight (start_of a) a.audit.items) queue id
-  same_test = holder-history (start_of a) a.audit.items kept.legal client on rights a.blocks.items kept.held
+  same_test : (queue : QueueId) (id : PacketId) → has_block (lists_one client on rights) kept.blocks queue id ≡ passes holding (flight (start_of a) a.audit.items) queue id
+  same_test = holder-history (start_of a) a.audit.items kept.legal client on rights kept.blocks kept.held
 
-  first-test : (o : Option (QueueId × PacketId)) → IsFirstTo (has_block (lists_one client on rights) a.blocks.items) o → IsFirstTo (passes holding (flight (start_of a) a.audit.items)) o
+  first-test : (o : Option (QueueId × PacketId)) → IsFirstTo (has_block (lists_one client on rights) kept.blocks) o → IsFirstTo (passes holding (flight (start_of a) a.audit.items)) o
   first-test o = first_same _ _ o (λ queue id. sym (same_test queue id))
 
   -- a revocation that grants let pass, and no packet stands against, is owed its entry
-  revoke-owed : RevokeAnswers a.grants client on rights (Ok tt) → IsFirstTo (has_block (lists_one client on rights) a.blocks.items) None
+  revoke-owed : RevokeAnswers a.grants client on rights (Ok tt) → IsFirstTo (has_block (lists_one client on rights) kept.blocks) None
       → owed (start_of a) a.audit.items (Call (Revoke client on rights)) ≡ enters outcome.Accepted []
   unfolding owed
   revoke-owed answers none = grind (arith, least-none holding (flight (start_of a) a.audit.items) (first-test None none))
 
-  pub revoke-due : (old : History) → history_of a ≡ old → RevokeAnswers a.grants client on rights (Ok tt) → IsFirstTo (has_block (lists_one client on rights) a.blocks.items) None
+  pub revoke-due : (old : History) → history_of a ≡ old → RevokeAnswers a.grants client on rights (Ok tt) → IsFirstTo (has_block (lists_one client on rights) kept.blocks) None
       → (full : Bool) → is_full old ≡ full
       → due old (Call (Revoke client on rights)) ≡ (if full then refuses refusal.AuditFull else enters outcome.Accepted [])
   revoke-due old seen_as may none full is = due-by a old seen_as (Call (Revoke client on rights)) _ (revoke-owed may none)
@@ -76,7 +76,7 @@ module _ (a : Inside) (kept : IsCached a) (client : ClientId) (on : Object) (rig
 
   -- one that a packet stands against is refused, with the least of them
   pub revoke-held : RevokeAnswers a.grants client on rights (Ok tt) → (queue : QueueId) (id : PacketId)
-      → IsFirstTo (has_block (lists_one client on rights) a.blocks.items) (Some (queue, id))
+      → IsFirstTo (has_block (lists_one client on rights) kept.blocks) (Some (queue, id))
       → owed (start_of a) a.audit.items (Call (Revoke client on rights)) ≡ refuses (refusal.Busy queue id)
   unfolding owed
   revoke-held answers queue id first = grind (arith, least-first holding (flight (start_of a) a.audit.items) queue id (first-test (Some (queue, id)) first))

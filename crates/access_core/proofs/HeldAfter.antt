@@ -18,10 +18,10 @@ use Rattle.grants.specs.Ledger as ledger
 -- ---- an entry that launches and releases nothing
 
 -- packets hold the same after it
-pub held-still : (a : Inside) → IsCached a → (event : Event) (outcome : Outcome) (effects : List Effect) → launched_by event outcome ≡ None
+pub held-still : (a : Inside) (kept : IsCached a) → (event : Event) (outcome : Outcome) (effects : List Effect) → launched_by event outcome ≡ None
     → ((queue : QueueId) (id : PacketId) → list_any (releases queue id) effects ≡ false)
     → (queue : QueueId) (id : PacketId) (client : ClientId) (on : Object) (right : Right)
-    → is_given a.blocks.items queue id client on right ≡ held (start_of a) (with_entry a.audit.items event outcome effects) queue id client on right
+    → is_given kept.blocks queue id client on right ≡ held (start_of a) (with_entry a.audit.items event outcome effects) queue id client on right
 held-still a kept event outcome effects launches stays queue id client on right =
     kept.held queue id client on right
     ∙ sym (held-more (start_of a) a.audit.items (entry_of event outcome effects) queue id client on right
@@ -33,9 +33,9 @@ held-still a kept event outcome effects launches stays queue id client on right 
 -- ---- argument blocks
 
 -- it leaves each block as it is
-pub blocks-still : (a : Inside) → IsCached a → (event : Event) (outcome : Outcome) (effects : List Effect) → launched_by event outcome ≡ None
+pub blocks-still : (a : Inside) (kept : IsCached a) → (event : Event) (outcome : Outcome) (effects : List Effect) → launched_by event outcome ≡ None
     → ((queue : QueueId) (id : PacketId) → list_any (releases queue id) effects ≡ false)
-    → (queue : QueueId) (id : PacketId) → block_of a.blocks.items queue id ≡ arguments (start_of a) (with_entry a.audit.items event outcome effects) queue id
+    → (queue : QueueId) (id : PacketId) → block_of kept.blocks queue id ≡ arguments (start_of a) (with_entry a.audit.items event outcome effects) queue id
 blocks-still a kept event outcome effects launches stays queue id =
     kept.arguments queue id ∙ sym (arguments-more (start_of a) a.audit.items (entry_of event outcome effects) queue id ∙ (rw (stays queue id, launches) refl))
 
@@ -46,30 +46,30 @@ block-without_packet : (q : QueueId) (i : PacketId) (queue : QueueId) (id : Pack
 block-without_packet q i queue id found [] = refl
 block-without_packet q i queue id found (b ∷ bs) = grind (arith, block-without_packet q i queue id (block_behind queue id found b) bs, block-without_packet q i queue id found bs)
 
-blocks-dropped : (a : Inside) → IsCached a → (event : Event) (outcome : Outcome) (effects : List Effect) → launched_by event outcome ≡ None → (q : QueueId) (i : PacketId)
+blocks-dropped : (a : Inside) (kept : IsCached a) → (event : Event) (outcome : Outcome) (effects : List Effect) → launched_by event outcome ≡ None → (q : QueueId) (i : PacketId)
     → ((queue : QueueId) (id : PacketId) → list_any (releases queue id) effects ≡ same_packet queue id q i)
-    → (queue : QueueId) (id : PacketId) → block_of (filter (λ b. not (is_block q i b)) a.blocks.items) queue id ≡ arguments (start_of a) (with_entry a.audit.items event outcome effects) queue id
+    → (queue : QueueId) (id : PacketId) → block_of (filter (λ b. not (is_block q i b)) kept.blocks) queue id ≡ arguments (start_of a) (with_entry a.audit.items event outcome effects) queue id
 blocks-dropped a kept event outcome effects launches q i drops queue id =
     none (same_packet queue id q i)
-    ∙ block-without_packet q i queue id [] a.blocks.items
+    ∙ block-without_packet q i queue id [] kept.blocks
     ∙ ap (λ bytes. if same_packet queue id q i then [] else bytes) (kept.arguments queue id)
     ∙ sym (arguments-more (start_of a) a.audit.items (entry_of event outcome effects) queue id ∙ (rw (drops queue id, launches) refl))
   where
-    none : (b : Bool) → fold (block_behind queue id) [] (filter (λ b. not (is_block q i b)) a.blocks.items) ≡ fold (block_behind queue id) (if b then [] else []) (filter (λ b. not (is_block q i b)) a.blocks.items)
+    none : (b : Bool) → fold (block_behind queue id) [] (filter (λ b. not (is_block q i b)) kept.blocks) ≡ fold (block_behind queue id) (if b then [] else []) (filter (λ b. not (is_block q i b)) kept.blocks)
     none true = refl
     none false = refl
 
 -- the block of a packet that is launched
-abbrev pub block_laid : QueueId → PacketId → ClientId → List (Object × Rights) → List ℕ → ArgumentBlock
-block_laid q i client rights bytes = record { queue = q; packet = i; client = client; rights = rights; bytes = bytes }
+abbrev pub block_laid : QueueId → PacketId → ClientId → ℕ → List (Object × Rights) → List ℕ → ArgumentBlock
+block_laid q i client number rights bytes = record { queue = q; packet = i; client = client; number = number; rights = rights; bytes = bytes }
 
 -- a packet that is launched has its block behind the others
-blocks-launched : (a : Inside) → IsCached a → (event : Event) (outcome : Outcome) (q : QueueId) (i : PacketId) (p : Packet) (c : ClientId) (rights : List (Object × Rights)) (bytes : List ℕ)
+blocks-launched : (a : Inside) (kept : IsCached a) → (event : Event) (outcome : Outcome) (q : QueueId) (i : PacketId) (p : Packet) (c : ClientId) (n : ℕ) (rights : List (Object × Rights)) (bytes : List ℕ)
     → launched_by event outcome ≡ Some (record { queue = q; id = i; packet = p }) → bytes ≡ arguments_of (start_of a) a.audit.items p
-    → (queue : QueueId) (id : PacketId) → block_of (a.blocks.items ++ block_laid q i c rights bytes ∷ []) queue id
+    → (queue : QueueId) (id : PacketId) → block_of (kept.blocks ++ block_laid q i c n rights bytes ∷ []) queue id
     ≡ arguments (start_of a) (with_entry a.audit.items event outcome []) queue id
-blocks-launched a kept event outcome q i p c rights bytes launches is queue id =
-    fold-append (block_behind queue id) [] a.blocks.items (block_laid q i c rights bytes ∷ [])
+blocks-launched a kept event outcome q i p c n rights bytes launches is queue id =
+    fold-append (block_behind queue id) [] kept.blocks (block_laid q i c n rights bytes ∷ [])
     ∙ (λ j. if same_packet q i queue id then is j else kept.arguments queue id j)
     ∙ sym (arguments-more (start_of a) a.audit.items (entry_of event outcome []) queue id ∙ (rw launches refl))
 
@@ -87,11 +87,11 @@ blocks-left q i fs bs are = map-left packet_of stays bs ∙ ap (filter stays) ar
     stays named = not (named.0.0 == q.0 && named.1.0 == i.0)
 
 -- and where one is launched, its block comes behind the others
-blocks-with : (q : QueueId) (i : PacketId) (p : Packet) (c : ClientId) (rights : List (Object × Rights)) (bytes : List ℕ) (fs : List InFlight) (bs : List ArgumentBlock) → AreBlocksOf fs bs
-    → AreBlocksOf (fs ++ record { queue = q; id = i; packet = p } ∷ []) (bs ++ block_laid q i c rights bytes ∷ [])
-blocks-with q i p c rights bytes fs bs are = grind (
+blocks-with : (q : QueueId) (i : PacketId) (p : Packet) (c : ClientId) (n : ℕ) (rights : List (Object × Rights)) (bytes : List ℕ) (fs : List InFlight) (bs : List ArgumentBlock) → AreBlocksOf fs bs
+    → AreBlocksOf (fs ++ record { queue = q; id = i; packet = p } ∷ []) (bs ++ block_laid q i c n rights bytes ∷ [])
+blocks-with q i p c n rights bytes fs bs are = grind (
   arith,
-  map-append packet_of bs (block_laid q i c rights bytes ∷ []),
+  map-append packet_of bs (block_laid q i c n rights bytes ∷ []),
   map-append name_of fs (record { queue = q; id = i; packet = p } ∷ []),
 )
 
@@ -119,11 +119,11 @@ pub rows-still : (grants : Ledger) {rows : PolicyRows} → (ledger.rules_in gran
 rows-still grants same = λ i. record (ledger.rules_in grants) { rows = same i }
 
 -- so a call that doesn't touch the grants leaves them as the history says
-pub grants-still : (a : Inside) → IsCached a → (event : Event) (outcome : Outcome) (effects : List Effect) → launched_by event outcome ≡ None
+pub grants-still : (a : Inside) (kept : IsCached a) → (event : Event) (outcome : Outcome) (effects : List Effect) → launched_by event outcome ≡ None
     → ((queue : QueueId) (id : PacketId) → list_any (releases queue id) effects ≡ false)
     → ((client : ClientId) (on : Object) (right : Right) (b : Bool) → in_force_after client on right b event ≡ b)
     → ((rows : PolicyRows) → rows_after rows event ≡ rows)
-    → flight (start_of a) (with_entry a.audit.items event outcome effects) ≡ flight (start_of a) a.audit.items → GrantsAfter a a.grants a.blocks.items event outcome effects
+    → flight (start_of a) (with_entry a.audit.items event outcome effects) ≡ flight (start_of a) a.audit.items → GrantsAfter a a.grants kept.blocks event outcome effects
 grants-still a kept event outcome effects launches stays same unchanged flying = record {
   granted = λ client on right. sym (same client on right _);
   rules = rows-still a.grants (sym (unchanged (ledger.rules_in a.grants).rows));
@@ -166,54 +166,50 @@ among-set on right (h ∷ hs) = λ i. (same_object on h.0 && set-has h.1 right i
 -- ---- the grants of a call
 
 -- a packet that leaves flight has no argument block after it, and holds nothing
-pub grants-released : (a : Inside) → IsCached a → (event : Event) (outcome : Outcome) (effects : List Effect) → launched_by event outcome ≡ None
+pub grants-released : (a : Inside) (kept : IsCached a) → (event : Event) (outcome : Outcome) (effects : List Effect) → launched_by event outcome ≡ None
     → ((client : ClientId) (on : Object) (right : Right) (b : Bool) → in_force_after client on right b event ≡ b)
     → ((rows : PolicyRows) → rows_after rows event ≡ rows)
-    → (blocks : List ArgumentBlock) (q : QueueId) (i : PacketId)
+    → (q : QueueId) (i : PacketId)
     → ((queue : QueueId) (id : PacketId) → list_any (releases queue id) effects ≡ same_packet queue id q i)
     → flight (start_of a) (with_entry a.audit.items event outcome effects) ≡ filter (λ f. not (is_packet q i f)) (flight (start_of a) a.audit.items)
-    → blocks ≡ filter (λ b. not (is_block q i b)) a.blocks.items → GrantsAfter a a.grants blocks event outcome effects
-grants-released a kept event outcome effects launches same unchanged blocks q i drops flying dropped = record {
+    → GrantsAfter a a.grants (filter (λ b. not (is_block q i b)) kept.blocks) event outcome effects
+grants-released a kept event outcome effects launches same unchanged q i drops flying = record {
   granted = λ client on right. sym (same client on right _);
   rules = rows-still a.grants (sym (unchanged (ledger.rules_in a.grants).rows));
   held = λ queue id client on right.
-      ap (λ bs. is_given bs queue id client on right) dropped
-      ∙ any-left (λ b. is_named b.rights b.client client on right) q i queue id a.blocks.items
+      any-left (λ b. is_named b.rights b.client client on right) q i queue id kept.blocks
       ∙ ap (λ b. b && not (same_packet queue id q i)) (kept.held queue id client on right)
       ∙ sym (held-more (start_of a) a.audit.items (entry_of event outcome effects) queue id client on right
       ∙ (rw (launches, drops queue id) (plain (held (start_of a) a.audit.items queue id client on right) (same_packet queue id q i))));
   unheld = kept.unheld;
-  blocks_are = rw (flying, dropped) (blocks-left q i (flight (start_of a) a.audit.items) a.blocks.items kept.blocks_are);
-  arguments = rw dropped (blocks-dropped a kept event outcome effects launches q i drops);
+  blocks_are = rw flying (blocks-left q i (flight (start_of a) a.audit.items) kept.blocks kept.blocks_are);
+  arguments = blocks-dropped a kept event outcome effects launches q i drops;
 }
   where
     plain : (b c : Bool) → ((b || false) && not c) ≡ (b && not c)
     plain b c = grind arith
 
 -- a packet that is launched has a block with what its launch gives it
-pub grants-launched : (a : Inside) → IsCached a → (event : Event) (outcome : Outcome)
+pub grants-launched : (a : Inside) (kept : IsCached a) → (event : Event) (outcome : Outcome)
     → ((client : ClientId) (on : Object) (right : Right) (b : Bool) → in_force_after client on right b event ≡ b)
     → ((rows : PolicyRows) → rows_after rows event ≡ rows)
-    → (blocks : List ArgumentBlock) (opening : Opening) (q : QueueId) (i : PacketId) (p : Packet) (rights : List (Object × Rights))
-    (bytes : List ℕ)
+    → (opening : Opening) (q : QueueId) (i : PacketId) (p : Packet) (n : ℕ) (rights : List (Object × Rights)) (bytes : List ℕ)
     → launched_by event outcome ≡ Some (record { queue = q; id = i; packet = p })
     → flight (start_of a) (with_entry a.audit.items event outcome []) ≡ flight (start_of a) a.audit.items ++ record { queue = q; id = i; packet = p } ∷ []
     → rights ≡ map as_rights (rights_at_launch (start_of a) a.audit.items opening p)
     → owner (start_of a) a.audit.items q ≡ Some opening
-    → bytes ≡ arguments_of (start_of a) a.audit.items p → blocks ≡ a.blocks.items ++ block_laid q i opening.client rights bytes ∷ []
-    → GrantsAfter a a.grants blocks event outcome []
-grants-launched a kept event outcome still unchanged blocks opening q i p rights bytes launches flying are is block_is pushed = record {
+    → bytes ≡ arguments_of (start_of a) a.audit.items p → GrantsAfter a a.grants (kept.blocks ++ block_laid q i opening.client n rights bytes ∷ []) event outcome []
+grants-launched a kept event outcome still unchanged opening q i p n rights bytes launches flying are is block_is = record {
   granted = λ client on right. sym (still client on right _);
   rules = rows-still a.grants (sym (unchanged (ledger.rules_in a.grants).rows));
   held = λ queue id client on right.
-      ap (λ bs. is_given bs queue id client on right) pushed
-      ∙ any-behind (lists_right queue id client on right) (block_laid q i opening.client rights bytes) a.blocks.items
+      any-behind (lists_right queue id client on right) (block_laid q i opening.client n rights bytes) kept.blocks
       ∙ (λ j. kept.held queue id client on right j || (turned-name q i queue id j && is_named (are j) opening.client client on right))
       ∙ by_packet queue id client on right (same_packet queue id q i) refl
       ∙ sym (held-more (start_of a) a.audit.items (entry_of event outcome []) queue id client on right);
   unheld = kept.unheld;
-  blocks_are = rw (flying, pushed) (blocks-with q i p opening.client rights bytes (flight (start_of a) a.audit.items) a.blocks.items kept.blocks_are);
-  arguments = rw pushed (blocks-launched a kept event outcome q i p opening.client rights bytes launches block_is);
+  blocks_are = rw flying (blocks-with q i p opening.client n rights bytes (flight (start_of a) a.audit.items) kept.blocks kept.blocks_are);
+  arguments = blocks-launched a kept event outcome q i p opening.client n rights bytes launches block_is;
 }
   where
     hs : List ObjectRight

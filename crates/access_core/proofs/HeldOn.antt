@@ -81,27 +81,27 @@ module _ (queue : QueueId) (id : PacketId) where
 module _ (a : Inside) (kept : IsCached a) (queue : QueueId) (id : PacketId) where
   -- what the block lists is what the packet holds
   listed-are : (opening : Opening) → owner (start_of a) a.audit.items queue ≡ Some opening
-      → is_listed (rights_of a.blocks.items queue id opening.client) ≡ own_rights (start_of a) a.audit.items queue id
+      → is_listed (rights_of kept.blocks queue id opening.client) ≡ own_rights (start_of a) a.audit.items queue id
   listed-are opening owned = λ i. λ on. λ right. one on right i
     where
-      one : (on : Object) (right : Right) → is_listed (rights_of a.blocks.items queue id opening.client) on right ≡ own_rights (start_of a) a.audit.items queue id on right
+      one : (on : Object) (right : Right) → is_listed (rights_of kept.blocks queue id opening.client) on right ≡ own_rights (start_of a) a.audit.items queue id on right
       one on right =
-          sym (given-found queue id opening.client on right (flight (start_of a) a.audit.items) a.blocks.items kept.blocks_are (apart-legal (start_of a) a.audit.items kept.legal))
+          sym (given-found queue id opening.client on right (flight (start_of a) a.audit.items) kept.blocks kept.blocks_are (apart-legal (start_of a) a.audit.items kept.legal))
           ∙ kept.held queue id opening.client on right
           ∙ sym (ap (λ (o : Option Opening). elim o [ None ↦ false | Some owning ↦ held (start_of a) a.audit.items queue id owning.client on right ]) owned)
 
   module _ (old : History) (seen_as : history_of a ≡ old) where
     -- so are the rights that are listed for the client of its queue
-    pub own-listed : (client : ClientId) → IsHolder old queue id client → is_listed (rights_of a.blocks.items queue id client) ≡ own_rights (beginning old) old.entries queue id
+    pub own-listed : (client : ClientId) → IsHolder old queue id client → is_listed (rights_of kept.blocks queue id client) ≡ own_rights (beginning old) old.entries queue id
     own-listed client holder =
         let is = subst (λ (h : History). IsHolder h queue id client) (sym seen_as) holder in
-        ap (λ (c : ClientId). is_listed (rights_of a.blocks.items queue id c)) (sym is.client_is)
+        ap (λ (c : ClientId). is_listed (rights_of kept.blocks queue id c)) (sym is.client_is)
         ∙ listed-are is.opening is.owner_is
         ∙ ap (λ (h : History). own_rights (beginning h) h.entries queue id) seen_as
 
     -- and its bytes are the packet's arguments
-    pub own-bytes : bytes_or [] (find (is_block queue id) a.blocks.items) ≡ arguments (beginning old) old.entries queue id
+    pub own-bytes : bytes_or [] (find (is_block queue id) kept.blocks) ≡ arguments (beginning old) old.entries queue id
     own-bytes =
-        sym (found-bytes queue id a kept (flight (start_of a) a.audit.items) a.blocks.items [] kept.blocks_are (apart-legal (start_of a) a.audit.items kept.legal))
+        sym (found-bytes queue id a kept (flight (start_of a) a.audit.items) kept.blocks [] kept.blocks_are (apart-legal (start_of a) a.audit.items kept.legal))
         ∙ kept.arguments queue id
         ∙ ap (λ (h : History). arguments (beginning h) h.entries queue id) seen_as

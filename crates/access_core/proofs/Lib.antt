@@ -13,7 +13,12 @@ pub mod QueueAt
 pub mod Numbered
 pub mod ChangedQueue
 pub mod Places
-pub mod BlockRoom
+pub mod Ascending
+pub mod Laid
+pub mod Lying
+pub mod InOrder
+pub mod FirstOf
+pub mod GivenLemmas
 pub mod PollLemmas
 pub mod StopLemmas
 pub mod CloseLemmas

@@ -1,29 +1,12 @@
--- Where no packet need be looked at: a client that has none in flight holds nothing, and what is in force and allowed may be held.
-use Rattle.std.proofs.Common.{arith, ◌≡◌, ◌<◌, List, [], ◌∷◌, refl, sym, ◌∙◌, ap, subst, Bool, true, false, Option, Some, None, ◌&&◌, ◌==◌, filter, find, length, map, nat_lt, option_map, if◌then◌else◌}
-use Rattle.std.proofs.lemmas.Bool.{and_from, eq-eqb}
+-- Where no packet need be looked at: a queue of another client, or without packets, lists nothing, and what is in force and allowed may be held.
+use Rattle.std.proofs.Common.{arith, ◌≡◌, List, [], ◌∷◌, ◌++◌, refl, sym, ◌∙◌, ap, Bool, true, false, None, ◌&&◌, ◌==◌, All, find, length, nat_lt, if◌then◌else◌}
 use Rattle.grants.specs.Ledger.{AllowsInForce}
 use Rattle.policy.specs.declared.rows.PolicyRows.{PolicyRows}
-use Rattle.access_core.specs.inner.ArgumentBlocks.{AreInForce, AreOfQueues, has_packet_of}
-use Rattle.access_core.proofs.HeldRights.{lists-each}
-use Rattle.access_core.proofs.Least.{found-any}
-use Rattle.access_core.proofs.ReloadLemmas.{forced-now, holding-now}
+use Rattle.access_core.specs.inner.ArgumentBlocks.{AreInForce, IsOfQueue}
+use Rattle.access_core.proofs.Lying.{any-laid}
+use Rattle.access_core.proofs.ReloadLemmas.{forced-now}
 use Rattle.access_core.proofs.Standing.{has-denied}
-use Rattle.access_core.proofs.TakeLemmas.{owner-kept}
-use Rattle.access_core.proofs.Terms.{ArgumentBlock, ClientId, InFlight, Inside, IsCached, Ledger, Object, Opening, PacketId, Place, Queue, QueueId, QueueView, Right, Rights, all_rights, cached_opening, cached_view, found-passes, has, has_block, is_given, is_packet}
-use Rattle.access_core.proofs.Terms.{flight, flight_of, length-map, list_any, lt-ltb, lists_denied, lists_one, owner, place_of, queue_at, queue_in, start_of}
-
--- a client without a packet in flight in its queues is listed nothing
-module _ (queues : List Queue) (blocks : List ArgumentBlock) (own : AreOfQueues queues blocks) (client : ClientId) (none : list_any (has_packet_of client) queues ≡ false) where
-  unlisted : (queue : QueueId) (id : PacketId) (on : Object) (right : Right) (b : Bool) → is_given blocks queue id client on right ≡ b → b ≡ false
-  unlisted queue id on right false is = refl
-  unlisted queue id on right true is = let there = own queue id client on right is in absurd cc
-
-  pub none-listed : (on : Object) (rights : Rights) (queue : QueueId) (id : PacketId) → has_block (lists_one client on rights) blocks queue id ≡ false
-  none-listed on rights queue id = lists-each client on rights queue id blocks ∙ each all_rights
-    where
-      each : (all : List Right) → list_any (λ r. has rights r && is_given blocks queue id client on r) all ≡ false
-      each [] = refl
-      each (r ∷ all) = grind (arith, unlisted queue id on r _ refl, each all)
+use Rattle.access_core.proofs.Terms.{All-head, All-tail, ArgumentBlock, ClientId, Inside, IsCached, IsSound, Ledger, Object, PacketId, Queue, QueueId, Right, Rights, all_blocks, all_rights, has, has_block, is_listed, list_any, lists_denied, lists_one, lists_right, ltb-false, or_parts}
 
 -- where all that is in force is allowed, nothing that is listed is denied
 pub none-denied : (grants : Ledger) (rows : PolicyRows) (blocks : List ArgumentBlock) → AreInForce grants blocks → AllowsInForce grants rows → (queue : QueueId) (id : PacketId) → has_block (lists_denied rows) blocks queue id ≡ false
@@ -37,32 +20,34 @@ none-denied grants rows blocks forced allowed queue id = by_test (has_block (lis
         let denies = d.denied in
         absurd cc
 
--- a packet that is found is one of its queue's
-of-queue : (queue : QueueId) (id : PacketId) (fs : List InFlight) (f : InFlight) → find (is_packet queue id) fs ≡ Some f → 0 < length (filter (λ g. g.queue.0 == queue.0) fs)
-of-queue queue id [] f found = absurd cc
-of-queue queue id (x ∷ xs) f found = grind (arith, of-queue queue id xs f)
+-- a queue without blocks lists nothing
+pub none-listed : (test : ArgumentBlock → Bool) (queues : List Queue) → list_any (λ (q : Queue). nat_lt 0 (length q.blocks)) queues ≡ false → find test (all_blocks queues) ≡ None
+none-listed test [] none = refl
+none-listed test (q ∷ qs) none =
+    let parts = or_parts (nat_lt 0 (length q.blocks)) (list_any (λ (q : Queue). nat_lt 0 (length q.blocks)) qs) none in
+    ap (λ bs. find test (bs ++ all_blocks qs)) (empty q.blocks parts.0) ∙ none-listed test qs parts.1
+  where
+    empty : (bs : List ArgumentBlock) → nat_lt 0 (length bs) ≡ false → bs ≡ []
+    empty [] is = refl
+    empty (b ∷ bs) is = let less = ltb-false _ _ is in absurd (omega (arith, less))
+
+-- a queue of another client lists none of a client's rights
+pub none-of-client : (q : Queue) (client : ClientId) (on : Object) (rights : Rights) → IsSound q → (q.client.0 == client.0) ≡ false → find (lists_one client on rights) q.blocks ≡ None
+none-of-client q client on rights sound other = each q.blocks sound.of_queue
+  where
+    nothing : (all : List Right) → list_any (λ right. has rights right && is_listed [] on right) all ≡ false
+    nothing [] = refl
+    nothing (r ∷ all) = grind (arith, nothing all)
+
+    each : (bs : List ArgumentBlock) → All (IsOfQueue q.number q.client) bs → find (lists_one client on rights) bs ≡ None
+    each [] own = refl
+    each (b ∷ bs) own =
+        let its = (All-head (IsOfQueue q.number q.client) b bs own).1 in
+        let not_its : (b.client.0 == client.0) ≡ false = ap (λ (c : ClientId). c.0 == client.0) its ∙ other in
+        let fails : lists_one client on rights b ≡ false =
+        ap (λ (x : Bool). list_any (λ right. has rights right && is_listed (if x then b.rights else []) on right) all_rights) not_its ∙ nothing all_rights in
+        rw fails (each bs (All-tail (IsOfQueue q.number q.client) b bs own))
 
 module _ (a : Inside) (kept : IsCached a) where
-  pub all-forced : AreInForce a.grants a.blocks.items
-  all-forced queue id client on right given = forced-now a kept queue id client on right given
-
-  -- who is listed a right has a queue that is open, with that packet among its places
-  pub all-owned : AreOfQueues a.queues.items a.blocks.items
-  all-owned queue id client on right given = by_queue (queue_in a.queues.items queue) refl
-    where
-      flies : 0 < length (flight_of (start_of a) a.audit.items queue)
-      flies = of-queue queue id (flight (start_of a) a.audit.items) _ (holding-now a kept queue id client on right given).found
-
-      by_queue : (found : Option Queue) → queue_in a.queues.items queue ≡ found → list_any (has_packet_of client) a.queues.items ≡ true
-      by_queue None is =
-          let both = sym (holding-now a kept queue id client on right given).owner_is ∙ owner-kept a queue kept ∙ ap (option_map cached_opening) is in
-          absurd cc
-      by_queue (Some q) is =
-          let h = holding-now a kept queue id client on right given in
-          let same : Some (cached_opening q) ≡ Some h.opening = sym (owner-kept a queue kept ∙ ap (option_map cached_opening) is) ∙ h.owner_is in
-          let client_is : q.client ≡ client = ap (λ (o : Option Opening). elim o [ None ↦ q.client | Some opening ↦ opening.client ]) same ∙ h.client_is in
-          let places : q.places ≡ map (place_of (start_of a) a.audit.items queue) (flight_of (start_of a) a.audit.items queue) = ap (λ (v : QueueView). v.places) (ap cached_view (sym is) ∙ kept.queues queue) in
-          let count : length q.places ≡ length (flight_of (start_of a) a.audit.items queue) = ap length places ∙ length-map _ _ in
-          let some : 0 < length q.places = omega (arith, count, flies) in
-          let passes : has_packet_of client q ≡ true = and_from (q.client.0 == client.0) (nat_lt 0 (length q.places)) (eq-eqb _ _ (ap (λ (c : ClientId). c.0) client_is)) (lt-ltb _ _ some) in
-          found-any _ (has_packet_of client) a.queues.items q is passes
+  pub all-forced : AreInForce a.grants (all_blocks a.queues.items)
+  all-forced queue id client on right given = forced-now a kept queue id client on right (sym (any-laid a kept (lists_right queue id client on right)) ∙ given)

@@ -1,10 +1,10 @@
 -- What is kept of a core in which nothing has happened.
-use Rattle.access_core.proofs.Terms.{All-nil, AreBlocksOf, Declared, Entry, Inside, IsCached, IsLegal, IsNew, IsSound, Kernel, MOST_ENTRIES, Queue, Start, block_of, byte_at, byte_at-zeros, cached_opening}
+use Rattle.access_core.proofs.Terms.{All-nil, AreBlocksOf, ArgumentBlock, Declared, Entry, Inside, IsCached, IsLegal, IsNew, IsSound, Kernel, MOST_ENTRIES, Queue, Start, block_of, byte_at, byte_at-zeros, cached_opening}
 use Rattle.access_core.proofs.Terms.{cached_view, first_missing, has_entry, initial_values, is_given, lies_in_region, lies_in_regions, queue_at, start_of}
 use Rattle.access_core.proofs.Terms.{is_capacity}
 use Rattle.access_core.proofs.Terms.{lengths_of-zeros, queue_in, cached_openings, AscendFrom, open_fault, program_of, region_lengths, rules_in, rules_of, segments_of, zeros}
 use Rattle.std.proofs.Common.{List, Some, ◌∷◌, ap, length, subst, sym}
-use Rattle.std.proofs.Common.{All, map, ◌≡◌, ℕ, ◌≤◌, [], ◌∙◌, true, None, arith, refl}
+use Rattle.std.proofs.Common.{All, map, ◌≡◌, ℕ, ◌+◌, ◌<◌, ◌≤◌, [], ◌∙◌, true, None, arith, refl}
 use Rattle.core_model.specs.History.{effects_of}
 use Rattle.core_model.specs.Grants.{in_force}
 use Rattle.core_model.specs.Policies.{policy_at, rows_at}
@@ -25,10 +25,10 @@ legal-opened policy kernels = whole-legal (opening_state policy kernels) [] (rec
 
 -- what is kept where nothing has happened is what the empty audit says
 pub IsCached-opened : (a : Inside) (policy : Declared) → IsOpeningOrigin policy a.start → IsNew a.grants → rules_in a.grants ≡ rules_of policy → a.memory ≡ zeros (region_lengths policy)
-    → a.signals ≡ initial_values policy → a.blocks.items ≡ [] → a.queues.items ≡ [] → a.opened ≡ 0 → a.in_flight_count ≡ 0 → a.audit.items ≡ [] → a.audit.room ≡ a.capacity → a.capacity ≤ MOST_ENTRIES
+    → a.signals ≡ initial_values policy → a.queues.items ≡ [] → a.opened ≡ 0 → a.in_flight_count ≡ 0 → a.audit.items ≡ [] → a.audit.room ≡ a.capacity → a.capacity ≤ MOST_ENTRIES
     → All (λ kernel. has_entry kernel ≡ true) a.kernels.items → a.segments.items ≡ map segments_of (map program_of a.kernels.items) → IsCached a
 unfolding rows_at in_force memory_at effects_of signals openings next_id errors is_stopped flight held arguments
-IsCached-opened a policy opened fresh ruled memory values blocks queues none_opened flying entries places few kernels segments =
+IsCached-opened a policy opened fresh ruled memory values queues none_opened flying entries places few kernels segments =
     let opens : start_of a ≡ opening_state policy (map program_of a.kernels.items) = begin-opening policy (map program_of a.kernels.items) a.start opened in
     let lengths : region_lengths a.start.policy ≡ region_lengths policy = ap region_lengths opened.policy_is in
     let empty : (x : Start → List Entry → Type 0) → x (opening_state policy (map program_of a.kernels.items)) [] → x (start_of a) a.audit.items =
@@ -36,10 +36,12 @@ IsCached-opened a policy opened fresh ruled memory values blocks queues none_ope
     record {
       granted = λ client on right. empty (λ now es. ledger.in_force a.grants client on right ≡ in_force now es client on right) (fresh.none_in_force client on right);
       rules = empty (λ now es. rules_in a.grants ≡ rules_of (policy_at now es)) ruled;
-      held = λ queue id client on right. empty (λ now es. is_given a.blocks.items queue id client on right ≡ held now es queue id client on right) (ap (λ bs. is_given bs queue id client on right) blocks);
+      blocks = [];
+      laid = record { in_queues = λ queue. rw queues refl; in_order = tt; before = All-nil (λ (b : ArgumentBlock). b.number < a.start.before + length a.audit.items) };
+      held = λ queue id client on right. empty (λ now es. is_given [] queue id client on right ≡ held now es queue id client on right) refl;
       unheld = fresh.none_held;
-      blocks_are = empty (λ now es. AreBlocksOf (flight now es) a.blocks.items) (rw blocks refl);
-      arguments = λ queue id. empty (λ now es. block_of a.blocks.items queue id ≡ arguments now es queue id) (rw blocks refl);
+      blocks_are = empty (λ now es. AreBlocksOf (flight now es) []) refl;
+      arguments = λ queue id. empty (λ now es. block_of [] queue id ≡ arguments now es queue id) refl;
       entries = kernels;
       segments = segments;
       lengths = rw (memory, lengths) (lengths_of-zeros (region_lengths policy));
@@ -53,7 +55,6 @@ IsCached-opened a policy opened fresh ruled memory values blocks queues none_ope
       few_queues = rw queues (omega arith);
       in_flight_count = empty (λ now es. a.in_flight_count ≡ length (flight now es)) flying;
       within = empty (λ now es. All (λ f. lies_in_regions (region_lengths a.start.policy) f.packet ≡ true) (flight now es)) (All-nil _);
-      block_room = rw (queues, flying) (record { free = refl; enough = omega arith });
       room = rw entries (omega (arith, flying));
       places = let none : length a.audit.items ≡ 0 = ap length entries in omega (arith, none, places);
       few = few;

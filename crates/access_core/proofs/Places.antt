@@ -1,7 +1,7 @@
 -- A call that takes no memory leaves the places of the tables as they are.
 use Rattle.std.proofs.Common.{Some, ◌≡◌, ◌<◌, ℕ, List, length-append, map, arith, vec_capacity}
 use Rattle.std.specs.Global.{Vec}
-use Rattle.access_core.proofs.Terms.{ArgumentBlock, Core, Entry, Inside, IsEntered, Ledger, PacketId, Queue, QueueError, Roomy, core_of, error_places, places_of, table_places}
+use Rattle.access_core.proofs.Terms.{Core, Entry, Inside, IsEntered, Ledger, PacketId, Queue, QueueError, Roomy, core_of, error_places, places_of, table_places}
 use Rattle.access_core.proofs.Terms.{with_leaving}
 use Rattle.access_core.specs.declared.access.leaving.Leaving.TheVariants as leaving
 use Rattle.grants.specs.Ledger as ledger
@@ -16,14 +16,14 @@ failed-places q id error some = grind (arith, length-append)
 
 module _ (a : Inside) (core : Core) (seen_as : core_of a ≡ core) where
   -- the audit has an entry more, and each other table as many places as before
-  pub places-kept : (queues : Vec Queue) (grants : Ledger) (blocks : Roomy ArgumentBlock) (audit : Roomy Entry) (entry : Entry) → vec_capacity queues ≡ vec_capacity a.queues
-      → map error_places queues.items ≡ map error_places a.queues.items → ledger.places grants ≡ ledger.places a.grants → places_of blocks ≡ places_of a.blocks
+  pub places-kept : (queues : Vec Queue) (grants : Ledger) (spare : ℕ) (audit : Roomy Entry) (entry : Entry) → vec_capacity queues ≡ vec_capacity a.queues
+      → map error_places queues.items ≡ map error_places a.queues.items → ledger.places grants ≡ ledger.places a.grants → spare ≡ a.spare
       → IsEntered a.audit audit entry
-      → table_places a.kernels a.segments queues grants blocks audit ≡ core.places
-  places-kept queues grants blocks audit entry of_queues of_errors of_holds of_blocks is = grind (arith, entered-places)
+      → table_places a.kernels a.segments queues grants spare audit ≡ core.places
+  places-kept queues grants spare audit entry of_queues of_errors of_holds of_spare is = grind (arith, entered-places)
 
   -- a queue was closed, with whose errors their places went
-  pub places-closed : (queues : Vec Queue) (blocks : Roomy ArgumentBlock) (audit : Roomy Entry) (entry : Entry) (left : List ℕ) → vec_capacity queues ≡ vec_capacity a.queues
-      → map error_places queues.items ≡ left → places_of blocks ≡ places_of a.blocks → IsEntered a.audit audit entry
-      → table_places a.kernels a.segments queues a.grants blocks audit ≡ record core.places { error_places = left }
-  places-closed queues blocks audit entry left of_queues of_errors of_blocks is = grind (arith, entered-places)
+  pub places-closed : (queues : Vec Queue) (audit : Roomy Entry) (entry : Entry) (left : List ℕ) → vec_capacity queues ≡ vec_capacity a.queues
+      → map error_places queues.items ≡ left → IsEntered a.audit audit entry
+      → table_places a.kernels a.segments queues a.grants a.spare audit ≡ record core.places { error_places = left }
+  places-closed queues audit entry left of_queues of_errors is = grind (arith, entered-places)

@@ -51,7 +51,7 @@ module _ (a : Inside) (kept : IsCached a) where
     pub known : knows_object (rules_of (start_of a).policy) on ≡ true
     pub forced : ledger.in_force a.grants client on right ≡ true
 
-  pub holding-now : (queue : QueueId) (id : PacketId) (client : ClientId) (on : Object) (right : Right) → is_given a.blocks.items queue id client on right ≡ true → Holding queue id client on right
+  pub holding-now : (queue : QueueId) (id : PacketId) (client : ClientId) (on : Object) (right : Right) → is_given kept.blocks queue id client on right ≡ true → Holding queue id client on right
   holding-now queue id client on right has_it =
       let start = start_of a in
       let es = a.audit.items in
@@ -82,7 +82,7 @@ module _ (a : Inside) (kept : IsCached a) where
       }
 
   -- what a block lists is in force
-  pub forced-now : (queue : QueueId) (id : PacketId) (client : ClientId) (on : Object) (right : Right) → is_given a.blocks.items queue id client on right ≡ true → ledger.in_force a.grants client on right ≡ true
+  pub forced-now : (queue : QueueId) (id : PacketId) (client : ClientId) (on : Object) (right : Right) → is_given kept.blocks queue id client on right ≡ true → ledger.in_force a.grants client on right ≡ true
   forced-now queue id client on right given = (holding-now queue id client on right given).forced
 
   module _ (rows : PolicyRows) where
@@ -98,7 +98,7 @@ module _ (a : Inside) (kept : IsCached a) where
       found : in_flight (start_of a) a.audit.items queue id ≡ Some flying
       is : blocks flying ≡ true
 
-    denied-blocks : (queue : QueueId) (id : PacketId) → GivesDenied rows a.blocks.items queue id → Blocking queue id
+    denied-blocks : (queue : QueueId) (id : PacketId) → GivesDenied rows kept.blocks queue id → Blocking queue id
     denied-blocks queue id d =
         let start = start_of a in
         let es = a.audit.items in
@@ -122,13 +122,13 @@ module _ (a : Inside) (kept : IsCached a) where
         }
 
     -- and one that is told to holds such a right
-    blocks-denied : (f : InFlight) → blocks f ≡ true → GivesDenied rows a.blocks.items f.queue f.id
+    blocks-denied : (f : InFlight) → blocks f ≡ true → GivesDenied rows kept.blocks f.queue f.id
     blocks-denied f is = by_owner (owner (start_of a) a.audit.items f.queue) is
       where
         by_owner : (o : Option Opening) → (elim o [
           | None ↦ false
           | Some opening ↦ list_any (λ on. list_any (λ right. held (start_of a) a.audit.items f.queue f.id opening.client on right && not (rows_allow rows opening.client on right)) all_rights) (all_objects (count (rules_of (start_of a).policy)))
-        ]) ≡ true → GivesDenied rows a.blocks.items f.queue f.id
+        ]) ≡ true → GivesDenied rows kept.blocks f.queue f.id
         by_owner None is = absurd cc
         by_owner (Some opening) is =
             let test : Object → Right → Bool = λ on right. held (start_of a) a.audit.items f.queue f.id opening.client on right && not (rows_allow rows opening.client on right) in
@@ -150,43 +150,43 @@ module _ (a : Inside) (kept : IsCached a) where
             turned false is = refl
 
     -- by queue and id
-    denied-passes : (queue : QueueId) (id : PacketId) → GivesDenied rows a.blocks.items queue id → passes blocks fs queue id ≡ true
+    denied-passes : (queue : QueueId) (id : PacketId) → GivesDenied rows kept.blocks queue id → passes blocks fs queue id ≡ true
     denied-passes queue id d =
         let b = denied-blocks queue id d in
         found-any (is_packet queue id) (λ f. is_packet queue id f && blocks f) fs b.flying b.found
         (and_from _ _ (found-passes (is_packet queue id) fs b.flying b.found) b.is)
 
-    passes-denied : (queue : QueueId) (id : PacketId) → passes blocks fs queue id ≡ true → GivesDenied rows a.blocks.items queue id
+    passes-denied : (queue : QueueId) (id : PacketId) → passes blocks fs queue id ≡ true → GivesDenied rows kept.blocks queue id
     passes-denied queue id is =
         let there = any-found (λ f. is_packet queue id f && blocks f) fs is in
         let both = and_parts (is_packet queue id there.one) _ (found-passes (λ f. is_packet queue id f && blocks f) fs there.one there.is) in
         let numbers = and_parts (there.one.queue.0 == queue.0) (there.one.id.0 == id.0) both.0 in
         let same_queue : there.one.queue ≡ queue = ap (λ n. record { 0 = n }) (eqb-true _ _ numbers.0) in
         let same_id : there.one.id ≡ id = ap (λ n. record { 0 = n }) (eqb-true _ _ numbers.1) in
-        subst (λ i. GivesDenied rows a.blocks.items queue i) same_id (subst (λ q. GivesDenied rows a.blocks.items q there.one.id) same_queue (blocks-denied there.one both.1))
+        subst (λ i. GivesDenied rows kept.blocks queue i) same_id (subst (λ q. GivesDenied rows kept.blocks q there.one.id) same_queue (blocks-denied there.one both.1))
 
-    same_blocked : (queue : QueueId) (id : PacketId) → has_block (lists_denied rows) a.blocks.items queue id ≡ passes blocks fs queue id
-    same_blocked queue id = by_tests (has_block (lists_denied rows) a.blocks.items queue id) (passes blocks fs queue id) refl refl
+    same_blocked : (queue : QueueId) (id : PacketId) → has_block (lists_denied rows) kept.blocks queue id ≡ passes blocks fs queue id
+    same_blocked queue id = by_tests (has_block (lists_denied rows) kept.blocks queue id) (passes blocks fs queue id) refl refl
       where
-        by_tests : (b c : Bool) → has_block (lists_denied rows) a.blocks.items queue id ≡ b → passes blocks fs queue id ≡ c → b ≡ c
-        by_tests true c is at = sym (denied-passes queue id (has-denied rows a.blocks.items queue id is)) ∙ at
-        by_tests false true is at = sym is ∙ denied-has rows a.blocks.items queue id (passes-denied queue id at)
+        by_tests : (b c : Bool) → has_block (lists_denied rows) kept.blocks queue id ≡ b → passes blocks fs queue id ≡ c → b ≡ c
+        by_tests true c is at = sym (denied-passes queue id (has-denied rows kept.blocks queue id is)) ∙ at
+        by_tests false true is at = sym is ∙ denied-has rows kept.blocks queue id (passes-denied queue id at)
         by_tests false false is at = refl
 
-    first-blocked : (o : Option (QueueId × PacketId)) → IsFirstTo (has_block (lists_denied rows) a.blocks.items) o → IsFirstTo (passes blocks fs) o
+    first-blocked : (o : Option (QueueId × PacketId)) → IsFirstTo (has_block (lists_denied rows) kept.blocks) o → IsFirstTo (passes blocks fs) o
     first-blocked o = first_same _ _ o (λ queue id. sym (same_blocked queue id))
 
     -- a reload that nothing stands against is owed its entry
-    reload-owed : IsFirstTo (has_block (lists_denied rows) a.blocks.items) None → owed (start_of a) a.audit.items (Reload rows) ≡ enters outcome.Accepted []
+    reload-owed : IsFirstTo (has_block (lists_denied rows) kept.blocks) None → owed (start_of a) a.audit.items (Reload rows) ≡ enters outcome.Accepted []
     unfolding owed
     reload-owed none = grind (arith, least-none blocks fs (first-blocked None none))
 
-    pub reload-due : (old : History) → history_of a ≡ old → IsFirstTo (has_block (lists_denied rows) a.blocks.items) None → (full : Bool) → is_full old ≡ full
+    pub reload-due : (old : History) → history_of a ≡ old → IsFirstTo (has_block (lists_denied rows) kept.blocks) None → (full : Bool) → is_full old ≡ full
         → due old (Reload rows) ≡ (if full then refuses refusal.AuditFull else enters outcome.Accepted [])
     reload-due old seen_as may full is = due-by a old seen_as (Reload rows) _ (reload-owed may)
         ∙ ap (λ b. if b then refuses refusal.AuditFull else enters outcome.Accepted []) is
 
     -- one that a packet stands against is refused, with the least of them
-    pub reload-refused : (queue : QueueId) (id : PacketId) → IsFirstTo (has_block (lists_denied rows) a.blocks.items) (Some (queue, id)) → owed (start_of a) a.audit.items (Reload rows) ≡ refuses (refusal.Busy queue id)
+    pub reload-refused : (queue : QueueId) (id : PacketId) → IsFirstTo (has_block (lists_denied rows) kept.blocks) (Some (queue, id)) → owed (start_of a) a.audit.items (Reload rows) ≡ refuses (refusal.Busy queue id)
     unfolding owed
     reload-refused queue id blocked = grind (arith, least-first blocks fs queue id (first-blocked (Some (queue, id)) blocked))

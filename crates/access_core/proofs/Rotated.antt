@@ -208,32 +208,32 @@ module _ (a : Inside) (kept : IsCached a) where
   all-sought : All Sought Flying
   all-sought = All-weaker (λ (f : InFlight). in_flight (start_of a) a.audit.items f.queue f.id ≡ Some f) Sought in-queue Flying (found-legal (start_of a) a.audit.items kept.legal)
 
-  packets-are : filter_map (packet_origin a.queues.items) a.blocks.items ≡ told_all Flying a.blocks.items
-  packets-are = told-are Flying a.blocks.items kept.blocks_are all-sought
+  packets-are : filter_map (packet_origin a.queues.items) kept.blocks ≡ told_all Flying kept.blocks
+  packets-are = told-are Flying kept.blocks kept.blocks_are all-sought
 
-  flying-are : map (λ (p : PacketOrigin). p.flying) (filter_map (packet_origin a.queues.items) a.blocks.items) ≡ Flying
-  flying-are = ap (map (λ (p : PacketOrigin). p.flying)) packets-are ∙ flying-told Flying a.blocks.items kept.blocks_are
+  flying-are : map (λ (p : PacketOrigin). p.flying) (filter_map (packet_origin a.queues.items) kept.blocks) ≡ Flying
+  flying-are = ap (map (λ (p : PacketOrigin). p.flying)) packets-are ∙ flying-told Flying kept.blocks kept.blocks_are
 
-  progress-is : (queue : QueueId) (id : PacketId) → found_progress queue id (packet_in (filter_map (packet_origin a.queues.items) a.blocks.items) queue id) ≡ progress (start_of a) a.audit.items queue id
+  progress-is : (queue : QueueId) (id : PacketId) → found_progress queue id (packet_in (filter_map (packet_origin a.queues.items) kept.blocks) queue id) ≡ progress (start_of a) a.audit.items queue id
   progress-is queue id =
       ap (λ packets. found_progress queue id (packet_in packets queue id)) packets-are
-      ∙ progress-told queue id Flying a.blocks.items kept.blocks_are
+      ∙ progress-told queue id Flying kept.blocks kept.blocks_are
       ∙ by_flight (list_any (is_packet queue id) Flying) refl
     where
       by_flight : (b : Bool) → list_any (is_packet queue id) Flying ≡ b → (if b then progress (start_of a) a.audit.items queue id else LAUNCH_PROGRESS) ≡ progress (start_of a) a.audit.items queue id
       by_flight true is = refl
       by_flight false is = sym (launch-absent (start_of a) a.audit.items kept.legal queue id is)
 
-  arguments-are : (queue : QueueId) (id : PacketId) → found_arguments queue id [] (packet_in (filter_map (packet_origin a.queues.items) a.blocks.items) queue id) ≡ arguments (start_of a) a.audit.items queue id
+  arguments-are : (queue : QueueId) (id : PacketId) → found_arguments queue id [] (packet_in (filter_map (packet_origin a.queues.items) kept.blocks) queue id) ≡ arguments (start_of a) a.audit.items queue id
   arguments-are queue id =
       ap (λ packets. found_arguments queue id [] (packet_in packets queue id)) packets-are
-      ∙ arguments-told queue id Flying a.blocks.items [] kept.blocks_are apart
+      ∙ arguments-told queue id Flying kept.blocks [] kept.blocks_are apart
       ∙ kept.arguments queue id
 
   -- ---- all of it
 
-  pub rotated : (grants : Ledger) → IsHolding a.grants a.blocks.items grants → are_region_lengths (region_lengths a.start.policy) ≡ true
-      → begin (map program_of a.kernels.items) (origin_behind a grants) ≡ state_after (start_of a) a.audit.items
+  pub rotated : (grants : Ledger) → IsHolding a.grants kept.blocks grants → are_region_lengths (region_lengths a.start.policy) ≡ true
+      → begin (map program_of a.kernels.items) (origin_behind a grants kept.blocks) ≡ state_after (start_of a) a.audit.items
   rotated grants holding fit = λ i. record {
     policy = record a.start.policy { rows = ((holding.same_rules ∙ kept.rules) i).rows };
     kernels = map program_of a.kernels.items;
@@ -247,7 +247,7 @@ module _ (a : Inside) (kept : IsCached a) where
     flight = flying-are i;
     progress = λ queue id. progress-is queue id i;
     held = λ queue id client on right. (holding.given queue id client on right
-        ∙ ap (λ b. b || is_given a.blocks.items queue id client on right) (kept.unheld queue id client on right) ∙ kept.held queue id client on right) i;
+        ∙ ap (λ b. b || is_given kept.blocks queue id client on right) (kept.unheld queue id client on right) ∙ kept.held queue id client on right) i;
     arguments = λ queue id. arguments-are queue id i;
     before = a.start.before + length a.audit.items;
   }

@@ -21,16 +21,16 @@ use Rattle.core_model.proofs.States.{rotate-legal, same-begin}
 use Rattle.grants.specs.Ledger as ledger
 use Rattle.access_core.specs.inner.Origins.{IsHolding, origin_behind, packet_origin, queue_origin}
 use Rattle.access_core.proofs.Rotated.{rotated}
-use Rattle.access_core.proofs.Terms.{AreBlocksOf, IsCached, Inside, Start, are_region_lengths, block_of, byte_at, cached_openings, cached_view, history_of, lies_in_region, lies_in_regions, ltb-false, is_given, queue_in, program_of, queue_at}
+use Rattle.access_core.proofs.Terms.{AreBlocksOf, AreLaid, IsCached, Inside, Start, are_region_lengths, block_of, byte_at, cached_openings, cached_view, history_of, lies_in_region, lies_in_regions, ltb-false, is_given, queue_in, program_of, queue_at}
 use Rattle.access_core.proofs.Terms.{region_lengths, rules_in, rules_of, start_of}
 
 module _ (a : Inside) (kept : IsCached a) where
   -- copies of the fields give the answers of the state behind the audit
-  pub copied-behind : (o : Origin) → o.policy ≡ a.start.policy → IsHolding a.grants a.blocks.items o.grants → o.memory ≡ a.memory → o.signals ≡ a.signals → o.opened ≡ a.opened → o.queues ≡ map queue_origin a.queues.items
-      → o.packets ≡ filter_map (packet_origin a.queues.items) a.blocks.items → o.before ≡ a.start.before + length a.audit.items
+  pub copied-behind : (o : Origin) → o.policy ≡ a.start.policy → IsHolding a.grants kept.blocks o.grants → o.memory ≡ a.memory → o.signals ≡ a.signals → o.opened ≡ a.opened → o.queues ≡ map queue_origin a.queues.items
+      → o.packets ≡ filter_map (packet_origin a.queues.items) kept.blocks → o.before ≡ a.start.before + length a.audit.items
       → are_region_lengths (region_lengths a.start.policy) ≡ true → begin (map program_of a.kernels.items) o ≡ state_after (start_of a) a.audit.items
   copied-behind o policy grants memory signals opened queues packets before fit =
-      same-begin (map program_of a.kernels.items) o (origin_behind a o.grants) (record {
+      same-begin (map program_of a.kernels.items) o (origin_behind a o.grants kept.blocks) (record {
         policy = λ i. record (policy i) { rows = (rules_in o.grants).rows };
         granted = λ client on right. refl;
         held = λ queue id client on right. refl;
@@ -59,13 +59,17 @@ module _ (a : Inside) (kept : IsCached a) where
       λ x has. subst (x begun) (sym empty) (subst (λ (now : Start). x now []) (sym is) has) in
       let lengths : region_lengths next.policy ≡ region_lengths a.start.policy = ap (λ (now : Start). region_lengths now.policy) is in
       let none : length audit.items ≡ 0 = ap length empty in
+      let begins : next.before ≡ a.start.before + length a.audit.items = ap (λ (now : Start). now.before) is in
+      let count : next.before + length audit.items ≡ a.start.before + length a.audit.items = omega (arith, none, begins) in
       record {
         granted = λ client on right. here (λ now es. ledger.in_force a.grants client on right ≡ in_force now es client on right) (kept.granted client on right);
         rules = here (λ now es. rules_in a.grants ≡ rules_of (policy_at now es)) kept.rules;
-        held = λ queue id client on right. here (λ now es. is_given a.blocks.items queue id client on right ≡ held now es queue id client on right) (kept.held queue id client on right);
+        blocks = kept.blocks;
+        laid = subst (λ n. AreLaid a.queues.items n kept.blocks) (sym count) kept.laid;
+        held = λ queue id client on right. here (λ now es. is_given kept.blocks queue id client on right ≡ held now es queue id client on right) (kept.held queue id client on right);
         unheld = kept.unheld;
-        blocks_are = here (λ now es. AreBlocksOf (flight now es) a.blocks.items) kept.blocks_are;
-        arguments = λ queue id. here (λ now es. block_of a.blocks.items queue id ≡ arguments now es queue id) (kept.arguments queue id);
+        blocks_are = here (λ now es. AreBlocksOf (flight now es) kept.blocks) kept.blocks_are;
+        arguments = λ queue id. here (λ now es. block_of kept.blocks queue id ≡ arguments now es queue id) (kept.arguments queue id);
         entries = kept.entries;
         segments = kept.segments;
         lengths = kept.lengths ∙ sym lengths;
@@ -80,7 +84,6 @@ module _ (a : Inside) (kept : IsCached a) where
         in_flight_count = here (λ now es. a.in_flight_count ≡ length (flight now es)) kept.in_flight_count;
         within = here (λ now es. All (λ (f : InFlight). lies_in_regions (region_lengths next.policy) f.packet ≡ true) (flight now es))
             (subst (λ ls. All (λ (f : InFlight). lies_in_regions ls f.packet ≡ true) (flight (start_of a) a.audit.items)) (sym lengths) kept.within);
-        block_room = kept.block_room;
         room = let before = kept.room in omega (arith, none, before);
         places = omega (arith, none, room);
         few = kept.few;

@@ -1,7 +1,6 @@
 -- Who stands against a revocation or a reload, by the rights that argument blocks list.
-use Rattle.std.proofs.Common.{arith, ◌≡◌, ℕ, ◌+◌, ◌<◌, List, [], ◌∷◌, refl, sym, ◌∙◌, ap, Bool, true, false, ◌&&◌, ◌||◌, not, take, get_or, length}
+use Rattle.std.proofs.Common.{arith, ◌≡◌, List, [], ◌∷◌, refl, sym, ◌∙◌, ap, Bool, true, false, ◌&&◌, ◌||◌, not}
 use Rattle.std.proofs.lemmas.Bool.{and_from}
-use Rattle.std.proofs.lemmas.List.Folds.{list_any_more}
 use Rattle.policy.proofs.PairLemmas.{same_pair_is, same_pair_itself}
 use Rattle.policy.specs.Pairs.{is_one_of, same_pair}
 use Rattle.policy.specs.Rights.{each_right}
@@ -10,34 +9,7 @@ use Rattle.policy.specs.declared.rows.PolicyRows.{PolicyRows}
 use Rattle.core_model.proofs.Declared.{any-right}
 use Rattle.access_core.proofs.Least.{any-found, found-any}
 use Rattle.access_core.proofs.Terms.{ArgumentBlock, ClientId, Object, PacketId, QueueId, Right, Rights, all_rights, and_parts, found-passes, has, has_block, is_block, is_given}
-use Rattle.access_core.proofs.Terms.{list_all, list_any, lists_denied, lists_right, same_packet}
-
--- ---- a walk over the blocks
-
-module _ (test : ArgumentBlock → Bool) (blocks : List ArgumentBlock) (i : ℕ) (block : ArgumentBlock) (within : i < length blocks) (there : get_or blocks i block ≡ block) where
-  more : (queue : QueueId) (id : PacketId) → has_block test (take (i + 1) blocks) queue id ≡ (has_block test (take i blocks) queue id || (is_block queue id block && test block))
-  more queue id =
-      list_any_more (λ b. is_block queue id b && test b) blocks i block within
-      ∙ ap (λ b. has_block test (take i blocks) queue id || (is_block queue id b && test b)) there
-
-  -- one block more adds its packet, if it passes
-  pub block-passes : test block ≡ true → (queue : QueueId) (id : PacketId)
-      → has_block test (take (i + 1) blocks) queue id ≡ (has_block test (take i blocks) queue id || same_packet queue id block.queue block.packet)
-  block-passes is queue id =
-      more queue id ∙ ap (λ b. has_block test (take i blocks) queue id || (is_block queue id block && b)) is
-      ∙ ap (λ b. has_block test (take i blocks) queue id || b) named
-    where
-      named : (is_block queue id block && true) ≡ same_packet queue id block.queue block.packet
-      named = grind arith
-
-  -- and none otherwise
-  pub block-fails : test block ≡ false → (queue : QueueId) (id : PacketId) → has_block test (take (i + 1) blocks) queue id ≡ has_block test (take i blocks) queue id
-  block-fails is queue id =
-      more queue id ∙ ap (λ b. has_block test (take i blocks) queue id || (is_block queue id block && b)) is
-      ∙ none (has_block test (take i blocks) queue id) (is_block queue id block)
-    where
-      none : (a b : Bool) → (a || (b && false)) ≡ a
-      none a b = grind arith
+use Rattle.access_core.proofs.Terms.{list_all, list_any, lists_denied, lists_right}
 
 -- ---- rights that rows don't allow
 

@@ -1,13 +1,14 @@
 -- Stops of queues: what is owed by what is kept, and the room that is left.
 use Rattle.std.proofs.Common.{filter, ◌≡◌, ℕ, ◌-◌, ◌≤◌, List, [], ◌∷◌, length, map, refl, sym, ◌∙◌, ap, subst, Bool, true, false, Option, Some, None, arith, ℤ, ◌==◌}
-use Rattle.std.proofs.Common.{IfNone, IfSome, find, fold, is_some, not, option_map, if◌then◌else◌}
-use Rattle.access_core.proofs.Terms.{ArgumentBlock, Call, Effect, History, InFlight, Inside, IsCached, IsSound, Outcome, PacketId, Place, Queue, QueueId, QueueView, Stop}
+use Rattle.std.proofs.Common.{◌+◌, find, fold, is_some, not, option_map, if◌then◌else◌}
+use Rattle.access_core.proofs.Terms.{AreLaid, ArgumentBlock, Call, Effect, History, InFlight, Inside, IsCached, IsSound, Outcome, PacketId, Place, Queue, QueueId, QueueView, Stop}
 use Rattle.access_core.proofs.Terms.{byte_after, cached_opening, due, enters, entry_of, flight_of, freed_by, history_of, is_barrier, is_block, is_full, is_place_of, lacks_room}
 use Rattle.access_core.proofs.Terms.{queue_at, refuses, release_of, signals_after, queue_in, start_of, with_leaving, with_queue, without_one}
 use Rattle.access_core.specs.declared.access.leaving.Leaving.TheVariants as leaving
 use Rattle.core_model.specs.Owed.{owed}
 use Rattle.access_core.proofs.Calls.{due-by}
 use Rattle.access_core.proofs.HeldAfter.{grants-released, grants-still}
+use Rattle.access_core.proofs.Laid.{kept-laid, left-laid}
 use Rattle.access_core.proofs.CachedMore.{GrantsAfter, QueuesAfter, none-launched}
 use Rattle.access_core.proofs.QueueAt.{IsRelease, flight-released, flight-unlaunched, queue_at-more}
 use Rattle.access_core.proofs.ChangedQueue.{freed-at}
@@ -90,7 +91,14 @@ module _ (a : Inside) (kept : IsCached a) (queue : QueueId) where
     queues-stopped None =
         let same = flight-unlaunched (start_of a) a.audit.items (Call (Stop queue)) outcome.Accepted [] refl in
         let count = ap length same in
-        queues-after a kept queue at (with_leaving None leaving.Stopped) (stopped None) _ _ _ _ (λ all. refl) (λ q. refl) (record { room = at.sound.room; free = at.sound.free; below = at.sound.below }) refl
+        queues-after a kept queue at (with_leaving None leaving.Stopped) (stopped None) _ _ _ _ (λ all. refl) (λ q. refl) (record {
+          room = at.sound.room;
+          free = at.sound.free;
+          below = at.sound.below;
+          given = at.sound.given;
+          rising = at.sound.rising;
+          of_queue = at.sound.of_queue;
+        }) refl
         (λ m. queue_at-more (start_of a) a.audit.items (Call (Stop queue)) outcome.Accepted [] m _ same ∙ pick (queue.0 == m.0) (queue_at (start_of a) a.audit.items m))
         (omega (arith, count, freed-none, kept.in_flight_count)) (none-launched (Call (Stop queue)) outcome.Accepted refl (start_of a))
       where
@@ -101,20 +109,34 @@ module _ (a : Inside) (kept : IsCached a) (queue : QueueId) where
         (stopped (Some id)) (λ q. refl) sound refl (λ m v. grind arith)
       where
         sound : IsSound (with_leaving (Some id) leaving.Stopped at.q)
-        sound = let less = sound-released at.q id at.sound in record { room = less.room; free = less.free; below = less.below }
+        sound = let less = sound-released at.q id at.sound in record {
+          room = less.room;
+          free = less.free;
+          below = less.below;
+          given = less.given;
+          rising = less.rising;
+          of_queue = less.of_queue;
+        }
+
+  -- the argument blocks that are left
+  abbrev pub blocks-stopped : Option PacketId → List ArgumentBlock
+  blocks-stopped None = kept.blocks
+  blocks-stopped (Some id) = filter (λ b. not (is_block queue id b)) kept.blocks
 
   -- how the grants do
-  pub grants-stopped : (barrier : Option PacketId) (blocks : List ArgumentBlock) → IfSome barrier (λ id. blocks ≡ filter (λ b. not (is_block queue id b)) a.blocks.items)
-      → IfNone barrier (blocks ≡ a.blocks.items) → GrantsAfter a a.grants blocks (Call (Stop queue)) outcome.Accepted (release_of queue barrier)
-  grants-stopped None blocks dropped same =
-      rw same (grants-still a kept (Call (Stop queue)) outcome.Accepted [] refl (λ q i. refl) (λ client on right b. refl) (λ rows. refl)
-      (flight-unlaunched (start_of a) a.audit.items (Call (Stop queue)) outcome.Accepted [] refl))
-  grants-stopped (Some id) blocks dropped same =
-      grind (
-        arith,
-        grants-released a kept (Call (Stop queue)) outcome.Accepted (effect.Release queue id ∷ []) refl (λ client on right b. refl) (λ rows. refl) blocks queue id (is_release queue id).drops
-            (flight-released (start_of a) a.audit.items _ _ _ queue id (is_release queue id)) dropped,
-      )
+  pub grants-stopped : (barrier : Option PacketId) → GrantsAfter a a.grants (blocks-stopped barrier) (Call (Stop queue)) outcome.Accepted (release_of queue barrier)
+  grants-stopped None =
+      grants-still a kept (Call (Stop queue)) outcome.Accepted [] refl (λ q i. refl) (λ client on right b. refl) (λ rows. refl)
+      (flight-unlaunched (start_of a) a.audit.items (Call (Stop queue)) outcome.Accepted [] refl)
+  grants-stopped (Some id) =
+      grants-released a kept (Call (Stop queue)) outcome.Accepted (effect.Release queue id ∷ []) refl (λ client on right b. refl) (λ rows. refl) queue id (is_release queue id).drops
+      (flight-released (start_of a) a.audit.items _ _ _ queue id (is_release queue id))
+
+  -- and where they lie
+  pub stopped-laid : (barrier : Option PacketId) → IsOpen a queue
+      → AreLaid (with_queue a.queues.items queue (with_leaving barrier leaving.Stopped)) (a.start.before + length a.audit.items + 1) (blocks-stopped barrier)
+  stopped-laid None at = kept-laid a kept queue at (with_leaving None leaving.Stopped) (λ x. refl) refl
+  stopped-laid (Some id) at = left-laid a kept queue at id leaving.Stopped
 
   -- a stop is due its entry where a barrier packet leaves flight for it, or the audit has room
   pub may-stop : (q : Queue) (barrier : Option PacketId) (none : Bool) (old : History) → history_of a ≡ old → queue_in a.queues.items queue ≡ Some q → q.stopped ≡ false

@@ -2,12 +2,12 @@
 use Rattle.std.proofs.Common.{IfSome}
 use Rattle.core_model.specs.History.{beginning}
 use Rattle.std.proofs.Common.{◌≡◌, ℕ, ◌<◌, ◌^◌, List, [], ◌∷◌, get_or, length, refl, sym, ◌∙◌, ap, Bool, true, false, Option, Some, None, arith, ◌+◌}
-use Rattle.std.proofs.Common.{length-append, subst, nat_lt, All, ◌||◌, ◌==◌, map, option_map, if◌then◌else◌}
-use Rattle.access_core.proofs.Terms.{All-head, All-push, All-weaker, CanFail, ClientId, Denied, Effect, Entry, Event, Facts, History, InFlight, Inside, IsBlockPlaced, IsCached}
+use Rattle.std.proofs.Common.{◌++◌, eqb-true, length-append, subst, nat_lt, All, ◌||◌, ◌==◌, map, option_map, if◌then◌else◌}
+use Rattle.access_core.proofs.Terms.{All-head, All-push, All-weaker, ArgumentBlock, CanFail, ClientId, Denied, Effect, Entry, Event, Facts, History, InFlight, Inside, IsBlockPlaced, IsCached}
 use Rattle.access_core.proofs.Terms.{FoundPacket, IsAbove, IsFoundAt, IsFoundIn, IsFoundOf, IsHolder, IsInPlace, IsQueueIndex, IsSound, Launched, MayReach, MayReachRange, Opening, Outcome, Packet, PacketId, Place, Queue, QueueError, QueueId, QueueView}
 use Rattle.access_core.proofs.Terms.{Read, Rule, MOST_IN_FLIGHT, Start, Take, TakesNext, and_parts, argument_ranges, as_launched, barrier_bit, cached_opening, cached_view}
 use Rattle.access_core.proofs.Terms.{decoded, due, entered-owed, enters, entry_of, error_without_place, facts_of, first_failing_rule, flight, flight_of}
-use Rattle.access_core.proofs.Terms.{history_of, is_placed, kernel_of, lacks_room, launched_by, length-map}
+use Rattle.access_core.proofs.Terms.{found-passes, has_number, history_of, is_placed, kernel_of, lacks_room, launched_by, length-map, map-append}
 use Rattle.access_core.proofs.Terms.{lies_in_regions}
 use Rattle.access_core.proofs.Terms.{lies_whole, list_all, lt-ltb, memory_needs, need_is_met, needs, owed_verdict, owner, place_of}
 use Rattle.access_core.proofs.Terms.{queue_at, refuse_unless, refuses, region_lengths, start_of, with_denied, with_entry, with_queue, AscendFrom, OpenQueue, Openings, cached_openings, cached_queue, opening_in, openings_after, queue_in}
@@ -22,6 +22,8 @@ use Rattle.aql_packet.specs.declared.packet.Packet.TheVariants as packet
 use Rattle.core_model.proofs.Launching.{launch-granted}
 use Rattle.core_model.proofs.States.{next_id-le, next-before}
 use Rattle.access_core.specs.inner.QueueChanges.{with_launched}
+use Rattle.access_core.specs.inner.ArgumentBlocks.{AreOfPlaces, IsOfQueue, by_packet}
+use Rattle.access_core.proofs.Ascending.{ascend-with, ids-below}
 use Rattle.access_core.proofs.CachedMore.{QueuesAfter, none-launched}
 use Rattle.access_core.proofs.QueueAt.{flight-launched, flight-unlaunched, map-map, denied, launched, queue_at-denied, queue_at-launched}
 use Rattle.access_core.proofs.ChangedQueue.{ascending-changed, kept-there, length-changed, openings-changed, queues-changed, sound-at, sound-changed, up_to-changed}
@@ -206,6 +208,12 @@ can-take a kept queue takes =
     ap (λ (v : QueueView). length v.places) at.view in
     record { opened = at; none = ap (λ (v : QueueView). v.errors) at.view ∙ no_errors _ _ takes.2; few = omega (arith, count, places, takes.3) }
 
+-- its client is the one who opened it
+pub client-of : (a : Inside) (kept : IsCached a) (queue : QueueId) (can : CanTake a queue) (opening : Opening) → owner (start_of a) a.audit.items queue ≡ Some opening → opening.client ≡ can.opened.q.client
+client-of a kept queue can opening owned =
+    let same : Some opening ≡ Some (cached_opening can.opened.q) = sym owned ∙ owner-kept a queue kept ∙ ap (option_map cached_opening) can.opened.found in
+    ap (λ (o : Option Opening). elim o [ None ↦ opening.client | Some one ↦ one.client ]) same
+
 -- the ids of its packets in flight are below that of the next
 pub below-next : (a : Inside) (kept : IsCached a) (queue : QueueId) → CanTake a queue → (id : PacketId) → id.0 ≡ next_id (start_of a) a.audit.items queue → IsAbove a.queues.items queue id
 below-next a kept queue can id next q some =
@@ -262,7 +270,7 @@ module _ (a : Inside) (kept : IsCached a) (queue : QueueId) (id : PacketId) (byt
   )
 
   -- it is launched
-  module _ (p : Packet) (reads : decoded bytes ≡ Some p) (next : id.0 ≡ next_id (start_of a) a.audit.items queue) where
+  module _ (p : Packet) (reads : decoded bytes ≡ Some p) (next : id.0 ≡ next_id (start_of a) a.audit.items queue) (b : ArgumentBlock) (named : b.packet ≡ id) (its : IsOfQueue queue can.opened.q.client b) where
     next-is : can.opened.q.next ≡ id.0
     next-is = ap (λ (v : QueueView). v.next) can.opened.view ∙ sym next
 
@@ -270,17 +278,34 @@ module _ (a : Inside) (kept : IsCached a) (queue : QueueId) (id : PacketId) (byt
     below-id = subst (λ (ps : List Place). All (λ (place : Place). place.id.0 < id.0) ps) (ap (λ (v : QueueView). v.places) can.opened.view)
         (subst (λ n. All (λ (place : Place). place.id.0 < n) can.opened.q.places) next-is can.opened.sound.below)
 
-    sound-launched : IsSound (with_launched id p can.opened.q)
+    -- its block lies behind the others
+    given-launched : AreOfPlaces (can.opened.q.places ++ as_launched b.packet p ∷ []) (can.opened.q.blocks ++ b ∷ [])
+    given-launched =
+        map-append (λ (c : ArgumentBlock). c.packet) can.opened.q.blocks (b ∷ []) ∙ ap (λ ids. ids ++ b.packet ∷ []) can.opened.sound.given
+        ∙ sym (map-append (λ (p : Place). p.id) can.opened.q.places (as_launched b.packet p ∷ []))
+
+    block-below : All (λ (c : ArgumentBlock). c.packet.0 < b.packet.0) can.opened.q.blocks
+    block-below = subst (λ n. All (λ (c : ArgumentBlock). c.packet.0 < n) can.opened.q.blocks) (next-is ∙ ap (λ (i : PacketId). i.0) (sym named))
+        (ids-below can.opened.q.next can.opened.q.places can.opened.q.blocks can.opened.sound.given can.opened.sound.below)
+
+    number-is : can.opened.q.number ≡ queue
+    number-is = ap (λ n. record { 0 = n }) (eqb-true _ _ (found-passes (has_number queue) a.queues.items can.opened.q can.opened.found))
+
+    sound-launched : IsSound (with_launched p b can.opened.q)
     sound-launched =
         let q = can.opened.q in
+        let id_is = ap (λ (i : PacketId). i.0) named in
         let none : length q.errors.items ≡ 0 = ap length can.none in
-        let longer = length-append q.places (as_launched id p ∷ []) in
+        let longer = length-append q.places (as_launched b.packet p ∷ []) in
         record {
           room = can.opened.sound.room;
           free = omega (arith, none, longer, can.few);
-          below = All-push (λ p. p.id.0 < q.next + 1) q.places (as_launched id p)
+          below = All-push (λ p. p.id.0 < q.next + 1) q.places (as_launched b.packet p)
               (All-weaker (λ (p : Place). p.id.0 < q.next) (λ p. p.id.0 < q.next + 1) (λ p below. omega (arith, below)) q.places can.opened.sound.below)
-              (omega (arith, next-is));
+              (omega (arith, next-is, id_is));
+          given = given-launched;
+          rising = ascend-with by_packet q.blocks b can.opened.sound.rising block-below;
+          of_queue = All-push (IsOfQueue q.number q.client) q.blocks b can.opened.sound.of_queue (its.0 ∙ sym number-is, its.1);
         }
 
     pub flying-launched : a.in_flight_count + 1 ≡ length (flight (start_of a) (with_entry a.audit.items (Take queue id bytes) (outcome.Taken Launched) []))
@@ -291,9 +316,10 @@ module _ (a : Inside) (kept : IsCached a) (queue : QueueId) (id : PacketId) (byt
     )
 
     pub queues-launched : lies_in_regions (region_lengths a.start.policy) p ≡ true
-        → QueuesAfter a (with_queue a.queues.items queue (with_launched id p)) a.opened (a.in_flight_count + 1) (Take queue id bytes) (outcome.Taken Launched) []
+        → QueuesAfter a (with_queue a.queues.items queue (with_launched p b)) a.opened (a.in_flight_count + 1) (Take queue id bytes) (outcome.Taken Launched) []
     queues-launched within =
-        queues-after a kept queue can.opened (with_launched id p) (launched id p) (a.in_flight_count + 1) _ _ _ (λ all. refl) (λ q. refl) sound-launched refl
+        queues-after a kept queue can.opened (with_launched p b) (launched id p) (a.in_flight_count + 1) _ _ _ (λ all. refl) (λ q. refl) sound-launched
+        (ap (λ i. launched i p (cached_view (Some can.opened.q))) named)
         (λ m. queue_at-launched (start_of a) a.audit.items queue id bytes p reads below-id m) flying-launched packet-within
       where
         packet-within : (f : InFlight) → launched_by (Take queue id bytes) (outcome.Taken Launched) ≡ Some f → lies_in_regions (region_lengths a.start.policy) f.packet ≡ true

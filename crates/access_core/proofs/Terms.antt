@@ -5,9 +5,9 @@ pub use Rattle.access_core.specs.declared.access.AccessCore.TheInside.{Inside}
 pub use Rattle.access_core.specs.declared.argument_blocks.ArgumentBlock.{ArgumentBlock}
 pub use Rattle.access_core.specs.declared.kernel.Kernel.{Kernel}
 pub use Rattle.access_core.specs.declared.queue.Queue.{Queue}
-pub use Rattle.access_core.specs.inner.ArgumentBlocks.{AreBlocksOf, block_behind, block_of, bytes_or, has_block, is_block, is_given, lists_denied, lists_one, lists_right, name_of, packet_of, rights_for, rights_of}
+pub use Rattle.access_core.specs.inner.ArgumentBlocks.{AreBlocksOf, block_behind, block_of, bytes_or, all_blocks, has_block, is_block, is_given, lists_denied, lists_one, lists_right, name_of, packet_of, rights_for, rights_of}
 pub use Rattle.access_core.specs.inner.Cached.{HoldsNone, IsCached, IsEntered, core_of, error_places, history_of, is_full, origin_of, start_of, table_places}
-pub use Rattle.access_core.specs.inner.CachedQueue.{HasBlockPlaces, IsSound, QueueView, cached_opening, cached_openings, cached_queue, cached_view, free_of, free_places, place_of, queue_at}
+pub use Rattle.access_core.specs.inner.CachedQueue.{AreLaid, IsSound, QueueView, cached_opening, cached_openings, cached_queue, cached_view, place_of, queue_at}
 pub use Rattle.access_core.specs.inner.Closing.{IsRoom, flying_in, places_in, release_from, releases_in, without_blocks, without_queue}
 pub use Rattle.access_core.specs.inner.Deciding.{IsBlockPlaced, TakesNext, refusal_of}
 pub use Rattle.access_core.specs.inner.Given.{LeavesOut, MarksToo, is_listed}

@@ -3,13 +3,15 @@ use Rattle.access_core.proofs.Terms.{list_any, releases, same_packet}
 use Rattle.core_model.specs.History.{beginning}
 use Rattle.std.proofs.Common.{◌≡◌, ℕ, ◌+◌, ◌-◌, ◌<◌, ◌≤◌, List, [], ◌∷◌, ◌++◌, length, refl, sym, subst, ◌∙◌, ap, Bool, true, false, Some, None, arith}
 use Rattle.std.proofs.Common.{get_or, length-append, ℤ, filter, find, fold, not, ◌==◌, if◌then◌else◌, ◌&&◌, option_map, map}
-use Rattle.access_core.proofs.Terms.{All-filter, All-map, B1, Call, CanFail, Effect, Event, Failed, Faulted, Finish, History, InFlight, Inside, IsCached, IsInPlace, IsSound, Outcome, Owed}
+use Rattle.access_core.proofs.Terms.{All-filter, All-map, ArgumentBlock, B1, Call, CanFail, Effect, Event, Failed, Faulted, Finish, History, InFlight, Inside, IsCached, IsInPlace, IsSound, Outcome, Owed}
 use Rattle.access_core.proofs.Terms.{Packet}
 use Rattle.access_core.proofs.Terms.{PacketId, Place, Poll, Progress, Queue, QueueError, QueueId, QueueView, RefusedAt, RunNext, SignalHandle, byte_after, cached_opening}
 use Rattle.access_core.proofs.Terms.{cached_view, completion_of, completion_signal, due, enters, error_without_place, finish_owed, flight, flight_after_effect, for_packet, found-all}
 use Rattle.access_core.proofs.Terms.{found-passes, freed_by, history_of, in_flight, is_packet, is_place_of, length-map, lies_in_regions, owed, owner, place_of, progress}
 use Rattle.access_core.proofs.Terms.{queue_at, region_lengths, signal_decrement, Openings, cached_queue, openings_after, queue_in, start_of, with_advance, with_leaving, with_progress, with_queue, without_packet}
 use Rattle.access_core.specs.declared.access.leaving.Leaving.TheVariants as leaving
+use Rattle.access_core.specs.inner.ArgumentBlocks.{IsOfQueue, by_packet}
+use Rattle.access_core.proofs.Ascending.{ascend-some, of-left}
 use Rattle.access_core.proofs.CachedMore.{QueuesAfter, none-launched}
 use Rattle.access_core.proofs.QueueAt.{after as after_entry, of_queue, released-count, released-of, IsAdvance, IsRelease, advanced, flight-advanced}
 use Rattle.access_core.proofs.QueueAt.{flight-released, queue_at-advanced, queue_at-released}
@@ -109,7 +111,14 @@ module _ (a : Inside) (kept : IsCached a) (queue : QueueId) (id : PacketId) wher
 pub sound-released : (q : Queue) (id : PacketId) → IsSound q → IsSound (with_leaving (Some id) leaving.Completed q)
 sound-released q id sound =
     let fewer = filter-not_more (λ (p : Place). not (is_place_of id p)) q.places in
-    record { room = sound.room; free = omega (arith, fewer, sound.free); below = All-filter (λ p. not (is_place_of id p)) (λ (p : Place). p.id.0 < q.next) q.places sound.below }
+    record {
+      room = sound.room;
+      free = omega (arith, fewer, sound.free);
+      below = All-filter (λ p. not (is_place_of id p)) (λ (p : Place). p.id.0 < q.next) q.places sound.below;
+      given = of-left id q.places q.blocks sound.given;
+      rising = ascend-some by_packet (λ b. not (b.packet.0 == id.0)) q.blocks sound.rising;
+      of_queue = All-filter (λ (b : ArgumentBlock). not (b.packet.0 == id.0)) (IsOfQueue q.number q.client) q.blocks sound.of_queue;
+    }
 
 -- ---- a packet is found in its place
 
@@ -170,6 +179,9 @@ module _ (a : Inside) (kept : IsCached a) (queue : QueueId) (id : PacketId) (at 
         room = omega (arith, longer, fewer, at.sound.room, at.sound.free);
         free = omega (arith, longer, fewer, at.sound.free);
         below = All-filter (λ p. not (is_place_of id p)) (λ (p : Place). p.id.0 < at.q.next) at.q.places at.sound.below;
+        given = of-left id at.q.places at.q.blocks at.sound.given;
+        rising = ascend-some by_packet (λ b. not (b.packet.0 == id.0)) at.q.blocks at.sound.rising;
+        of_queue = All-filter (λ (b : ArgumentBlock). not (b.packet.0 == id.0)) (IsOfQueue at.q.number at.q.client) at.q.blocks at.sound.of_queue;
       }
 
 -- ---- a packet comes further
@@ -181,10 +193,17 @@ sound-advanced q id so_far sound =
       room = sound.room;
       free = omega (arith, same, sound.free);
       below = All-map (λ (p : Place). p.id.0 < q.next) (with_progress id so_far) q.places (λ k d h. below (get_or q.places k d) (sound.below k d h));
+      given = sound.given ∙ sym (same_ids q.places);
+      rising = sound.rising;
+      of_queue = sound.of_queue;
     }
   where
     below : (p : Place) → p.id.0 < q.next → (with_progress id so_far p).id.0 < q.next
     below p less = grind arith
+
+    same_ids : (ps : List Place) → map (λ (p : Place). p.id) (map (with_progress id so_far) ps) ≡ map (λ (p : Place). p.id) ps
+    same_ids [] = refl
+    same_ids (p ∷ ps) = grind (arith, same_ids ps)
 
 -- how the queues move along with it
 pub queues-advanced : (a : Inside) (kept : IsCached a) (queue : QueueId) (at : IsOpen a queue) (id : PacketId) (g : Progress → Progress) (event : Event) (told : Outcome)

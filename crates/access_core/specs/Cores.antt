@@ -19,7 +19,8 @@ pub record TablePlaces : Type 0 where
   pub error_places : List ℕ
   -- for holds in the grants' list; what packets in flight hold is listed with their argument blocks
   pub hold_places : ℕ
-  -- for the argument blocks of packets in flight
+  -- for the lists of rights of packets that left flight, one for each packet that can be in flight; what those in flight hold, and
+  -- their argument blocks, lie with them in their queues' eight places
   pub block_places : ℕ
   -- for the audit's entries
   pub audit_places : ℕ

@@ -27,9 +27,9 @@ mod stopping;
 mod taking;
 mod viewing;
 
-use crate::argument_blocks::ArgumentBlocks;
 use crate::kernel::Kernel;
 use crate::queue::Queue;
+use crate::spare_lists::SpareLists;
 use aql_packet::KernelObject;
 use boxed::Boxed;
 use core_model::{Effects, Entry, Event, KernelSegments, Origin, Outcome};
@@ -94,10 +94,10 @@ pub struct AccessCore {
     kernels: Vec<Kernel>,
     /// How large their segments are.
     segments: Vec<KernelSegments>,
-    /// The rights in force. What packets in flight hold lies with their argument blocks, and none is held here.
+    /// The rights in force. What packets in flight hold lies with them in their queues, and none is held here.
     grants: Grants,
-    /// The argument blocks of packets in flight, with the rights that the packets hold.
-    blocks: ArgumentBlocks,
+    /// Memory for the rights of packets that are launched.
+    spare: SpareLists,
     memory: Regions,
     signals: Signals,
     /// The open queues, by number.
@@ -118,7 +118,7 @@ impl Drop for AccessCore {
             kernels: _,
             segments: _,
             grants: _,
-            blocks: _,
+            spare: _,
             memory: _,
             signals: _,
             queues: _,

@@ -1,10 +1,14 @@
-//! Which packet in flight stands against a revocation or a reload, by the rights that are listed with argument blocks.
+//! Which packet in flight stands against a revocation or a reload, by the rights that are listed with argument blocks. Queues
+//! are gone over in order, and the packets of each by id, so that the first that is found is the least.
 
-ghost use Rattle.std.specs.Prelude.{◌≡◌, ◌⊎◌, ◌&&◌};
+ghost use Rattle.std.specs.Prelude.{◌≡◌, ◌&&◌, All, find, length, nat_lt};
 ghost use Rattle.std.specs.List.{list_any};
+ghost use Rattle.std.specs.Option.{option_copied};
 ghost use Rattle.policy.specs.Rights.{all_rights, has};
-ghost use Rattle.grants.specs.Holders.{IsFirstTo, IsUpTo};
-ghost use Rattle.access_core.specs.inner.ArgumentBlocks.{AreInForce, AreOfQueues, has_block, has_packet_of, lists_denied, lists_one, names_one};
+ghost use Rattle.grants.specs.Holders.{IsFirstTo};
+ghost use Rattle.access_core.specs.inner.ArgumentBlocks.{AreInForce, all_blocks, has_block, lists_denied, lists_one, names_one};
+ghost use Rattle.access_core.specs.inner.CachedQueue.{IsSound};
+ghost use Rattle.access_core.specs.inner.Numbers.{AscendFrom};
 ghost use Rattle.access_core.specs.inner.Given.{is_listed};
 
 use crate::argument_blocks::ArgumentBlock;
@@ -59,99 +63,113 @@ fn lists_denied(block: &ArgumentBlock, rows: &PolicyRows) -> bool
         .any(|named| !rows.allow(client, named.0, named.1))
 }
 
-// Of two packets the first: by queue, and then by id.
-fn first_of(a: (QueueId, PacketId), b: (QueueId, PacketId)) -> (QueueId, PacketId)
-    ensures either { (result ≡ a) ⊎ (result ≡ b) }
-    ensures up_to_a { IsUpTo result.0 result.1 a.0 a.1 }
-    ensures up_to_b { IsUpTo result.0 result.1 b.0 b.1 }
-{
-    if a.0.0 < b.0.0 || (a.0.0 == b.0.0 && a.1.0 <= b.1.0) {
-        a
-    } else {
-        b
-    }
-}
-
-/// The first packet that holds one of the client's rights on the object, if any does. Packets are looked at only where the
-/// client has one in flight.
-pub(crate) fn least_holder(
-    queues: &[Queue],
-    blocks: &[ArgumentBlock],
+// The first of a queue's blocks that lists one of some rights of a client on an object; of another client's queue none does.
+fn first_of_client<'a>(
+    queue: &'a Queue,
     client: ClientId,
     object: Object,
     rights: Rights,
-) -> Option<(QueueId, PacketId)>
-    requires { AreOfQueues queues.now blocks.now }
-    ensures { IsFirstTo (has_block (lists_one client object rights) blocks.now) result }
+) -> Option<&'a ArgumentBlock>
+    requires { IsSound queue.now }
+    ensures { option_copied result ≡ find (lists_one client object rights) queue.now.blocks }
 {
-    if !has_packet(queues, client) {
+    if queue.client.0 != client.0 {
         return None;
     }
-    first_holder(blocks, client, object, rights)
+    queue
+        .blocks
+        .as_slice()
+        .iter()
+        .find(|block| lists_one(block, client, object, rights))
 }
 
-// Whether a client has a packet in flight.
-fn has_packet(queues: &[Queue], client: ClientId) -> bool
-    ensures { result ≡ list_any (has_packet_of client) queues.now }
+// The first of all blocks that lists one of some rights of a client on an object, queue by queue.
+fn first_holding<'a>(
+    queues: &'a [Queue],
+    client: ClientId,
+    object: Object,
+    rights: Rights,
+) -> Option<&'a ArgumentBlock>
+    requires { All IsSound queues.now }
+    ensures { option_copied result ≡ find (lists_one client object rights) (all_blocks queues.now) }
 {
-    queues.iter().any(|queue| queue.client.0 == client.0 && 0 < queue.places.len())
+    for queue in queues {
+        if let Some(block) = first_of_client(queue, client, object, rights) {
+            return Some(block);
+        }
+    }
+    None
 }
 
-// The first of the blocks' packets that holds one of the client's rights on the object, if any does.
-fn first_holder(
-    blocks: &[ArgumentBlock],
+/// The first packet that holds one of the client's rights on the object, if any does. Only the client's own queues are looked
+/// at, up to it.
+pub(crate) fn least_holder(
+    queues: &[Queue],
     client: ClientId,
     object: Object,
     rights: Rights,
 ) -> Option<(QueueId, PacketId)>
-    ensures { IsFirstTo (has_block (lists_one client object rights) blocks.now) result }
+    requires sound { All IsSound queues.now }
+    requires ascending { AscendFrom 0 queues.now }
+    ensures { IsFirstTo (has_block (lists_one client object rights) (all_blocks queues.now)) result }
 {
-    let mut first = None;
-    for block in blocks {
-        if lists_one(block, client, object, rights) {
-            let packet = (block.queue, block.packet);
-            first = Some(match first {
-                Some(other) => first_of(other, packet),
-                None => packet,
-            });
+    match first_holding(queues, client, object, rights) {
+        None => None,
+        Some(block) => Some((block.queue, block.packet)),
+    }
+}
+
+// The first of a queue's blocks that lists a right that rows don't allow.
+fn first_of_queue<'a>(queue: &'a Queue, rows: &PolicyRows) -> Option<&'a ArgumentBlock>
+    ensures { option_copied result ≡ find (lists_denied rows.now) queue.now.blocks }
+{
+    queue
+        .blocks
+        .as_slice()
+        .iter()
+        .find(|block| lists_denied(block, rows))
+}
+
+// The first of all blocks that lists a right that rows don't allow, queue by queue.
+fn first_denied<'a>(queues: &'a [Queue], rows: &PolicyRows) -> Option<&'a ArgumentBlock>
+    ensures { option_copied result ≡ find (lists_denied rows.now) (all_blocks queues.now) }
+{
+    for queue in queues {
+        if let Some(block) = first_of_queue(queue, rows) {
+            return Some(block);
         }
     }
-    first
+    None
+}
+
+// Whether a packet of one of these queues is in flight.
+fn is_any_in_flight(queues: &[Queue]) -> bool
+    ensures { result ≡ list_any (λ q. nat_lt 0 (length q.blocks)) queues.now }
+{
+    queues.iter().any(|queue| 0 < queue.blocks.as_slice().len())
 }
 
 /// The first packet that holds a right that rows don't allow, if any does. Packets are looked at only where a right in force
 /// isn't allowed any more.
 pub(crate) fn least_denied(
     grants: &mut Grants,
-    blocks: &[ArgumentBlock],
+    queues: &[Queue],
     rows: &PolicyRows,
 ) -> Option<(QueueId, PacketId)>
-    requires { AreInForce grants.old blocks.now }
-    ensures first { IsFirstTo (has_block (lists_denied rows.now) blocks.now) result }
+    requires in_force { AreInForce grants.old (all_blocks queues.now) }
+    requires sound { All IsSound queues.now }
+    requires ascending { AscendFrom 0 queues.now }
+    ensures first { IsFirstTo (has_block (lists_denied rows.now) (all_blocks queues.now)) result }
     ensures same { grants.new ≡ grants.old }
 {
-    if blocks.is_empty() {
+    if !is_any_in_flight(queues) {
         return None;
     }
     if grants.are_allowed_by(rows) {
         return None;
     }
-    first_denied(blocks, rows)
-}
-
-// The first of the blocks' packets that holds a right that rows don't allow, if any does.
-fn first_denied(blocks: &[ArgumentBlock], rows: &PolicyRows) -> Option<(QueueId, PacketId)>
-    ensures { IsFirstTo (has_block (lists_denied rows.now) blocks.now) result }
-{
-    let mut first = None;
-    for block in blocks {
-        if lists_denied(block, rows) {
-            let packet = (block.queue, block.packet);
-            first = Some(match first {
-                Some(other) => first_of(other, packet),
-                None => packet,
-            });
-        }
+    match first_denied(queues, rows) {
+        None => None,
+        Some(block) => Some((block.queue, block.packet)),
     }
-    first
 }

@@ -11,6 +11,7 @@ mod kernel;
 mod lists;
 mod queue;
 mod release_room;
+mod spare_lists;
 mod tables;
 
 pub use access::{AccessCore, OpenFault};

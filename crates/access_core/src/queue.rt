@@ -1,5 +1,6 @@
 //! What the core keeps of a queue.
 
+use crate::argument_blocks::ArgumentBlocks;
 use crate::release_room::ReleaseRoom;
 use aql_packet::{AgentHandle, ClientId, QueueId};
 use packet_processor::Places;
@@ -23,6 +24,8 @@ pub struct Queue {
     pub errors: Reserved<QueueError>,
     /// Its packets in flight, at most eight.
     pub places: Places,
+    /// What each of them was given at its launch, in the same order.
+    pub blocks: ArgumentBlocks,
     /// Room for what its closing tells.
     pub releases: ReleaseRoom,
 }

@@ -1,6 +1,7 @@
--- Argument blocks of packets in flight, found by queue and id, with the rights that their packets hold.
-use Rattle.std.specs.Prelude.{ℕ, ◌≡◌, ◌==◌, ◌&&◌, ◌<◌, ◌∷◌, Bool, true, false, List, [], find, fold, length, map, nat_lt, not, slice_get, Option, Some, None, if◌then◌else◌}
-use Rattle.std.specs.List.{list_any}
+-- Argument blocks of packets in flight, with the rights that their packets hold: each lies with its packet, in its queue's places.
+use Rattle.std.specs.Prelude.{ℕ, ◌≡◌, ◌==◌, ◌&&◌, ◌<◌, ◌∷◌, All, Bool, true, List, [], find, fold, map, not, Option, Some, None, vec_capacity, if◌then◌else◌}
+use Rattle.std.specs.Global.{Vec}
+use Rattle.std.specs.List.{flat_map, list_any}
 use Rattle.aql_packet.specs.declared.ids.ClientId.{ClientId}
 use Rattle.aql_packet.specs.declared.ids.QueueId.{QueueId}
 use Rattle.aql_packet.specs.declared.ids.PacketId.{PacketId}
@@ -14,6 +15,8 @@ use Rattle.policy.specs.Rules.{rows_allow}
 use Rattle.grants.specs.Ledger.{Ledger, in_force}
 use Rattle.grants.specs.Pairs.{is_named}
 use Rattle.core_model.specs.declared.flight.InFlight.{InFlight}
+use Rattle.core_model.specs.declared.limits.TheConstants.{MOST_IN_FLIGHT}
+use Rattle.packet_processor.specs.declared.places.Place.{Place}
 use Rattle.access_core.specs.declared.argument_blocks.ArgumentBlock.{ArgumentBlock}
 use Rattle.access_core.specs.declared.queue.Queue.{Queue}
 use Rattle.access_core.specs.inner.Given.{is_listed}
@@ -41,16 +44,6 @@ name_of f = (f.queue, f.id)
 -- these are the blocks of these packets in flight: one of each, in their order, and no other
 abbrev pub AreBlocksOf : List InFlight → List ArgumentBlock → Type 0
 AreBlocksOf flying blocks = map packet_of blocks ≡ map name_of flying
-
--- no two blocks are of one packet
-abbrev pub AreNamedOnce : List ArgumentBlock → Type 0
-AreNamedOnce [] = Unit {0}
-AreNamedOnce (first ∷ later) = (list_any (is_block first.queue first.packet) later ≡ false) × AreNamedOnce later
-
--- the index of the first block that passes a test; none where none does
-abbrev pub IsIndexOf : (ArgumentBlock → Bool) → List ArgumentBlock → Option ℕ → Type 0
-IsIndexOf test blocks None = find test blocks ≡ None
-IsIndexOf test blocks (Some index) = (index < length blocks) × (find test blocks ≡ slice_get blocks index)
 
 -- whether a block is that of a packet, and lists a client's right on an object
 abbrev pub lists_right : QueueId → PacketId → ClientId → Object → Right → ArgumentBlock → Bool
@@ -92,16 +85,46 @@ lists_denied rows block = list_any (λ named. not (each_right named.1 (rows_allo
 abbrev pub has_block : (ArgumentBlock → Bool) → List ArgumentBlock → QueueId → PacketId → Bool
 has_block test blocks queue id = list_any (λ block. is_block queue id block && test block) blocks
 
+-- ---- blocks in their queues' places
+
+-- so much memory is there that eight blocks have their place (own)
+abbrev pub HasEightPlaces : Vec ArgumentBlock → Type 0
+HasEightPlaces blocks = vec_capacity blocks ≡ MOST_IN_FLIGHT
+
+-- the id of a block's packet, and the number of its launch, as numbers
+abbrev pub by_packet : ArgumentBlock → ℕ
+by_packet block = block.packet.0
+
+abbrev pub by_number : ArgumentBlock → ℕ
+by_number block = block.number
+
+-- each block comes by this number before those behind it (own)
+abbrev pub Ascend : (ArgumentBlock → ℕ) → List ArgumentBlock → Type 0
+Ascend key [] = Unit {0}
+Ascend key (first ∷ later) = All (λ block. key first < key block) later × Ascend key later
+
+-- these are the blocks of the packets in these places: one of each, in their order (own)
+abbrev pub AreOfPlaces : List Place → List ArgumentBlock → Type 0
+AreOfPlaces places blocks = map (λ block. block.packet) blocks ≡ map (λ place. place.id) places
+
+-- a block is of a packet of a queue with this number and client (own)
+abbrev pub IsOfQueue : QueueId → ClientId → ArgumentBlock → Type 0
+IsOfQueue queue client block = (block.queue ≡ queue) × (block.client ≡ client)
+
+-- whether a block is of a packet of a queue
+abbrev pub is_of : QueueId → ArgumentBlock → Bool
+is_of queue block = block.queue.0 == queue.0
+
+-- the blocks of queues, queue by queue (own)
+abbrev pub all_blocks : List Queue → List ArgumentBlock
+all_blocks queues = flat_map (λ (q : Queue). q.blocks) queues
+
+-- the blocks of a queue; of one that isn't there, none
+abbrev pub blocks_in : Option Queue → List ArgumentBlock
+blocks_in None = []
+blocks_in (Some q) = q.blocks
+
 -- ---- where no packet need be looked at
-
--- whether a queue is a client's, and a packet of it is in flight (own)
-abbrev pub has_packet_of : ClientId → Queue → Bool
-has_packet_of client q = q.client.0 == client.0 && nat_lt 0 (length q.places)
-
--- a client that a packet's block lists a right of has a queue among these with a packet in flight (own)
-abbrev pub AreOfQueues : List Queue → List ArgumentBlock → Type 0
-AreOfQueues queues blocks = (queue : QueueId) (id : PacketId) (client : ClientId) (on : Object) (right : Right)
-    → is_given blocks queue id client on right ≡ true → list_any (has_packet_of client) queues ≡ true
 
 -- each right that a packet's block lists is in force (own)
 abbrev pub AreInForce : Ledger → List ArgumentBlock → Type 0

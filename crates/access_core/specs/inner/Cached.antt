@@ -1,5 +1,5 @@
 -- What the core caches beside its audit, and that it is what the audit says.
-use Rattle.std.specs.Prelude.{◌≡◌, ℕ, ◌+◌, ◌≤◌, Bool, true, false, nat_lt, [], ◌∷◌, ◌++◌, map, length, Some, All, vec_capacity}
+use Rattle.std.specs.Prelude.{◌≡◌, ℕ, ◌+◌, ◌≤◌, Bool, true, false, nat_lt, List, [], ◌∷◌, ◌++◌, map, length, Some, All, vec_capacity}
 use Rattle.std.specs.Global.{Vec}
 use Rattle.aql_packet.specs.declared.ids.ClientId.{ClientId}
 use Rattle.aql_packet.specs.declared.ids.QueueId.{QueueId}
@@ -31,7 +31,7 @@ use Rattle.access_core.specs.declared.kernel.Kernel.{Kernel}
 use Rattle.access_core.specs.declared.queue.Queue.{Queue}
 use Rattle.core_model.specs.declared.kernel.KernelSegments.{KernelSegments}
 use Rattle.access_core.specs.Opening.{has_entry, program_of}
-pub use Rattle.access_core.specs.inner.CachedQueue.{HasBlockPlaces, IsSound, cached_view, cached_openings, cached_queue, cached_opening, queue_at}
+pub use Rattle.access_core.specs.inner.CachedQueue.{AreLaid, IsSound, cached_view, cached_openings, cached_queue, cached_opening, queue_at}
 use Rattle.access_core.specs.inner.Numbers.{AscendFrom, queue_in}
 use Rattle.access_core.specs.inner.LiesInRegions.{lies_in_regions}
 
@@ -51,20 +51,20 @@ abbrev pub error_places : Queue → ℕ
 error_places q = places_of q.errors
 
 -- how many places the tables have that can grow
-abbrev pub table_places : Vec Kernel → Vec KernelSegments → Vec Queue → Ledger → Roomy ArgumentBlock → Roomy Entry → TablePlaces
-table_places kernels segments queues grants blocks audit = record {
+abbrev pub table_places : Vec Kernel → Vec KernelSegments → Vec Queue → Ledger → ℕ → Roomy Entry → TablePlaces
+table_places kernels segments queues grants spare audit = record {
   kernel_places = vec_capacity kernels;
   segment_places = vec_capacity segments;
   queue_places = vec_capacity queues;
   error_places = map error_places queues.items;
   hold_places = ledger.places grants;
-  block_places = places_of blocks;
+  block_places = spare;
   audit_places = places_of audit;
 }
 
 -- what a contract sees of the fields
 abbrev pub core_of : Inside → Core
-core_of a = record { history = history_of a; places = table_places a.kernels a.segments a.queues a.grants a.blocks a.audit }
+core_of a = record { history = history_of a; places = table_places a.kernels a.segments a.queues a.grants a.spare a.audit }
 
 -- whether an audit has no room for an entry after which as many packets are in flight
 abbrev pub is_full : History → Bool
@@ -85,13 +85,16 @@ pub record IsCached (a : Inside) : Type 0 where
   pub granted : (client : ClientId) (on : Object) (right : Right) → ledger.in_force a.grants client on right ≡ in_force (start_of a) a.audit.items client on right
   -- what the policy in force declares and allows
   pub rules : ledger.rules_in a.grants ≡ rules_of (policy_at (start_of a) a.audit.items)
+  -- the argument blocks of packets in flight, in the order of their launches, and where they lie
+  pub blocks : List ArgumentBlock
+  pub laid : AreLaid a.queues.items (a.start.before + length a.audit.items) blocks
   -- the rights that packets in flight hold: each is listed with its packet's argument block, and none is kept beside the rights in force
   pub held : (queue : QueueId) (id : PacketId) (client : ClientId) (on : Object) (right : Right)
-      → is_given a.blocks.items queue id client on right ≡ held (start_of a) a.audit.items queue id client on right
+      → is_given blocks queue id client on right ≡ held (start_of a) a.audit.items queue id client on right
   pub unheld : HoldsNone a.grants
-  -- the argument blocks: one of each packet in flight, as it was at its launch
-  pub blocks_are : AreBlocksOf (flight (start_of a) a.audit.items) a.blocks.items
-  pub arguments : (queue : QueueId) (id : PacketId) → block_of a.blocks.items queue id ≡ arguments (start_of a) a.audit.items queue id
+  -- there is one block of each packet in flight, as it was at its launch
+  pub blocks_are : AreBlocksOf (flight (start_of a) a.audit.items) blocks
+  pub arguments : (queue : QueueId) (id : PacketId) → block_of blocks queue id ≡ arguments (start_of a) a.audit.items queue id
   -- each kernel is one of its checked kernels, and has these segments
   pub entries : All (λ kernel. has_entry kernel ≡ true) a.kernels.items
   pub segments : a.segments.items ≡ map segments_of (map program_of a.kernels.items)
@@ -110,8 +113,6 @@ pub record IsCached (a : Inside) : Type 0 where
   -- how many packets are in flight, each with all its ranges within regions
   pub in_flight_count : a.in_flight_count ≡ length (flight (start_of a) a.audit.items)
   pub within : All (λ f. lies_in_regions (region_lengths a.start.policy) f.packet ≡ true) (flight (start_of a) a.audit.items)
-  -- places for the argument blocks of all packets that can be in flight
-  pub block_room : HasBlockPlaces a.queues.items a.in_flight_count (places_of a.blocks)
   -- room for an entry of each packet in flight, and memory for as many entries as there may be
   pub room : length a.audit.items + a.in_flight_count ≤ a.capacity
   pub places : a.capacity ≡ length a.audit.items + a.audit.room

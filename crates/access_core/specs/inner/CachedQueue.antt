@@ -1,5 +1,5 @@
 -- What the core caches of a queue, and what the history says of it.
-use Rattle.std.specs.Prelude.{◌≡◌, ◌<◌, ◌≤◌, ◌+◌, ◌-◌, ◌*◌, ◌∷◌, ℕ, Bool, false, List, [], map, length, Option, Some, None, All}
+use Rattle.std.specs.Prelude.{◌≡◌, ◌<◌, ◌≤◌, ◌+◌, ℕ, Bool, false, List, [], filter, map, length, Option, Some, None, All}
 use Rattle.std.specs.Option.{option_map}
 use Rattle.aql_packet.specs.declared.ids.QueueId.{QueueId}
 use Rattle.queue_error.specs.declared.error.QueueError.{QueueError}
@@ -11,7 +11,10 @@ use Rattle.core_model.specs.Queues.{OpenQueue, Openings, next_id, errors, is_sto
 use Rattle.core_model.specs.declared.origin.Opening.{Opening}
 use Rattle.core_model.specs.Flight.{flight_of, progress}
 use Rattle.packet_processor.specs.declared.places.Place.{Place}
+use Rattle.access_core.specs.declared.argument_blocks.ArgumentBlock.{ArgumentBlock}
 use Rattle.access_core.specs.declared.queue.Queue.{Queue}
+use Rattle.access_core.specs.inner.ArgumentBlocks.{AreOfPlaces, Ascend, IsOfQueue, blocks_in, by_number, by_packet, is_of}
+use Rattle.access_core.specs.inner.Numbers.{queue_in}
 
 -- the opening of a queue that is cached
 abbrev pub cached_opening : Queue → Opening
@@ -51,26 +54,22 @@ queue_at start entries queue = record {
 }
 
 -- A queue has as many places for errors as packets of it can be in flight, one of them free for each that is, and each packet in
--- flight has an id below the next (own).
+-- flight has an id below the next. What it was given lies at the same index: a block that names the queue, its client and the
+-- packet; ids ascend (own).
 pub record IsSound (q : Queue) : Type 0 where
   pub room : length q.errors.items + q.errors.room ≡ MOST_IN_FLIGHT
   pub free : length q.errors.items + length q.places ≤ MOST_IN_FLIGHT
   pub below : All (λ place. place.id.0 < q.next) q.places
+  pub given : AreOfPlaces q.places q.blocks
+  pub rising : Ascend by_packet q.blocks
+  pub of_queue : All (IsOfQueue q.number q.client) q.blocks
 
--- how many packets more of a queue can be in flight
-abbrev pub free_of : Queue → ℕ
-free_of q = MOST_IN_FLIGHT - length q.places
-
--- how many more of all these queues can be
-abbrev pub free_places : List Queue → ℕ
-free_places [] = 0
-free_places (q ∷ qs) = free_of q + free_places qs
-
--- So many places are enough for the argument blocks of these queues' packets: eight for each queue, of which those in flight take some and
--- the others are free, so that no launch lengthens their table (own).
-pub record HasBlockPlaces (queues : List Queue) (in_flight_count block_places : ℕ) : Type 0 where
-  pub free : free_places queues + in_flight_count ≡ MOST_IN_FLIGHT * length queues
-  pub enough : MOST_IN_FLIGHT * length queues ≤ block_places
+-- These are the argument blocks of queues' packets in flight, in the order of their launches: of each queue those that lie in it,
+-- by numbers that ascend and are below how many entries there are (own).
+pub record AreLaid (queues : List Queue) (entries : ℕ) (blocks : List ArgumentBlock) : Type 0 where
+  pub in_queues : (queue : QueueId) → blocks_in (queue_in queues queue) ≡ filter (is_of queue) blocks
+  pub in_order : Ascend by_number blocks
+  pub before : All (λ block. block.number < entries) blocks
 
 -- this is what is cached of a queue of the history: who opened it, and what became of it since
 pub record IsQueue (history : History) (queue : QueueId) (one : Option Queue) : Type 0 where

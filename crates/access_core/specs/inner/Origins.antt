@@ -1,6 +1,6 @@
 -- What the history of a core goes on from behind its audit, as data: what its fields tell (own).
-use Rattle.std.specs.Prelude.{◌≡◌, ◌+◌, ◌||◌, List, find, length, map, Option, None, Some, option_map}
-use Rattle.std.specs.List.{filter_map}
+use Rattle.std.specs.Prelude.{◌≡◌, ◌+◌, ◌<◌, ◌^◌, ◌||◌, ℕ, All, List, find, length, map, nat_le, nat_lt, Option, None, Some, option_map, if◌then◌else◌}
+use Rattle.std.specs.List.{Contains, filter_map}
 use Rattle.aql_packet.specs.declared.ids.ClientId.{ClientId}
 use Rattle.aql_packet.specs.declared.ids.PacketId.{PacketId}
 use Rattle.aql_packet.specs.declared.ids.QueueId.{QueueId}
@@ -15,7 +15,7 @@ use Rattle.packet_processor.specs.declared.places.Place.{Place}
 use Rattle.access_core.specs.declared.access.AccessCore.TheInside.{Inside}
 use Rattle.access_core.specs.declared.argument_blocks.ArgumentBlock.{ArgumentBlock}
 use Rattle.access_core.specs.declared.queue.Queue.{Queue}
-use Rattle.access_core.specs.inner.ArgumentBlocks.{is_given}
+use Rattle.access_core.specs.inner.ArgumentBlocks.{Ascend, all_blocks, by_number, is_given}
 use Rattle.access_core.specs.inner.CachedQueue.{cached_opening}
 use Rattle.access_core.specs.inner.Numbers.{queue_in}
 
@@ -47,15 +47,31 @@ pub record IsHolding (grants : Ledger) (blocks : List ArgumentBlock) (held : Led
   pub given : (queue : QueueId) (id : PacketId) (client : ClientId) (on : Object) (right : Right)
       → holds held queue id client on right ≡ (holds grants queue id client on right || is_given blocks queue id client on right)
 
--- all of it, with such grants; argument blocks lie in the order of launches
-abbrev pub origin_behind : Inside → Ledger → Origin
-origin_behind a grants = record {
+-- of two blocks the one with the lower number, if the second isn't below this number
+abbrev pub sooner : ℕ → Option ArgumentBlock → ArgumentBlock → Option ArgumentBlock
+sooner from None block = if nat_lt block.number from then None else Some block
+sooner from (Some one) block = if nat_lt block.number from then Some one else if nat_le one.number block.number then Some one else Some block
+
+-- numbers of launches fit beside the entries that can come before
+abbrev pub NumbersFit : List ArgumentBlock → Type 0
+NumbersFit blocks = All (λ (block : ArgumentBlock). block.number < 2 ^ 63) blocks
+
+-- these are the blocks that lie in queues, so many, in the order of launches
+pub record AreInOrder (queues : List Queue) (count : ℕ) (blocks : List ArgumentBlock) : Type 0 where
+  pub lie : (block : ArgumentBlock) → Contains (all_blocks queues) block → Contains blocks block
+  pub lie_there : (block : ArgumentBlock) → Contains blocks block → Contains (all_blocks queues) block
+  pub in_order : Ascend by_number blocks
+  pub are_all : length blocks ≡ count
+
+-- all of it, with such grants and these argument blocks, which are in the order of launches
+abbrev pub origin_behind : Inside → Ledger → List ArgumentBlock → Origin
+origin_behind a grants blocks = record {
   policy = a.start.policy;
   grants = grants;
   memory = a.memory;
   signals = a.signals;
   opened = a.opened;
   queues = map queue_origin a.queues.items;
-  packets = filter_map (packet_origin a.queues.items) a.blocks.items;
+  packets = filter_map (packet_origin a.queues.items) blocks;
   before = a.start.before + length a.audit.items;
 }

@@ -1,5 +1,5 @@
 -- How a queue of the list changes: a packet is launched, denied, comes further, fails or leaves flight, or the queue is stopped.
-use Rattle.std.specs.Prelude.{◌≡◌, ◌+◌, ◌-◌, ◌<◌, ◌^◌, ℕ, true, List, [], ◌∷◌, ◌++◌, map, length, option_map, All, IfSome, Option, Some, None, if◌then◌else◌}
+use Rattle.std.specs.Prelude.{◌≡◌, ◌==◌, ◌+◌, ◌-◌, ◌<◌, ◌^◌, ℕ, true, List, [], ◌∷◌, ◌++◌, filter, map, length, not, option_map, All, IfSome, Option, Some, None, if◌then◌else◌}
 use Rattle.aql_packet.specs.declared.ids.QueueId.{QueueId}
 use Rattle.aql_packet.specs.declared.ids.PacketId.{PacketId}
 use Rattle.aql_packet.specs.declared.packet.Packet.{Packet}
@@ -12,6 +12,7 @@ use Rattle.packet_processor.specs.Queueing.{IsFoundIn, as_launched, with_progres
 use Rattle.sequences.specs.Room.{Roomy}
 use Rattle.access_core.specs.declared.access.leaving.Leaving.{Leaving}
 use Rattle.access_core.specs.declared.access.leaving.Leaving.TheVariants as leaving
+use Rattle.access_core.specs.declared.argument_blocks.ArgumentBlock.{ArgumentBlock}
 use Rattle.access_core.specs.declared.queue.Queue.{Queue}
 use Rattle.access_core.specs.inner.Numbers.{AscendFrom, IsThere, has_number, queue_in}
 
@@ -32,6 +33,11 @@ abbrev pub without_one : Option PacketId → List Place → List Place
 without_one None places = places
 without_one (Some id) places = without_packet id places
 
+-- their argument blocks without its
+abbrev pub without_block : Option PacketId → List ArgumentBlock → List ArgumentBlock
+without_block None blocks = blocks
+without_block (Some id) blocks = filter (λ block. not (block.packet.0 == id.0)) blocks
+
 -- which packet was found, if one was
 abbrev pub packet_in : Option FoundPacket → Option PacketId
 packet_in found = option_map (λ one. one.packet) found
@@ -45,8 +51,8 @@ abbrev pub IsAbove : List Queue → QueueId → PacketId → Type 0
 IsAbove queues queue id = (q : Queue) → queue_in queues queue ≡ Some q → All (λ place. place.id.0 < id.0) q.places
 
 -- what becomes of a queue
-abbrev pub with_launched : PacketId → Packet → Queue → Queue
-with_launched id p q = record q { next = q.next + 1; places = q.places ++ as_launched id p ∷ [] }
+abbrev pub with_launched : Packet → ArgumentBlock → Queue → Queue
+with_launched p block q = record q { next = q.next + 1; places = q.places ++ as_launched block.packet p ∷ []; blocks = q.blocks ++ block ∷ [] }
 
 abbrev pub with_denied : QueueError → Queue → Queue
 with_denied error q = record q { next = q.next + 1; errors = with_error q.errors error }
@@ -54,11 +60,11 @@ with_denied error q = record q { next = q.next + 1; errors = with_error q.errors
 abbrev pub with_advance : PacketId → Progress → Queue → Queue
 with_advance id so_far q = record q { places = map (with_progress id so_far) q.places }
 
--- a packet leaves it, if one is named: its place is free; where it failed there is an error more, or the queue is stopped
+-- a packet leaves it, if one is named: its place is free, with its block's; where it failed there is an error more, or the queue is stopped
 abbrev pub with_leaving : Option PacketId → Leaving → Queue → Queue
-with_leaving id leaving.Completed q = record q { places = without_one id q.places }
-with_leaving id (leaving.Failed error) q = record q { errors = with_error q.errors error; places = without_one id q.places }
-with_leaving id leaving.Stopped q = record q { stopped = true; places = without_one id q.places }
+with_leaving id leaving.Completed q = record q { places = without_one id q.places; blocks = without_block id q.blocks }
+with_leaving id (leaving.Failed error) q = record q { errors = with_error q.errors error; places = without_one id q.places; blocks = without_block id q.blocks }
+with_leaving id leaving.Stopped q = record q { stopped = true; places = without_one id q.places; blocks = without_block id q.blocks }
 
 -- how many places it frees to take a packet out of flight
 abbrev pub places_freed : Option PacketId → List Place → ℕ

@@ -7,15 +7,13 @@ ghost use Rattle.core_model.specs.declared.flight.InFlight.{InFlight};
 ghost use Rattle.core_model.specs.Flight.{flight_of};
 ghost use Rattle.core_model.specs.Owed.{enters, refuses, releases_of};
 ghost use Rattle.core_model.specs.Legal.{Meets, as_accepted, due};
-ghost use Rattle.access_core.specs.Cores.{places_of};
 ghost use Rattle.access_core.specs.Keeping.{ClosesInPlace};
 ghost use Rattle.access_core.specs.inner.CachedQueue.{IsSound};
-ghost use Rattle.access_core.specs.inner.Closing.{flying_in, releases_in, without_blocks, without_queue};
+ghost use Rattle.access_core.specs.inner.Closing.{flying_in, releases_in, without_queue};
 ghost use Rattle.access_core.specs.inner.Numbers.{IsThere};
 
 use crate::access::lookups::{open_index, queue_of};
 use crate::access::{AccessCore, enter};
-use crate::argument_blocks::ArgumentBlocks;
 use crate::queue::Queue;
 use aql_packet::QueueId;
 use core_model::{Call, Effects, Event, Outcome, Refusal};
@@ -32,12 +30,7 @@ impl AccessCore {
         ensures room { (f : InFlight) → Contains (flight_of (beginning self.old.history) self.old.history.entries queue) f → result ≡ Err Refusal.AuditFull → ⊥ }
     {
         self.may_close(queue)?;
-        let effects = close_open(
-            &mut self.queues,
-            &mut self.in_flight_count,
-            &mut self.blocks,
-            queue,
-        );
+        let effects = close_open(&mut self.queues, &mut self.in_flight_count, queue);
         let event = Event::Call(Call::Close { queue });
         enter(&mut self.audit, event, Outcome::Accepted, effects);
         Ok(())
@@ -63,12 +56,7 @@ impl AccessCore {
 
 // Takes a queue out of the others, and with it its packets out of flight: they count no more, and the rights that they held and their
 // arguments are dropped. It answers their releases.
-fn close_open(
-    queues: &mut Vec<Queue>,
-    in_flight_count: &mut usize,
-    blocks: &mut ArgumentBlocks,
-    queue: QueueId,
-) -> Effects
+fn close_open(queues: &mut Vec<Queue>, in_flight_count: &mut usize, queue: QueueId) -> Effects
     requires there { IsThere queues.old.items queue }
     requires sound { All IsSound queues.old.items }
     requires counted { flying_in queues.old.items queue ≤ in_flight_count.old }
@@ -76,12 +64,9 @@ fn close_open(
     ensures queues { queues.new.items ≡ without_queue queue queues.old.items }
     ensures capacity { vec_capacity queues.new ≡ vec_capacity queues.old }
     ensures in_flight_count { in_flight_count.new ≡ in_flight_count.old - flying_in queues.old.items queue }
-    ensures blocks { blocks.new.items ≡ without_blocks queue blocks.old.items }
-    ensures places { places_of blocks.new ≡ places_of blocks.old }
 {
     let closed = queues.remove(open_index(queues.as_slice(), queue));
     *in_flight_count -= closed.places.len();
-    blocks.release_queue(queue);
     let Queue {
         places,
         releases,

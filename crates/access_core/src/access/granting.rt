@@ -47,13 +47,7 @@ impl AccessCore {
         if let Err(why) = self.grants.may_revoke(client, object, rights) {
             return Err(refusal_of(why));
         }
-        match least_holder(
-            self.queues.as_slice(),
-            self.blocks.as_slice(),
-            client,
-            object,
-            rights,
-        ) {
+        match least_holder(self.queues.as_slice(), client, object, rights) {
             Some((queue, packet)) => return Err(Refusal::Busy { queue, packet }),
             None => {}
         }

@@ -11,8 +11,8 @@ ghost use Rattle.access_core.specs.inner.Untouched.{IsFirst, IsUntouched};
 ghost use Rattle.access_core.specs.Opening.{first_missing, has_entry, is_capacity, open_fault, Opens, program_of};
 
 use crate::access::{AccessCore, OpenFault};
-use crate::argument_blocks::ArgumentBlocks;
 use crate::kernel::Kernel;
+use crate::spare_lists::SpareLists;
 use aql_packet::{KernelObject, RegionHandle, SignalHandle};
 use boxed::Boxed;
 use core_model::{Entry, KernelSegments, MOST_ENTRIES, Origin};
@@ -288,7 +288,7 @@ fn blank(
         kernels,
         segments,
         grants,
-        blocks: ArgumentBlocks::new(alloc),
+        spare: SpareLists::new(alloc),
         memory,
         signals,
         queues: Vec::new(alloc),

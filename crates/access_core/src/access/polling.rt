@@ -102,7 +102,7 @@ impl AccessCore {
         leave_flight(
             &mut self.queues,
             &mut self.in_flight_count,
-            &mut self.blocks,
+            &mut self.spare,
             queue,
             Some(found),
             Leaving::Failed(error),

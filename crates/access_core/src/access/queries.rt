@@ -77,7 +77,7 @@ impl AccessCore {
     {
         TableSizes {
             queues: self.queues.len(),
-            argument_blocks: self.blocks.len(),
+            argument_blocks: self.in_flight_count,
             audit_places: self.audit.len() + self.audit.room(),
         }
     }

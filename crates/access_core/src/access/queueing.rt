@@ -10,6 +10,7 @@ ghost use Rattle.core_model.specs.Legal.{MeetsOrLacks, due};
 ghost use Rattle.access_core.specs.Keeping.{GrowsByOpening, KeepsPlaces};
 
 use crate::access::{AccessCore, enter};
+use crate::argument_blocks::ArgumentBlocks;
 use crate::queue::Queue;
 use crate::release_room::ReleaseRoom;
 use aql_packet::{AgentHandle, ClientId, QueueId, is_ring_size};
@@ -67,8 +68,9 @@ impl AccessCore {
     {
         let errors = Reserved::with_room(alloc, MOST_IN_FLIGHT)?;
         let releases = ReleaseRoom::get(alloc)?;
+        let blocks = ArgumentBlocks::get(alloc)?;
         get_room(&mut self.queues)?;
-        self.blocks
+        self.spare
             .get_places(MOST_IN_FLIGHT * (self.queues.len() + 1))?;
         self.opened = queue.0;
         self.queues.push_reserved(Queue {
@@ -79,6 +81,7 @@ impl AccessCore {
             stopped: false,
             errors,
             places: Places::new(),
+            blocks,
             releases,
         });
         let event = Event::Open {

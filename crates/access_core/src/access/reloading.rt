@@ -57,7 +57,7 @@ impl AccessCore {
     {
         if let Some((queue, packet)) = least_denied(
             &mut self.grants,
-            self.blocks.as_slice(),
+            self.queues.as_slice(),
             rows,
         ) {
             return Err(Refusal::Busy { queue, packet });

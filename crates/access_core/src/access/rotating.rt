@@ -1,6 +1,6 @@
 //! The audit is rotated: its entries so far are handed out, and the history goes on from the state behind them.
 
-ghost use Rattle.std.specs.Prelude.{◌≡◌, true, false, map, All, IfOk};
+ghost use Rattle.std.specs.Prelude.{◌≡◌, ◌++◌, true, false, fold, map, option_to_list, All, IfOk, List, None, OnOk};
 ghost use Rattle.std.specs.List.{filter_map};
 ghost use Rattle.std.specs.Option.{option_copied};
 ghost use Rattle.core_model.specs.History.{begin, beginning};
@@ -10,8 +10,10 @@ ghost use Rattle.core_model.specs.Legal.{IsLegalPart, SameOrigin};
 ghost use Rattle.core_model.specs.Rotation.{Rotates, lies_too_far};
 ghost use Rattle.core_model.specs.States.{state_after};
 ghost use Rattle.grants.specs.Ledger.{are_in_force};
+ghost use Rattle.access_core.specs.declared.argument_blocks.ArgumentBlock.{ArgumentBlock};
+ghost use Rattle.access_core.specs.inner.ArgumentBlocks.{all_blocks};
 ghost use Rattle.access_core.specs.inner.Numbers.{AscendFrom, queue_in};
-ghost use Rattle.access_core.specs.inner.Origins.{IsHolding, packet_origin, queue_origin, sought_in, told_origin};
+ghost use Rattle.access_core.specs.inner.Origins.{AreInOrder, IsHolding, NumbersFit, packet_origin, queue_origin, sooner, sought_in, told_origin};
 
 use crate::access::AccessCore;
 use crate::access::lookups::queue_of;
@@ -79,12 +81,12 @@ impl AccessCore {
         self.regions_fit();
         Ok(Origin {
             policy: self.policy().copy(alloc)?,
-            grants: grants_holding(alloc, &self.grants, self.blocks.as_slice())?,
+            grants: grants_holding(alloc, &self.grants, self.queues.as_slice())?,
             memory: self.memory.copy(alloc)?,
             signals: self.signals.copy(alloc)?,
             queues: queue_origins(alloc, self.queues.as_slice())?,
             opened: self.opened,
-            packets: packet_origins(alloc, self.queues.as_slice(), self.blocks.as_slice())?,
+            packets: packet_origins(alloc, self.queues.as_slice(), self.in_flight_count)?,
             before: self.entries_before() + self.audit.len() as u64,
         })
     }
@@ -100,15 +102,22 @@ fn boxed_copy(alloc: Global, origin: &Origin) -> Result<Boxed<Origin>, AllocErro
 }
 
 // The same grants in memory of their own, by which packets hold besides what their argument blocks list.
-fn grants_holding(
-    alloc: Global,
-    grants: &Grants,
-    blocks: &[ArgumentBlock],
-) -> Result<Grants, AllocError>
-    requires { All (λ block. are_in_force grants.now block.client block.rights ≡ true) blocks.now }
-    ensures { IfOk result (IsHolding grants.now blocks.now) }
+fn grants_holding(alloc: Global, grants: &Grants, queues: &[Queue]) -> Result<Grants, AllocError>
+    requires { All (λ block. are_in_force grants.now block.client block.rights ≡ true) (all_blocks queues.now) }
+    ensures { IfOk result (IsHolding grants.now (all_blocks queues.now)) }
 {
     let mut holding = grants.copy(alloc)?;
+    for queue in queues {
+        hold_all(&mut holding, queue.blocks.as_slice())?;
+    }
+    Ok(holding)
+}
+
+// Has packets hold what these argument blocks list.
+fn hold_all(holding: &mut Grants, blocks: &[ArgumentBlock]) -> Result<(), AllocError>
+    requires { All (λ block. are_in_force holding.old block.client block.rights ≡ true) blocks.now }
+    ensures { OnOk result (IsHolding holding.old blocks.now holding.new) }
+{
     for block in blocks {
         holding.hold(
             block.client,
@@ -117,7 +126,7 @@ fn grants_holding(
             block.rights.as_slice(),
         )?;
     }
-    Ok(holding)
+    Ok(())
 }
 
 // What is kept of a queue, as data.
@@ -178,19 +187,87 @@ fn packet_origin(
     })
 }
 
-// What is kept of all packets in flight, in the order of their launches, which is that of their argument blocks.
+// Of a block and another the one with the lower number, if the block's number isn't below this one.
+fn sooner<'a>(
+    from: u64,
+    other: Option<&'a ArgumentBlock>,
+    block: &'a ArgumentBlock,
+) -> Option<&'a ArgumentBlock>
+    ensures { option_copied result ≡ sooner from (option_copied other.entry) block.now }
+{
+    if block.number < from {
+        return other;
+    }
+    match other {
+        None => Some(block),
+        Some(one) => {
+            if one.number <= block.number {
+                Some(one)
+            } else {
+                Some(block)
+            }
+        }
+    }
+}
+
+// Of these blocks and another the one with the lowest number, of those that aren't below this one.
+fn soonest<'a>(
+    from: u64,
+    other: Option<&'a ArgumentBlock>,
+    blocks: &'a [ArgumentBlock],
+) -> Option<&'a ArgumentBlock>
+    ensures { option_copied result ≡ fold (sooner from) (option_copied other.entry) blocks.now }
+{
+    let mut next = other;
+    for block in blocks {
+        next = sooner(from, next, block);
+    }
+    next
+}
+
+// The argument block of the first launch from a number on, of the packets in flight.
+fn next_launched<'a>(queues: &'a [Queue], from: u64) -> Option<&'a ArgumentBlock>
+    ensures { option_copied result ≡ fold (sooner from) None (all_blocks queues.now) }
+{
+    let mut next = None;
+    for queue in queues {
+        next = soonest(from, next, queue.blocks.as_slice());
+    }
+    next
+}
+
+// What is kept of a packet in flight, as data, behind what is of others, if its place is there.
+fn tell_packet(
+    alloc: Global,
+    origins: &mut Sequence<PacketOrigin>,
+    queues: &[Queue],
+    block: &ArgumentBlock,
+) -> Result<(), AllocError>
+    requires { AscendFrom 0 queues.now }
+    ensures { OnOk result (origins.new ≡ origins.old ++ option_to_list (packet_origin queues.now block.now)) }
+{
+    if let Some(place) = place_in(queues, block.queue, block.packet) {
+        origins.push(packet_origin(alloc, block, place)?)?;
+    }
+    Ok(())
+}
+
+// What is kept of all packets in flight, which are so many, in the order of their launches.
 fn packet_origins(
     alloc: Global,
     queues: &[Queue],
-    blocks: &[ArgumentBlock],
+    count: usize,
 ) -> Result<Sequence<PacketOrigin>, AllocError>
-    requires { AscendFrom 0 queues.now }
-    ensures { IfOk result (λ origins. origins ≡ filter_map (packet_origin queues.now) blocks.now) }
+    requires ascending { AscendFrom 0 queues.now }
+    requires few { NumbersFit (all_blocks queues.now) }
+    ensures { IfOk result (λ origins. (blocks : List ArgumentBlock) → AreInOrder queues.now count blocks → origins ≡ filter_map (packet_origin queues.now) blocks) }
 {
     let mut origins = Sequence::new(alloc);
-    for block in blocks {
-        if let Some(place) = place_in(queues, block.queue, block.packet) {
-            origins.push(packet_origin(alloc, block, place)?)?;
+    let mut from = 0;
+    for told in 0..count {
+        if let Some(block) = next_launched(queues, from) {
+            tell_packet(alloc, &mut origins, queues, block)?;
+            from = block.number + 1;
         }
     }
     Ok(origins)

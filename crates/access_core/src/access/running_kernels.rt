@@ -18,7 +18,7 @@ ghost use Rattle.access_core.specs.inner.Running.{FaultsAs, fault_owed, next_res
 use crate::access::leaving::{Leaving, leave_flight};
 use crate::access::{AccessCore, enter};
 use crate::kernel::kernel_at;
-use aql_packet::{KernelDispatch, PacketId, QueueId};
+use aql_packet::{KernelDispatch, QueueId};
 use core_model::{Call, Effect, Effects, Event, Outcome, Refusal, Worked};
 use executor::{
     Dispatch, Extent, ItemFault, RunFault, WrittenRange, groups_along,
@@ -51,7 +51,7 @@ impl AccessCore {
         if group >= count {
             return Ok(Worked::Done);
         }
-        match self.group_runs(alloc, queue, found.packet, place, dispatch) {
+        match self.group_runs(alloc, queue, found, place, dispatch) {
             Ok(runs) => self.enter_group(alloc, queue, found, place, count - (group + 1), runs),
             Err(RunFault::Fault(fault)) => Ok(self.fault(queue, found, place, group, fault)),
             Err(RunFault::OutOfMemory) => Err(Refusal::OutOfMemory),
@@ -63,29 +63,29 @@ impl AccessCore {
         &self,
         alloc: Global,
         queue: QueueId,
-        packet: PacketId,
+        found: FoundPacket,
         place: Place,
         dispatch: KernelDispatch,
     ) -> Result<Sequence<WrittenRange>, RunFault>
-        requires found { IsInPlace self.now.history queue packet place }
+        requires found { IsInPlace self.now.history queue found.packet place }
+        requires at { IsFoundAt self.now.history queue found }
         requires packet_is { place.packet ≡ kind.Kernel dispatch }
         requires left { place.progress.groups_run < group_count (kind.Kernel dispatch) }
-        ensures ok { IfOk result (λ runs. next_result self.now.history queue packet place dispatch ≡ wrote runs) }
-        ensures fault { IfErr result (FaultsAs (next_result self.now.history queue packet place dispatch)) }
+        ensures ok { IfOk result (λ runs. next_result self.now.history queue found.packet place dispatch ≡ wrote runs) }
+        ensures fault { IfErr result (FaultsAs (next_result self.now.history queue found.packet place dispatch)) }
         ensures written { IfOk result (λ runs. All (λ run. is_within (region_lengths (beginning self.now.history).policy) run.address (length run.bytes) ≡ true) runs) }
     {
         law_groups_read_where_they_may();
         self.regions_fit();
-        let client = self.holder_of(queue, packet, place);
-        let given = self.given_to(queue, packet, client);
-        let view = self.view(alloc, given.0)?;
+        let given = self.given_to(queue, found, place);
+        let view = self.view(alloc, given.rights.as_slice())?;
         let kernel = kernel_at(self.kernels.as_slice(), dispatch.kernel_object);
         let asked = Dispatch {
             kernel: kernel.index(),
             group_size: group_size(&dispatch),
             grid_size: grid_size(&dispatch),
             group_segment_size: dispatch.group_segment_size,
-            arguments: given.1,
+            arguments: given.bytes.as_slice(),
         };
         let group = place.progress.groups_run;
         run_group(alloc, &kernel.checked, &asked, group, &view)
@@ -123,7 +123,7 @@ impl AccessCore {
         leave_flight(
             &mut self.queues,
             &mut self.in_flight_count,
-            &mut self.blocks,
+            &mut self.spare,
             queue,
             Some(found),
             Leaving::Failed(error),

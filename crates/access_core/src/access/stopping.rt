@@ -29,7 +29,7 @@ impl AccessCore {
         leave_flight(
             &mut self.queues,
             &mut self.in_flight_count,
-            &mut self.blocks,
+            &mut self.spare,
             queue,
             barrier,
             Leaving::Stopped,

@@ -1,13 +1,14 @@
 //! Packets are handed over: they wait, are launched, or denied.
 
 ghost use Rattle.core_model.specs.History.{beginning};
-ghost use Rattle.std.specs.Prelude.{◌≡◌, ◌++◌, [], IfErr, IfOk, Ok, OnOk, map, vec_capacity};
+ghost use Rattle.std.specs.Prelude.{◌≡◌, ◌++◌, [], All, IfErr, IfOk, Ok, OnOk, map, vec_capacity};
 ghost use Rattle.aql_packet.specs.Reading.{barrier_bit};
 ghost use Rattle.core_model.specs.Holds.{arguments_of, rights_at_launch};
 ghost use Rattle.core_model.specs.Owed.{facts_of, refuses};
 ghost use Rattle.packet_processor.specs.Holding.{as_rights};
 ghost use Rattle.packet_processor.specs.Judged.{facts_seen, Judges};
 ghost use Rattle.access_core.specs.inner.Deciding.{Decides, IsBlockPlaced, opening_of};
+ghost use Rattle.access_core.specs.inner.CachedQueue.{IsSound};
 ghost use Rattle.access_core.specs.inner.QueueChanges.{CanFail, CanLaunch, IsAbove, with_denied, with_launched, with_queue};
 ghost use Rattle.policy.specs.Results.{map_ok};
 ghost use Rattle.core_model.specs.Legal.{Meets, MeetsOrLacks, due};
@@ -52,17 +53,19 @@ struct Launching {
     asked: PacketNeeds,
 }
 
-// Puts the next packet of a queue into a place.
-fn place_next(queues: &mut Vec<Queue>, queue: QueueId, id: PacketId, packet: Packet)
+// Puts the next packet of a queue into a place, with its argument block.
+fn place_next(queues: &mut Vec<Queue>, queue: QueueId, packet: Packet, block: ArgumentBlock)
     requires free { CanLaunch queues.old.items queue }
-    requires above { IsAbove queues.old.items queue id }
-    ensures queues { queues.new.items ≡ with_queue queues.old.items queue (with_launched id packet) }
+    requires above { IsAbove queues.old.items queue block.packet }
+    requires sound { All IsSound queues.old.items }
+    ensures queues { queues.new.items ≡ with_queue queues.old.items queue (with_launched packet block) }
     ensures capacity { vec_capacity queues.new ≡ vec_capacity queues.old }
 {
     let index = open_index(queues.as_slice(), queue);
     let kept = &mut queues[index];
     kept.next += 1;
-    kept.places.launch(id, packet);
+    kept.places.launch(block.packet, packet);
+    kept.blocks.push(block);
 }
 
 // Counts the next packet of a queue as handed over, and puts an error behind the queue's others.
@@ -175,7 +178,7 @@ impl AccessCore {
         match self.may_take(queue, packet, bytes)? {
             Decision::Wait(cause) => Ok(Taken::Waiting(cause)),
             Decision::Deny(rule) => Ok(self.deny(queue, packet, bytes, rule)),
-            Decision::Launch(launching) => self.launch(alloc, queue, packet, bytes, launching),
+            Decision::Launch(launching) => self.launch(alloc, queue, packet, bytes, &launching),
         }
     }
 
@@ -259,7 +262,7 @@ impl AccessCore {
         ensures empty { result ≡ [] }
         ensures same { self.new ≡ self.old }
     {
-        self.blocks.empty_list(alloc)
+        self.spare.empty_list(alloc)
     }
 
     // Launches the next packet of a queue: it holds its rights from then on.
@@ -269,9 +272,9 @@ impl AccessCore {
         queue: QueueId,
         packet: PacketId,
         bytes: &[u8; 64],
-        launching: Launching,
+        launching: &Launching,
     ) -> Result<Taken, Refusal>
-        requires { Decides self.old.history queue packet bytes.now (Decision.Launch launching) }
+        requires { Decides self.old.history queue packet bytes.now (Decision.Launch launching.now) }
         ensures met { MeetsOrLacks (Event.Take queue packet bytes.now) self.old.history self.new.history (map_ok Outcome.Taken result) }
         ensures places { self.new.places ≡ self.old.places }
     {
@@ -286,25 +289,25 @@ impl AccessCore {
         queue: QueueId,
         packet: PacketId,
         bytes: &[u8; 64],
-        launching: Launching,
+        launching: &Launching,
         mut rights: Sequence<(Object, Rights)>,
     ) -> Result<Taken, Refusal>
-        requires decided { Decides self.old.history queue packet bytes.now (Decision.Launch launching) }
+        requires decided { Decides self.old.history queue packet bytes.now (Decision.Launch launching.now) }
         requires empty { rights ≡ [] }
         ensures met { MeetsOrLacks (Event.Take queue packet bytes.now) self.old.history self.new.history (map_ok Outcome.Taken result) }
         ensures places { self.new.places ≡ self.old.places }
     {
         let block = self.argument_block(alloc, launching.asked.packet())?;
-        self.list_rights(alloc, &launching, block.as_slice(), &mut rights)?;
-        let client = launching.client;
-        self.blocks.push(ArgumentBlock {
+        self.list_rights(alloc, launching, block.as_slice(), &mut rights)?;
+        let given = ArgumentBlock {
             queue,
             packet,
-            client,
+            client: launching.client,
+            number: self.entries_before() + self.audit.len() as u64,
             rights,
             bytes: block,
-        });
-        place_next(&mut self.queues, queue, packet, *launching.asked.packet());
+        };
+        place_next(&mut self.queues, queue, *launching.asked.packet(), given);
         self.in_flight_count += 1;
         let event = Event::Take {
             queue,

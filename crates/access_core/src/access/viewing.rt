@@ -10,15 +10,16 @@ ghost use Rattle.core_model.specs.Holds.{arguments, own_rights};
 ghost use Rattle.policy.specs.Policy.{region_lengths};
 ghost use Rattle.core_model.specs.View.{rights_held};
 ghost use Rattle.access_core.specs.inner.Given.{LeavesOut, MarksToo, is_listed};
-ghost use Rattle.access_core.specs.inner.InPlace.{IsInPlace};
-ghost use Rattle.access_core.specs.inner.Running.{IsHolder, lent_if_held, region_numbered, view_whole};
+ghost use Rattle.access_core.specs.inner.InPlace.{IsFoundAt, IsInPlace};
+ghost use Rattle.access_core.specs.inner.Running.{lent_if_held, region_numbered, view_whole};
 
 use crate::access::AccessCore;
 use crate::access::lookups::open_index;
+use crate::argument_blocks::ArgumentBlock;
 use crate::holders::is_listed;
-use aql_packet::{Address, ClientId, MOST_REGIONS, PacketId, QueueId, REGION_SPAN, RegionHandle};
+use aql_packet::{Address, MOST_REGIONS, QueueId, REGION_SPAN, RegionHandle};
 use executor::{HeldRegion, View};
-use packet_processor::Place;
+use packet_processor::{FoundPacket, Place};
 use policy::{Kind, Object, Right, Rights};
 use std::alloc::{AllocError, Global};
 
@@ -28,14 +29,6 @@ const PLACES: usize = 65;
 const _: () = prove!(MOST_REGIONS < PLACES);
 
 impl AccessCore {
-    // The client whose queue has a packet in flight.
-    pub(crate) fn holder_of(&self, queue: QueueId, packet: PacketId, place: Place) -> ClientId
-        requires { IsInPlace self.now.history queue packet place }
-        ensures { IsHolder self.now.history queue packet result }
-    {
-        self.queues[open_index(self.queues.as_slice(), queue)].client
-    }
-
     // Memory takes the lengths of the regions: each policy is within its limits.
     pub(crate) fn regions_fit(&self)
         ensures { are_region_lengths (region_lengths (beginning self.now.history).policy) ≡ true }
@@ -47,17 +40,16 @@ impl AccessCore {
     pub(crate) fn given_to(
         &self,
         queue: QueueId,
-        packet: PacketId,
-        client: ClientId,
-    ) -> (&[(Object, Rights)], &[u8])
-        requires { IsHolder self.now.history queue packet client }
-        ensures rights { is_listed result.0.now ≡ own_rights (beginning self.now.history) self.now.history.entries queue packet }
-        ensures arguments { result.1.now ≡ arguments (beginning self.now.history) self.now.history.entries queue packet }
+        found: FoundPacket,
+        place: Place,
+    ) -> &ArgumentBlock
+        requires found { IsInPlace self.now.history queue found.packet place }
+        requires at { IsFoundAt self.now.history queue found }
+        ensures rights { is_listed result.now.rights ≡ own_rights (beginning self.now.history) self.now.history.entries queue found.packet }
+        ensures arguments { result.now.bytes ≡ arguments (beginning self.now.history) self.now.history.entries queue found.packet }
     {
-        match self.blocks.find(queue, packet) {
-            None => (&[], &[]),
-            Some(block) => (block.rights_for(client), block.bytes.as_slice()),
-        }
+        let kept = &self.queues[open_index(self.queues.as_slice(), queue)];
+        kept.blocks.at(found.index)
     }
 
     // The regions on which a right is listed, in order, each with the rights that are, and all its bytes.

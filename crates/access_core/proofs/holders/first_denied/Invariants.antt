@@ -1,7 +1,7 @@
--- The first so far.
-use Rattle.std.proofs.Common.{take}
-use Rattle.access_core.proofs.Terms.{IsFirstTo, has_block, lists_denied}
+-- None of the queues so far lists one.
+use Rattle.std.proofs.Common.{◌≡◌, drop, find}
+use Rattle.access_core.proofs.Terms.{all_blocks, lists_denied}
 use Rattle.access_core.proofs.holders.first_denied.Given as goal
 
-abbrev pub invariant-loop-block : goal.invariant-loop-block
-invariant-loop-block l = IsFirstTo (has_block (lists_denied l.rows) (take l.block-index l.blocks)) l.first
+abbrev pub invariant-loop-queue : goal.invariant-loop-queue
+invariant-loop-queue l = find (lists_denied l.rows) (all_blocks (drop l.queue-index l.queues)) ≡ find (lists_denied l.rows) (all_blocks l.queues)

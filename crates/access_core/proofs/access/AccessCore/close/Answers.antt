@@ -6,10 +6,10 @@ use Rattle.access_core.specs.Cores.{Core}
 use Rattle.access_core.specs.Keeping.{ClosesAsDue}
 use Rattle.access_core.proofs.Calls.{met-entry}
 use Rattle.access_core.proofs.CachedMore.{IsCached-more, memory-still, owed-inside}
-use Rattle.access_core.proofs.CloseLemmas.{close-open, errors-closed, flying-below, grants-closed, memory-closed, queues-closed, room-closed, told-closed, values-closed}
+use Rattle.access_core.proofs.CloseLemmas.{close-open, closed-laid, errors-closed, flying-below, grants-closed, memory-closed, queues-closed, told-closed, values-closed}
 use Rattle.access_core.proofs.Places.{places-closed}
 use Rattle.access_core.proofs.Seen.{seen}
-use Rattle.access_core.proofs.Terms.{Call, Close, Inside, IsCached, Owed, QueueId, Refusal, due, enters, error_places, flight_of, history_of, releases_of, start_of, table_places}
+use Rattle.access_core.proofs.Terms.{Call, Close, Inside, IsCached, Owed, QueueId, Refusal, due, enters, error_places, flight_of, history_of, releases_of, start_of, table_places, without_blocks}
 use Rattle.access_core.proofs.TakeLemmas.{IsOpen}
 use Rattle.core_model.specs.declared.outcome.Outcome.TheVariants as outcome
 use Rattle.core_model.specs.declared.refusal.Refusal.TheVariants as refusal
@@ -49,11 +49,12 @@ invariant_of-self c =
     (record {
       same = ((refl, refl, refl), refl);
       audit = rw told at c.enter.ensures;
-      grants = rw c.close_open-effects.ensures.blocks (grants-closed a c.self.invariant queue);
+      blocks = without_blocks queue c.self.invariant.blocks;
+      grants = grants-closed a c.self.invariant queue;
       memory = memory-still a.memory _ (λ x byte. memory-closed a c.self.invariant queue x byte (flight_of (start_of a) a.audit.items queue));
       values = sym (values-closed a c.self.invariant queue a.signals (flight_of (start_of a) a.audit.items queue));
       queues = rw (c.close_open-effects.ensures.queues, c.close_open-effects.ensures.in_flight_count) (queues-closed a c.self.invariant queue at);
-      block_room = rw (c.close_open-effects.ensures.queues, c.close_open-effects.ensures.in_flight_count) (room-closed a c.self.invariant queue at _ c.close_open-effects.ensures.places);
+      laid = rw c.close_open-effects.ensures.queues (closed-laid a c.self.invariant queue);
     })
     (history_of a) refl (due-here a _ (seen c.self.view_is) queue c.in_ok-may_close.ensures.may)
 
@@ -72,7 +73,7 @@ returns-clause-places c =
     let queue = c.args.queue in
     let at = opened-at a c.self.invariant _ (seen c.self.view_is) queue c.in_ok-may_close.ensures.may in
     let gone = errors-closed a c.self.invariant queue at in
-    subst (λ owing. ClosesAsDue owing (openings (beginning c.args.self.now.history) c.args.self.now.history.entries).queues queue c.args.self.now.places (table_places a.kernels a.segments c.close_open-effects.new.queues a.grants c.close_open-effects.new.blocks c.enter.new.audit))
+    subst (λ owing. ClosesAsDue owing (openings (beginning c.args.self.now.history) c.args.self.now.history.entries).queues queue c.args.self.now.places (table_places a.kernels a.segments c.close_open-effects.new.queues a.grants a.spare c.enter.new.audit))
     (sym c.in_ok-may_close.ensures.may)
     (record {
       before = gone.0;
@@ -80,8 +81,8 @@ returns-clause-places c =
       behind = gone.2;
       place = subst (λ (h : History). option_map (λ (q : OpenQueue). q.queue) (slice_get (openings (beginning h) h.entries).queues (length gone.0)) ≡ Some queue) (seen c.self.view_is) gone.5;
       errors = ap (λ (core : Core). core.places.error_places) (sym c.self.view_is) ∙ gone.3;
-      others = places-closed a _ c.self.view_is c.close_open-effects.new.queues c.close_open-effects.new.blocks c.enter.new.audit _ _ c.close_open-effects.ensures.capacity
-          (ap (map error_places) c.close_open-effects.ensures.queues ∙ gone.4) c.close_open-effects.ensures.places c.enter.ensures;
+      others = places-closed a _ c.self.view_is c.close_open-effects.new.queues c.enter.new.audit _ _ c.close_open-effects.ensures.capacity
+          (ap (map error_places) c.close_open-effects.ensures.queues ∙ gone.4) c.enter.ensures;
     })
 
 -- a refusal that isn't for want of room is none that is

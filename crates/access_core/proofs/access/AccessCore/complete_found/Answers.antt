@@ -6,14 +6,13 @@ use Rattle.access_core.proofs.Places.{places-kept}
 use Rattle.access_core.proofs.ChangedQueue.{errors-changed}
 use Rattle.access_core.proofs.Seen.{seen}
 use Rattle.access_core.proofs.HeldAfter.{grants-released}
-use Rattle.access_core.proofs.BlockRoom.{room-left}
+use Rattle.access_core.proofs.Laid.{blocks_without, left-laid}
 use Rattle.access_core.proofs.CachedMore.{IsCached-more, memory-still}
 use Rattle.access_core.proofs.QueueAt.{flight-released}
 use Rattle.access_core.proofs.TakeLemmas.{found-of, open-of}
 use Rattle.access_core.proofs.WorkLemmas.{finish-releases, freed-below, memory-completed, finish-due, queues-released, sound-released}
 use Rattle.core_model.specs.declared.entry.Effect.TheVariants as effect
 use Rattle.core_model.specs.declared.outcome.Outcome.TheVariants as outcome
-use Rattle.access_core.proofs.NamedOnce.{named-once}
 use Rattle.access_core.proofs.access.AccessCore.complete_found.Goals as goal
 
 pub leave_flight-requires-clause-there : goal.leave_flight-requires-clause-there
@@ -25,8 +24,8 @@ leave_flight-requires-clause-there c =
 pub leave_flight-requires-clause-found : goal.leave_flight-requires-clause-found
 leave_flight-requires-clause-found c = found-of c.self.inside c.self.invariant _ (seen c.self.view_is) c.args.queue c.args.found c.requires.at
 
-pub leave_flight-requires-clause-once : goal.leave_flight-requires-clause-once
-leave_flight-requires-clause-once c = named-once c.self.inside c.self.invariant
+pub leave_flight-requires-clause-sound : goal.leave_flight-requires-clause-sound
+leave_flight-requires-clause-sound c = c.self.invariant.sound
 
 pub leave_flight-requires-clause-counted : goal.leave_flight-requires-clause-counted
 leave_flight-requires-clause-counted c =
@@ -46,15 +45,16 @@ invariant_of-self c =
     (record {
       same = ((refl, refl, refl), refl);
       audit = rw completed at c.enter.ensures;
-      grants = grants-released a c.self.invariant _ _ _ refl (λ client on right b. refl) (λ rows. refl) _ c.args.queue c.args.found.packet is.drops
-          (flight-released (start_of a) a.audit.items _ _ _ c.args.queue c.args.found.packet is) c.leave_flight.ensures.dropped;
+      blocks = blocks_without c.args.queue c.args.found.packet c.self.invariant.blocks;
+      grants = grants-released a c.self.invariant _ _ _ refl (λ client on right b. refl) (λ rows. refl) c.args.queue c.args.found.packet is.drops
+          (flight-released (start_of a) a.audit.items _ _ _ c.args.queue c.args.found.packet is);
       memory = memory-still a.memory _ (λ x byte. memory-completed a.signals (completion_signal p) c.args.queue c.args.found.packet x byte);
       values = rw completed at c.complete-effects.ensures.values;
       queues = rw (c.leave_flight.ensures.queues, c.leave_flight.ensures.in_flight_count)
           (queues-released a c.self.invariant c.args.queue c.args.found.packet _ _ _ is (λ all. refl) at (with_leaving (Some c.args.found.packet) leaving.Completed) (λ v. record v { places = without_packet c.args.found.packet v.places })
           (λ q. refl) (sound-released at.q c.args.found.packet at.sound) refl (λ m v. grind arith));
-      block_room = rw (c.leave_flight.ensures.queues, c.leave_flight.ensures.in_flight_count)
-          (room-left a c.self.invariant c.args.queue at (Some c.args.found.packet) leaving.Completed _ c.leave_flight.ensures.places (freed-below a c.self.invariant c.args.queue c.args.found.packet at));
+      laid = rw c.leave_flight.ensures.queues
+          (left-laid a c.self.invariant c.args.queue at c.args.found.packet leaving.Completed);
     })
     _ (seen c.self.view_is) (finish-due a c.self.invariant _ (seen c.self.view_is) _ c.args.queue c.args.found.packet p c.requires.finished.due_is)
 
@@ -62,6 +62,6 @@ pub returns-clause-places : goal.returns-clause-places
 returns-clause-places c =
     let a = c.self.inside in
     let at = open-of a c.self.invariant _ (seen c.self.view_is) c.args.queue c.args.found.packet c.requires.finished.place c.requires.finished.found in
-    places-kept a _ c.self.view_is c.leave_flight.new.queues a.grants c.leave_flight.new.blocks c.enter.new.audit _ c.leave_flight.ensures.capacity
+    places-kept a _ c.self.view_is c.leave_flight.new.queues a.grants c.leave_flight.new.spare c.enter.new.audit _ c.leave_flight.ensures.capacity
     (ap (map error_places) c.leave_flight.ensures.queues ∙ errors-changed a.queues.items c.args.queue (with_leaving (Some c.args.found.packet) leaving.Completed) at.q at.found at.ascending refl)
-    refl c.leave_flight.ensures.places c.enter.ensures
+    refl c.leave_flight.ensures.spare c.enter.ensures

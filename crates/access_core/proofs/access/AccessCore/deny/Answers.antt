@@ -5,7 +5,7 @@ use Rattle.access_core.proofs.ChangedQueue.{errors-changed}
 use Rattle.access_core.proofs.Places.{places-kept}
 use Rattle.access_core.proofs.Seen.{seen}
 use Rattle.access_core.proofs.HeldAfter.{grants-still}
-use Rattle.access_core.proofs.BlockRoom.{room-kept}
+use Rattle.access_core.proofs.Laid.{kept-laid}
 use Rattle.access_core.proofs.CachedMore.{IsCached-more, memory-still}
 use Rattle.access_core.proofs.TakeLemmas.{can-deny, can-take, flight-denied, queues-denied}
 use Rattle.core_model.specs.declared.outcome.Outcome.TheVariants as outcome
@@ -22,11 +22,12 @@ invariant_of-self c =
     (record {
       same = ((refl, refl, refl), refl);
       audit = rw c.none.ensures at c.enter.ensures;
+      blocks = c.self.invariant.blocks;
       grants = grants-still a c.self.invariant _ _ _ refl (λ queue id. refl) (λ client on right b. refl) (λ rows. refl) (flight-denied a c.self.invariant c.args.queue c.args.packet c.args.bytes.now can c.args.rule);
       memory = memory-still a.memory _ (λ x byte. refl);
       values = refl;
       queues = rw c.fail_next.ensures.queues (queues-denied a c.self.invariant c.args.queue c.args.packet c.args.bytes.now can c.args.rule);
-      block_room = rw c.fail_next.ensures.queues (room-kept a c.self.invariant c.args.queue can.opened (with_denied (error_without_place c.args.queue c.args.packet.0 c.args.rule)) refl);
+      laid = rw c.fail_next.ensures.queues (kept-laid a c.self.invariant c.args.queue can.opened (with_denied (error_without_place c.args.queue c.args.packet.0 c.args.rule)) (λ x. refl) refl);
     })
     _ (seen c.self.view_is) c.requires.0
 
@@ -40,6 +41,6 @@ returns-clause-places c =
     let error = error_without_place c.args.queue c.args.packet.0 c.args.rule in
     let can = can-deny a c.self.invariant c.args.queue c.args.packet c.args.bytes.now
     (can-take a c.self.invariant c.args.queue (subst (λ h. TakesNext h c.args.queue) (sym (seen c.self.view_is)) c.requires.1)) in
-    places-kept a _ c.self.view_is c.fail_next.new.queues c.self.inside.grants c.self.inside.blocks c.enter.new.audit _ c.fail_next.ensures.capacity
+    places-kept a _ c.self.view_is c.fail_next.new.queues c.self.inside.grants c.self.inside.spare c.enter.new.audit _ c.fail_next.ensures.capacity
     (ap (map error_places) c.fail_next.ensures.queues ∙ errors-changed a.queues.items c.args.queue (with_denied error) can.0 can.1 can.4 (denied-places can.0 error can.2))
     refl refl c.enter.ensures

@@ -7,7 +7,7 @@ use Rattle.access_core.proofs.ChangedQueue.{errors-changed}
 use Rattle.access_core.proofs.Seen.{seen}
 use Rattle.access_core.proofs.Calls.{met-entry}
 use Rattle.access_core.proofs.HeldAfter.{grants-released}
-use Rattle.access_core.proofs.BlockRoom.{room-left}
+use Rattle.access_core.proofs.Laid.{blocks_without, left-laid}
 use Rattle.access_core.proofs.CachedMore.{IsCached-more, memory-still}
 use Rattle.access_core.proofs.KernelLemmas.{fault-due}
 use Rattle.access_core.proofs.QueueAt.{flight-released}
@@ -15,7 +15,6 @@ use Rattle.access_core.proofs.TakeLemmas.{found-of, is-open, open-of}
 use Rattle.access_core.proofs.WorkLemmas.{fault-releases, can-fail, freed-below, place-inside, queues-released, sound-failed}
 use Rattle.core_model.specs.declared.entry.Effect.TheVariants as effect
 use Rattle.core_model.specs.declared.outcome.Outcome.TheVariants as outcome
-use Rattle.access_core.proofs.NamedOnce.{named-once}
 use Rattle.access_core.proofs.access.AccessCore.fault.Goals as goal
 
 abbrev failed : QueueError → PacketId → QueueView → QueueView
@@ -27,8 +26,8 @@ leave_flight-requires-clause-there = grind (arith, can-fail, is-open)
 pub leave_flight-requires-clause-found : goal.leave_flight-requires-clause-found
 leave_flight-requires-clause-found c = found-of c.self.inside c.self.invariant _ (seen c.self.view_is) c.args.queue c.args.found c.requires.at
 
-pub leave_flight-requires-clause-once : goal.leave_flight-requires-clause-once
-leave_flight-requires-clause-once c = named-once c.self.inside c.self.invariant
+pub leave_flight-requires-clause-sound : goal.leave_flight-requires-clause-sound
+leave_flight-requires-clause-sound c = c.self.invariant.sound
 
 pub leave_flight-requires-clause-counted : goal.leave_flight-requires-clause-counted
 leave_flight-requires-clause-counted c =
@@ -47,15 +46,16 @@ invariant_of-self c =
     (record {
       same = ((refl, refl, refl), refl);
       audit = rw c.one-effects.ensures at c.enter.ensures;
-      grants = grants-released a c.self.invariant _ _ _ refl (λ client on right b. refl) (λ rows. refl) _ c.args.queue c.args.found.packet is.drops
-          (flight-released (start_of a) a.audit.items _ _ _ c.args.queue c.args.found.packet is) c.leave_flight.ensures.dropped;
+      blocks = blocks_without c.args.queue c.args.found.packet c.self.invariant.blocks;
+      grants = grants-released a c.self.invariant _ _ _ refl (λ client on right b. refl) (λ rows. refl) c.args.queue c.args.found.packet is.drops
+          (flight-released (start_of a) a.audit.items _ _ _ c.args.queue c.args.found.packet is);
       memory = memory-still a.memory _ (λ x byte. refl);
       values = refl;
       queues = rw (c.leave_flight.ensures.queues, c.leave_flight.ensures.in_flight_count)
           (queues-released a c.self.invariant c.args.queue c.args.found.packet _ _ _ is (λ all. refl) at (with_leaving (Some c.args.found.packet) (leaving.Failed error)) (failed error c.args.found.packet)
           (λ q. refl) (sound-failed a c.self.invariant c.args.queue c.args.found.packet at error found.flying found.found) refl (λ m v. grind arith));
-      block_room = rw (c.leave_flight.ensures.queues, c.leave_flight.ensures.in_flight_count)
-          (room-left a c.self.invariant c.args.queue at (Some c.args.found.packet) (leaving.Failed error) _ c.leave_flight.ensures.places (freed-below a c.self.invariant c.args.queue c.args.found.packet at));
+      laid = rw c.leave_flight.ensures.queues
+          (left-laid a c.self.invariant c.args.queue at c.args.found.packet (leaving.Failed error));
     })
     _ (seen c.self.view_is) (fault-due a c.self.invariant _ (seen c.self.view_is) c.args.queue c.args.found.packet c.args.place c.requires.found error c.requires.owed)
 
@@ -72,7 +72,7 @@ returns-clause-places c =
     let error = group_error c.args.queue c.args.found.packet c.args.group c.args.fault in
     let found = place-inside a _ (seen c.self.view_is) c.args.queue c.args.found.packet c.args.place c.requires.found in
     let can = can-fail a c.self.invariant c.args.queue c.args.found.packet (is-open a c.self.invariant c.args.queue found.opening found.owner_is) found.flying found.found in
-    places-kept a _ c.self.view_is c.leave_flight.new.queues a.grants c.leave_flight.new.blocks c.enter.new.audit _ c.leave_flight.ensures.capacity
+    places-kept a _ c.self.view_is c.leave_flight.new.queues a.grants c.leave_flight.new.spare c.enter.new.audit _ c.leave_flight.ensures.capacity
     (ap (map error_places) c.leave_flight.ensures.queues ∙ errors-changed a.queues.items c.args.queue (with_leaving (Some c.args.found.packet) (leaving.Failed error)) can.0 can.1 can.4
     (failed-places can.0 c.args.found.packet error can.2))
-    refl c.leave_flight.ensures.places c.enter.ensures
+    refl c.leave_flight.ensures.spare c.enter.ensures

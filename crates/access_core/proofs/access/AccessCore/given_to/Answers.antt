@@ -1,29 +1,28 @@
 -- What its block tells is what the history says.
-use Rattle.std.proofs.Common.{◌≡◌, ◌∙◌, [], ap, find, sym, Some, Option, None}
-use Rattle.access_core.proofs.Terms.{ArgumentBlock, bytes_or, is_block, is_listed, rights_for}
+use Rattle.std.proofs.Common.{List, sym, subst}
+use Rattle.access_core.proofs.GivenLemmas.{given-bytes, given-rights, given-there}
 use Rattle.access_core.proofs.Seen.{seen}
-use Rattle.access_core.proofs.HeldOn.{own-bytes, own-listed}
+use Rattle.access_core.proofs.TakeLemmas.{open-of}
+use Rattle.access_core.proofs.Terms.{IsThere, Queue}
 use Rattle.access_core.proofs.access.AccessCore.given_to.Goals as goal
 
-pub returns-in-None-clause-rights : goal.returns-in-None-clause-rights
-returns-in-None-clause-rights c =
-    let none : find (is_block c.args.queue c.args.packet) c.self.inside.blocks.items ≡ None = cc c.in-None.ensures in
-    ap (λ (o : Option ArgumentBlock). is_listed (rights_for c.args.client o)) (sym none)
-    ∙ own-listed c.self.inside c.self.invariant c.args.queue c.args.packet _ (seen c.self.view_is) c.args.client c.requires
+pub open_index-requires : goal.open_index-requires
+open_index-requires c =
+    let at = open-of c.self.inside c.self.invariant _ (seen c.self.view_is) c.args.queue c.args.found.packet c.args.place c.requires.found in
+    subst (λ (qs : List Queue). IsThere qs c.args.queue) (sym c.as_slice.ensures.value) (at.q, at.found, at.ascending)
 
-pub returns-in-None-clause-arguments : goal.returns-in-None-clause-arguments
-returns-in-None-clause-arguments c =
-    let none : find (is_block c.args.queue c.args.packet) c.self.inside.blocks.items ≡ None = cc c.in-None.ensures in
-    ap (bytes_or []) (sym none) ∙ own-bytes c.self.inside c.self.invariant c.args.queue c.args.packet _ (seen c.self.view_is)
+pub at-requires : goal.at-requires
+at-requires c =
+    let there = given-there c.self.inside c.self.invariant _ (seen c.self.view_is) c.args.queue c.args.found c.args.place c.requires.found c.requires.at c.open_index.result c.index-kept.result.now
+    (rw c.as_slice.ensures.value at c.open_index.ensures) c.index-kept.ensures in
+    there.within
 
-pub returns-in-Some-clause-rights : goal.returns-in-Some-clause-rights
-returns-in-Some-clause-rights c =
-    let found : find (is_block c.args.queue c.args.packet) c.self.inside.blocks.items ≡ Some c.in-Some.block.now = cc c.in-Some.ensures in
-    ap is_listed c.rights_for.ensures
-    ∙ ap (λ (o : Option ArgumentBlock). is_listed (rights_for c.args.client o)) (sym found)
-    ∙ own-listed c.self.inside c.self.invariant c.args.queue c.args.packet _ (seen c.self.view_is) c.args.client c.requires
+pub returns-clause-rights : goal.returns-clause-rights
+returns-clause-rights c =
+    given-rights c.self.inside c.self.invariant _ (seen c.self.view_is) c.args.queue c.args.found c.args.place c.requires.found c.requires.at c.open_index.result c.index-kept.result.now
+    (rw c.as_slice.ensures.value at c.open_index.ensures) c.index-kept.ensures c.at.result.now c.at.ensures
 
-pub returns-in-Some-clause-arguments : goal.returns-in-Some-clause-arguments
-returns-in-Some-clause-arguments c =
-    let found : find (is_block c.args.queue c.args.packet) c.self.inside.blocks.items ≡ Some c.in-Some.block.now = cc c.in-Some.ensures in
-    c.as_slice.ensures ∙ ap (bytes_or []) (sym found) ∙ own-bytes c.self.inside c.self.invariant c.args.queue c.args.packet _ (seen c.self.view_is)
+pub returns-clause-arguments : goal.returns-clause-arguments
+returns-clause-arguments c =
+    given-bytes c.self.inside c.self.invariant _ (seen c.self.view_is) c.args.queue c.args.found c.args.place c.requires.found c.requires.at c.open_index.result c.index-kept.result.now
+    (rw c.as_slice.ensures.value at c.open_index.ensures) c.index-kept.ensures c.at.result.now c.at.ensures

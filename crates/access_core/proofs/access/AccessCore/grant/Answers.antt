@@ -5,6 +5,7 @@ use Rattle.access_core.proofs.CachedMore.{IsCached-more, memory-still, queues-st
 use Rattle.access_core.proofs.QueueAt.{IsQuiet, flight-quiet}
 use Rattle.access_core.proofs.Calls.{due-by, met-refusal}
 use Rattle.access_core.proofs.Granting.{grant-due, grant-refused}
+use Rattle.access_core.proofs.Laid.{quiet-laid}
 use Rattle.access_core.proofs.HeldAfter.{blocks-still, held-still}
 use Rattle.access_core.proofs.Terms.{Call, ClientId, Grant, Object, Rights, start_of}
 use Rattle.core_model.specs.declared.outcome.Outcome.TheVariants as outcome
@@ -31,6 +32,7 @@ invariant_of-self c =
     (record {
       same = ((refl, refl, refl), refl);
       audit = rw c.none.ensures at c.enter.ensures;
+      blocks = c.self.invariant.blocks;
       grants = record {
         granted = gives.given;
         rules = gives.same_rules;
@@ -42,7 +44,7 @@ invariant_of-self c =
       memory = memory-still a.memory [] (λ x byte. refl);
       values = refl;
       queues = queues-still a c.self.invariant _ _ _ calm (λ all. refl);
-      block_room = c.self.invariant.block_room;
+      laid = quiet-laid a c.self.invariant;
     })
     _ (seen c.self.view_is) (grant-due a c.self.invariant c.args.client c.args.object c.args.rights _ (seen c.self.view_is) (sym c.in_default.is ∙ c.may_grant.ensures) false
     (sym c.is_full.ensures ∙ c.if-is_full.false))

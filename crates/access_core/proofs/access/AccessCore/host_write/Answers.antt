@@ -2,6 +2,7 @@
 use Rattle.std.proofs.Common.{refl, List, [], ◌∷◌, ℕ}
 use Rattle.access_core.proofs.Terms.{Address, Call, ClientId, HostWrite, Write, start_of}
 use Rattle.access_core.proofs.Seen.{seen}
+use Rattle.access_core.proofs.Laid.{quiet-laid}
 use Rattle.access_core.proofs.HeldAfter.{grants-still}
 use Rattle.access_core.proofs.CachedMore.{IsCached-more, queues-still}
 use Rattle.access_core.proofs.QueueAt.{IsQuiet, flight-quiet}
@@ -20,6 +21,7 @@ invariant_of-self c =
     (record {
       same = ((refl, refl, refl), refl);
       audit = rw (c.one-effects.ensures, c.in_ok-written.ensures.copy, c.as_slice.ensures) at c.enter.ensures;
+      blocks = c.self.invariant.blocks;
       grants = grants-still a c.self.invariant _ _ _ refl calm.stays (λ client on right b. refl) (λ rows. refl) (flight-quiet (start_of a) a.audit.items _ _ _ calm);
       memory = record {
         lengths = c.lay.ensures.lengths;
@@ -27,6 +29,6 @@ invariant_of-self c =
       };
       values = refl;
       queues = queues-still a c.self.invariant _ _ _ calm (λ all. refl);
-      block_room = c.self.invariant.block_room;
+      laid = quiet-laid a c.self.invariant;
     })
     _ (seen c.self.view_is) c.in_ok-may_write.ensures.may

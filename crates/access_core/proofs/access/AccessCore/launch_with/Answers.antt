@@ -1,7 +1,7 @@
 -- The packet is in flight, and the entry tells it.
 use Rattle.core_model.specs.History.{beginning}
-use Rattle.std.proofs.Common.{◌≡◌, ◌∙◌, ap, inr, refl, rules, sym, subst, true, Some, [], map, option_map}
-use Rattle.access_core.proofs.Terms.{History, IsNext-from_owed, Launched, Packet, Take, TakesNext, arguments_of, as_rights, due, launched_by, lies_in_regions, owner}
+use Rattle.std.proofs.Common.{◌≡◌, ◌∙◌, ◌+◌, ◌++◌, ◌∷◌, length, ap, inr, refl, rules, sym, subst, true, Some, [], map, option_map}
+use Rattle.access_core.proofs.Terms.{ArgumentBlock, History, IsNext-from_owed, Launched, Packet, Take, TakesNext, arguments_of, as_rights, due, launched_by, lies_in_regions, owner}
 use Rattle.access_core.proofs.Terms.{error_places, region_lengths, rights_at_launch, start_of}
 use Rattle.access_core.specs.inner.QueueChanges.{with_launched}
 use Rattle.access_core.proofs.AskingLemmas.{launch-asks}
@@ -9,11 +9,11 @@ use Rattle.access_core.proofs.Places.{places-kept}
 use Rattle.access_core.proofs.ChangedQueue.{errors-changed}
 use Rattle.access_core.proofs.Seen.{seen}
 use Rattle.access_core.specs.inner.Deciding.{IsBlockPlaced, opening_of}
-use Rattle.access_core.proofs.HeldAfter.{grants-launched}
-use Rattle.access_core.proofs.BlockRoom.{launch-room, room-launched}
+use Rattle.access_core.proofs.HeldAfter.{block_laid, grants-launched}
+use Rattle.access_core.proofs.Laid.{laid-launched}
 use Rattle.access_core.proofs.CachedMore.{IsCached-more, memory-still, owed-inside}
 use Rattle.access_core.proofs.QueueAt.{flight-launched}
-use Rattle.access_core.proofs.TakeLemmas.{below-next, block-placed, can-take, queues-launched}
+use Rattle.access_core.proofs.TakeLemmas.{below-next, block-placed, can-take, client-of, queues-launched}
 use Rattle.core_model.specs.declared.outcome.Outcome.TheVariants as outcome
 use Rattle.access_core.proofs.access.AccessCore.launch_with.Goals as goal
 
@@ -34,41 +34,43 @@ place_next-requires-clause-above c =
 pub argument_block-requires : goal.argument_block-requires
 argument_block-requires c =
     subst (λ p. IsBlockPlaced c.args.self.now.history p) (sym c.packet.ensures)
-    (block-placed c.args.self.now.history c.args.queue c.args.packet c.args.bytes.now c.args.launching.asked.packet c.requires.decided.0 c.requires.decided.1)
+    (block-placed c.args.self.now.history c.args.queue c.args.packet c.args.bytes.now c.args.launching.now.asked.packet c.requires.decided.0 c.requires.decided.1)
 
-pub push-requires : goal.push-requires
-push-requires c =
-    let a = c.self.inside in
-    launch-room a c.self.invariant c.args.queue (can-take a c.self.invariant c.args.queue (subst (λ h. TakesNext h c.args.queue) (sym (seen c.self.view_is)) c.requires.decided.3))
-    c.args.launching.asked.packet c.args.packet
+pub place_next-requires-clause-sound : goal.place_next-requires-clause-sound
+place_next-requires-clause-sound c = c.self.invariant.sound
 
 pub invariant_of-self : goal.invariant_of-self
 invariant_of-self c =
     let a = c.self.inside in
-    let p = c.args.launching.asked.packet in
+    let p = c.args.launching.now.asked.packet in
     let can = can-take a c.self.invariant c.args.queue (subst (λ h. TakesNext h c.args.queue) (sym (seen c.self.view_is)) c.requires.decided.3) in
     let owing = owed-inside a c.self.invariant _ (seen c.self.view_is) _ _ _ c.requires.decided.0 in
     let next = IsNext-from_owed (start_of a) a.audit.items c.args.queue c.args.packet c.args.bytes.now _ _ owing in
-    let owned : owner (start_of a) a.audit.items c.args.queue ≡ Some (opening_of c.args.launching) =
-    subst (λ h. owner (beginning h) h.entries c.args.queue ≡ Some (opening_of c.args.launching)) (sym (seen c.self.view_is)) c.requires.decided.4 in
+    let owned : owner (start_of a) a.audit.items c.args.queue ≡ Some (opening_of c.args.launching.now) =
+    subst (λ h. owner (beginning h) h.entries c.args.queue ≡ Some (opening_of c.args.launching.now)) (sym (seen c.self.view_is)) c.requires.decided.4 in
     let launches : launched_by (Take c.args.queue c.args.packet c.args.bytes.now) (outcome.Taken Launched) ≡ Some (record { queue = c.args.queue; id = c.args.packet; packet = p }) =
     ap (option_map (λ (x : Packet). record { queue = c.args.queue; id = c.args.packet; packet = x })) c.requires.decided.1 in
     let within : lies_in_regions (region_lengths a.start.policy) p ≡ true = subst (λ h. lies_in_regions (region_lengths (beginning h).policy) p ≡ true) (sym (seen c.self.view_is)) c.requires.decided.2 in
+    let block : ArgumentBlock = block_laid c.args.queue c.args.packet c.args.launching.now.client (c.entries_before.result + c.len.result) c.list_rights.new.rights c.in_ok-block.block in
+    let number_is : c.entries_before.result + c.len.result ≡ a.start.before + length a.audit.items =
+    (λ i. (c.entries_before.ensures.before ∙ sym (ap (λ (h : History). (beginning h).before) (seen c.self.view_is))) i + c.len.ensures i) in
     IsCached-more a _ (Take c.args.queue c.args.packet c.args.bytes.now) (outcome.Taken Launched) [] c.self.invariant
     (record {
       same = ((refl, refl, refl), refl);
       audit = rw c.none.ensures at c.enter.ensures;
-      grants = grants-launched a c.self.invariant _ _ (λ client on right b. refl) (λ rows. refl) _ (opening_of c.args.launching) c.args.queue c.args.packet p _ _ launches
+      blocks = c.self.invariant.blocks ++ block ∷ [];
+      grants = grants-launched a c.self.invariant _ _ (λ client on right b. refl) (λ rows. refl) (opening_of c.args.launching.now) c.args.queue c.args.packet p _ _ _ launches
           (flight-launched (start_of a) a.audit.items c.args.queue c.args.packet c.args.bytes.now p c.requires.decided.1)
-          (c.in_ok-list_rights.ensures ∙ ap (λ (h : History). map as_rights (rights_at_launch (beginning h) h.entries (opening_of c.args.launching) p)) (sym (seen c.self.view_is)))
+          (c.in_ok-list_rights.ensures ∙ ap (λ (h : History). map as_rights (rights_at_launch (beginning h) h.entries (opening_of c.args.launching.now) p)) (sym (seen c.self.view_is)))
           owned
           (c.in_ok-block.ensures ∙ ap (λ q. arguments_of (beginning c.args.self.now.history) c.args.self.now.history.entries q) c.packet.ensures
-          ∙ ap (λ (h : History). arguments_of (beginning h) h.entries p) (sym (seen c.self.view_is)))
-          c.push.ensures.items;
+          ∙ ap (λ (h : History). arguments_of (beginning h) h.entries p) (sym (seen c.self.view_is)));
       memory = memory-still a.memory _ (λ x byte. refl);
       values = refl;
-      queues = rw (c.place_next.ensures.queues, c.packet-2.ensures) (queues-launched a c.self.invariant c.args.queue c.args.packet c.args.bytes.now can p c.requires.decided.1 next.id_is within);
-      block_room = rw (c.place_next.ensures.queues, c.packet-2.ensures) (room-launched a c.self.invariant c.args.queue can p c.args.packet _ c.push.ensures.places);
+      queues = rw (c.place_next.ensures.queues, c.packet-2.ensures)
+          (queues-launched a c.self.invariant c.args.queue c.args.packet c.args.bytes.now can p c.requires.decided.1 next.id_is block refl (refl, client-of a c.self.invariant c.args.queue can _ owned) within);
+      laid = rw (c.place_next.ensures.queues, c.packet-2.ensures)
+          (laid-launched a.queues.items (a.start.before + length a.audit.items) c.self.invariant.blocks c.self.invariant.laid c.args.queue can.opened.q can.opened.found can.opened.ascending p block refl number_is);
     })
     _ (seen c.self.view_is) c.requires.decided.0
 
@@ -76,7 +78,7 @@ pub returns-in_err-block-clause-met : goal.returns-in_err-block-clause-met
 returns-in_err-block-clause-met c =
     inr (record {
       may = rw c.requires.decided.0 refl;
-      asks = launch-asks c.args.self.now.history c.args.queue c.args.packet c.args.bytes.now (opening_of c.args.launching) c.args.launching.asked.packet
+      asks = launch-asks c.args.self.now.history c.args.queue c.args.packet c.args.bytes.now (opening_of c.args.launching.now) c.args.launching.now.asked.packet
           (due c.args.self.now.history (Take c.args.queue c.args.packet c.args.bytes.now)) c.requires.decided.4 c.requires.decided.1;
       reply_is = search rules;
       history_is = refl;
@@ -86,7 +88,7 @@ pub returns-in_err-list_rights-clause-met : goal.returns-in_err-list_rights-clau
 returns-in_err-list_rights-clause-met c =
     inr (record {
       may = rw c.requires.decided.0 refl;
-      asks = launch-asks c.args.self.now.history c.args.queue c.args.packet c.args.bytes.now (opening_of c.args.launching) c.args.launching.asked.packet
+      asks = launch-asks c.args.self.now.history c.args.queue c.args.packet c.args.bytes.now (opening_of c.args.launching.now) c.args.launching.now.asked.packet
           (due c.args.self.now.history (Take c.args.queue c.args.packet c.args.bytes.now)) c.requires.decided.4 c.requires.decided.1;
       reply_is = search rules;
       history_is = refl;
@@ -96,6 +98,6 @@ pub returns-clause-places : goal.returns-clause-places
 returns-clause-places c =
     let a = c.self.inside in
     let can = can-take a c.self.invariant c.args.queue (subst (λ h. TakesNext h c.args.queue) (sym (seen c.self.view_is)) c.requires.decided.3) in
-    places-kept a _ c.self.view_is c.place_next.new.queues a.grants c.push.new.self c.enter.new.audit _ c.place_next.ensures.capacity
-    (ap (map error_places) c.place_next.ensures.queues ∙ errors-changed a.queues.items c.args.queue (with_launched c.args.packet _) can.opened.q can.opened.found can.opened.ascending refl)
-    refl c.push.ensures.places c.enter.ensures
+    places-kept a _ c.self.view_is c.place_next.new.queues a.grants a.spare c.enter.new.audit _ c.place_next.ensures.capacity
+    (ap (map error_places) c.place_next.ensures.queues ∙ errors-changed a.queues.items c.args.queue (with_launched _ _) can.opened.q can.opened.found can.opened.ascending refl)
+    refl refl c.enter.ensures

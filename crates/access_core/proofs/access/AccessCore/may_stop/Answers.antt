@@ -25,11 +25,17 @@ returns-then-kept-clause-why c =
     (stop-known c.self.inside c.self.invariant c.args.queue _ some ∙ (rw c.if-kept.true refl))
 
 pub returns-then-is_full-clause-why : goal.returns-then-is_full-clause-why
-returns-then-is_full-clause-why = grind (arith, stop-full)
+returns-then-is_full-clause-why c =
+    let some : queue_in c.self.inside.queues.items c.args.queue ≡ Some c.in-Some.kept.now = cc c.in-Some.ensures in
+    stop-full c.self.inside c.self.invariant c.args.queue c.in-Some.kept.now _ _ (seen c.self.view_is) some c.if-kept.false c.barrier-barrier.ensures.first
+    (named c.barrier-barrier.result ∙ (rw c.if-is_none.true at c.is_none.ensures)) (sym c.is_full.ensures ∙ c.if-is_full.true)
 
 pub returns-then-is_full-clause-room : goal.returns-then-is_full-clause-room
 returns-then-is_full-clause-room c = λ id some is.
-    let full : due c.args.self.now.history (Call (Stop c.args.queue)) ≡ refuses refusal.AuditFull = grind (arith, stop-full) in
+    let kept : queue_in c.self.inside.queues.items c.args.queue ≡ Some c.in-Some.kept.now = cc c.in-Some.ensures in
+    let full : due c.args.self.now.history (Call (Stop c.args.queue)) ≡ refuses refusal.AuditFull =
+    stop-full c.self.inside c.self.invariant c.args.queue c.in-Some.kept.now _ _ (seen c.self.view_is) kept c.if-kept.false c.barrier-barrier.ensures.first
+    (named c.barrier-barrier.result ∙ (rw c.if-is_none.true at c.is_none.ensures)) (sym c.is_full.ensures ∙ c.if-is_full.true) in
     never-due c.args.self.now.history (Call (Stop c.args.queue)) (stop-finds c.args.self.now.history (roomy-seen c.self.inside c.self.invariant _ (seen c.self.view_is)) c.args.queue id some) full
 
 pub returns-clause-may : goal.returns-clause-may

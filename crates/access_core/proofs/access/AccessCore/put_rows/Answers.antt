@@ -5,6 +5,7 @@ use Rattle.core_model.specs.declared.event.Event.TheVariants.{Reload}
 use Rattle.access_core.proofs.Seen.{seen}
 use Rattle.access_core.proofs.CachedMore.{IsCached-more, memory-still, queues-still}
 use Rattle.access_core.proofs.QueueAt.{IsQuiet, flight-quiet}
+use Rattle.access_core.proofs.Laid.{quiet-laid}
 use Rattle.access_core.proofs.HeldAfter.{blocks-still, held-still}
 use Rattle.access_core.proofs.Terms.{start_of}
 use Rattle.core_model.specs.declared.outcome.Outcome.TheVariants as outcome
@@ -25,6 +26,7 @@ invariant_of-self c =
     (record {
       same = ((refl, refl, refl), refl);
       audit = rw (c.none.ensures, c.requires.told) at c.enter.ensures;
+      blocks = c.self.invariant.blocks;
       grants = record {
         granted = reloads.kept;
         rules = reloads.rules;
@@ -36,6 +38,6 @@ invariant_of-self c =
       memory = memory-still a.memory [] (λ x byte. refl);
       values = refl;
       queues = queues-still a c.self.invariant _ _ _ calm (λ all. refl);
-      block_room = c.self.invariant.block_room;
+      laid = quiet-laid a c.self.invariant;
     })
     _ (seen c.self.view_is) c.requires.may

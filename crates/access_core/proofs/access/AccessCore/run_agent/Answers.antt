@@ -8,7 +8,7 @@ use Rattle.access_core.proofs.ChangedQueue.{errors-changed}
 use Rattle.access_core.proofs.Seen.{seen}
 use Rattle.access_core.proofs.Calls.{met-entry, met-refusal}
 use Rattle.access_core.proofs.HeldAfter.{grants-still}
-use Rattle.access_core.proofs.BlockRoom.{room-advanced}
+use Rattle.access_core.proofs.Laid.{kept-laid}
 use Rattle.access_core.proofs.CachedMore.{IsCached-more}
 use Rattle.access_core.proofs.QueueAt.{flight-advanced}
 use Rattle.access_core.proofs.RunLemmas.{agent-done, agent-due, agent-writes, one_group, pieces-inside, run-advances}
@@ -48,6 +48,7 @@ invariant_of-self c =
     (record {
       same = ((refl, refl, refl), refl);
       audit = rw (c.lay_both-effects.ensures.effects ∙ pieces) at c.enter.ensures;
+      blocks = c.self.invariant.blocks;
       grants = grants-still a c.self.invariant _ _ _ refl is.stays (λ client on right b. refl) (λ rows. refl) (flight-advanced (start_of a) a.audit.items _ _ _ c.args.queue c.args.found.packet _ is);
       memory = record {
         lengths = c.lay_both-effects.ensures.lengths;
@@ -56,7 +57,7 @@ invariant_of-self c =
       values = sym ((agent-writes (start_of a) a.audit.items c.args.dispatch).signals a.signals);
       queues = rw c.advance.ensures.queues (queues-advanced a c.self.invariant c.args.queue at c.args.found.packet one_group _ _ _ is (λ all. refl) _
           (c.one_more.ensures ∙ ap one_group (sym found.progress_is)));
-      block_room = rw c.advance.ensures.queues (room-advanced a c.self.invariant c.args.queue at c.args.found.packet _);
+      laid = rw c.advance.ensures.queues (kept-laid a c.self.invariant c.args.queue at (with_advance c.args.found.packet _) (λ x. refl) refl);
     })
     _ (seen c.self.view_is) owing
 
@@ -114,6 +115,6 @@ pub returns-clause-places : goal.returns-clause-places
 returns-clause-places c =
     let a = c.self.inside in
     let at = open-of a c.self.invariant _ (seen c.self.view_is) c.args.queue c.args.found.packet c.args.place c.requires.found in
-    places-kept a _ c.self.view_is c.advance.new.queues c.self.inside.grants c.self.inside.blocks c.enter.new.audit _ c.advance.ensures.capacity
+    places-kept a _ c.self.view_is c.advance.new.queues c.self.inside.grants c.self.inside.spare c.enter.new.audit _ c.advance.ensures.capacity
     (ap (map error_places) c.advance.ensures.queues ∙ errors-changed a.queues.items c.args.queue (with_advance c.args.found.packet _) at.q at.found at.ascending refl)
     refl refl c.enter.ensures

@@ -3,6 +3,7 @@ use Rattle.std.proofs.Common.{refl, [], ◌∷◌, w64, to_z-of_z, SFits, rules,
 use Rattle.access_core.proofs.Terms.{Call, ChangeSignal, ClientId, SignalHandle, applied, old_if_asked, start_of}
 use Rattle.signals.specs.declared.operation.SignalOp.{SignalOp}
 use Rattle.access_core.proofs.Seen.{seen}
+use Rattle.access_core.proofs.Laid.{quiet-laid}
 use Rattle.access_core.proofs.HeldAfter.{grants-still}
 use Rattle.access_core.proofs.CachedMore.{IsCached-more, memory-still, queues-still}
 use Rattle.access_core.proofs.QueueAt.{IsQuiet, flight-quiet}
@@ -29,10 +30,11 @@ invariant_of-self c =
     (record {
       same = ((refl, refl, refl), refl);
       audit = record { items = rw (told, new) at entries; room = c.enter.ensures.room };
+      blocks = c.self.invariant.blocks;
       grants = grants-still c.self.inside c.self.invariant _ _ _ refl calm.stays (λ client on right b. refl) (λ rows. refl) (flight-quiet (start_of c.self.inside) c.self.inside.audit.items _ _ _ calm);
       memory = memory-still c.self.inside.memory _ (λ x byte. refl);
       values = values;
       queues = queues-still c.self.inside c.self.invariant _ _ _ calm (λ all. refl);
-      block_room = c.self.invariant.block_room;
+      laid = quiet-laid c.self.inside c.self.invariant;
     })
     _ (seen c.self.view_is) c.in_ok-old.ensures.may

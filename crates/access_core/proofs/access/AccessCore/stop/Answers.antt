@@ -5,12 +5,10 @@ use Rattle.access_core.specs.declared.access.leaving.Leaving.TheVariants as leav
 use Rattle.access_core.proofs.Places.{places-kept}
 use Rattle.access_core.proofs.ChangedQueue.{errors-changed}
 use Rattle.access_core.proofs.Seen.{seen}
-use Rattle.access_core.proofs.BlockRoom.{room-left}
 use Rattle.access_core.proofs.CachedMore.{IsCached-more, memory-still, owed-inside}
-use Rattle.access_core.proofs.StopLemmas.{freed-stopped, grants-stopped, memory-released, queues-stopped, stop-open, values-released}
+use Rattle.access_core.proofs.StopLemmas.{blocks-stopped, freed-stopped, grants-stopped, memory-released, queues-stopped, stop-open, stopped-laid, values-released}
 use Rattle.access_core.proofs.TakeLemmas.{all-found-of}
 use Rattle.core_model.specs.declared.outcome.Outcome.TheVariants as outcome
-use Rattle.access_core.proofs.NamedOnce.{named-once}
 use Rattle.access_core.proofs.access.AccessCore.stop.Goals as goal
 
 pub leave_flight-requires-clause-there : goal.leave_flight-requires-clause-there
@@ -19,8 +17,8 @@ leave_flight-requires-clause-there = grind (arith, stop-open)
 pub leave_flight-requires-clause-found : goal.leave_flight-requires-clause-found
 leave_flight-requires-clause-found c = all-found-of c.self.inside c.self.invariant _ (seen c.self.view_is) c.args.queue c.in_ok-barrier.barrier c.in_ok-barrier.ensures.found
 
-pub leave_flight-requires-clause-once : goal.leave_flight-requires-clause-once
-leave_flight-requires-clause-once c = named-once c.self.inside c.self.invariant
+pub leave_flight-requires-clause-sound : goal.leave_flight-requires-clause-sound
+leave_flight-requires-clause-sound c = c.self.invariant.sound
 
 pub leave_flight-requires-clause-counted : goal.leave_flight-requires-clause-counted
 leave_flight-requires-clause-counted c =
@@ -37,12 +35,12 @@ invariant_of-self c =
     (record {
       same = ((refl, refl, refl), refl);
       audit = rw c.release_of-effects.ensures at c.enter.ensures;
-      grants = grants-stopped a c.self.invariant c.args.queue barrier _ c.leave_flight.ensures.dropped c.leave_flight.ensures.same;
+      blocks = blocks-stopped a c.self.invariant c.args.queue barrier;
+      grants = grants-stopped a c.self.invariant c.args.queue barrier;
       memory = memory-still a.memory _ (λ x byte. memory-released c.args.queue barrier x byte);
       values = sym (values-released c.args.queue barrier a.signals);
       queues = rw (c.leave_flight.ensures.queues, c.leave_flight.ensures.in_flight_count) (queues-stopped a c.self.invariant c.args.queue at barrier);
-      block_room = rw (c.leave_flight.ensures.queues, c.leave_flight.ensures.in_flight_count)
-          (room-left a c.self.invariant c.args.queue at barrier leaving.Stopped _ c.leave_flight.ensures.places (freed-stopped a c.self.invariant c.args.queue at barrier));
+      laid = rw c.leave_flight.ensures.queues (stopped-laid a c.self.invariant c.args.queue barrier at);
     })
     _ (seen c.self.view_is) c.in_ok-barrier.ensures.may
 
@@ -51,6 +49,6 @@ returns-clause-places c =
     let a = c.self.inside in
     let barrier = packet_in c.in_ok-barrier.barrier in
     let at = stop-open a c.self.invariant c.args.queue _ _ (owed-inside a c.self.invariant _ (seen c.self.view_is) _ _ _ c.in_ok-barrier.ensures.may) in
-    places-kept a _ c.self.view_is c.leave_flight.new.queues a.grants c.leave_flight.new.blocks c.enter.new.audit _ c.leave_flight.ensures.capacity
+    places-kept a _ c.self.view_is c.leave_flight.new.queues a.grants c.leave_flight.new.spare c.enter.new.audit _ c.leave_flight.ensures.capacity
     (ap (map error_places) c.leave_flight.ensures.queues ∙ errors-changed a.queues.items c.args.queue (with_leaving barrier leaving.Stopped) at.q at.found at.ascending refl)
-    refl c.leave_flight.ensures.places c.enter.ensures
+    refl c.leave_flight.ensures.spare c.enter.ensures

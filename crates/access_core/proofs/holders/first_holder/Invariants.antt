@@ -1,7 +1,0 @@
--- The first so far.
-use Rattle.std.proofs.Common.{take}
-use Rattle.access_core.proofs.Terms.{IsFirstTo, has_block, lists_one}
-use Rattle.access_core.proofs.holders.first_holder.Given as goal
-
-abbrev pub invariant-loop-block : goal.invariant-loop-block
-invariant-loop-block l = IsFirstTo (has_block (lists_one l.client l.object l.rights) (take l.block-index l.blocks)) l.first
