@@ -36,7 +36,6 @@ pub mod HostMemory
 pub mod HeldRights
 pub mod HeldAfter
 pub mod Standing
-pub mod BlockRights
 pub mod Granting
 pub mod Listing
 pub mod ReloadLemmas

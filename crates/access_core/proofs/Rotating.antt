@@ -19,14 +19,22 @@ use Rattle.core_model.specs.Rotation.{lies_too_far}
 use Rattle.core_model.specs.States.{state_after}
 use Rattle.core_model.proofs.States.{rotate-legal, same-begin}
 use Rattle.grants.specs.Ledger as ledger
-use Rattle.access_core.specs.inner.Origins.{IsHolding, origin_behind, packet_origin, queue_origin}
+use Rattle.grants.specs.Ledger.{IsCopy, Ledger}
+use Rattle.access_core.specs.inner.Origins.{SameInForce, origin_behind, packet_origin, queue_origin}
 use Rattle.access_core.proofs.Rotated.{rotated}
 use Rattle.access_core.proofs.Terms.{AreBlocksOf, AreLaid, IsCached, Inside, Start, are_region_lengths, block_of, byte_at, cached_openings, cached_view, history_of, lies_in_region, lies_in_regions, ltb-false, is_given, queue_in, program_of, queue_at}
 use Rattle.access_core.proofs.Terms.{region_lengths, rules_in, rules_of, start_of}
 
+-- a copy has the same in force, by the same rules
+pub copy-same : (grants copy : Ledger) → IsCopy grants copy → SameInForce grants copy
+copy-same grants copy is = record {
+  same_rights = λ client on right. ap (λ (l : Ledger). ledger.in_force l client on right) is;
+  same_rules = ap (λ (l : Ledger). ledger.rules_in l) is;
+}
+
 module _ (a : Inside) (kept : IsCached a) where
   -- copies of the fields give the answers of the state behind the audit
-  pub copied-behind : (o : Origin) → o.policy ≡ a.start.policy → IsHolding a.grants kept.blocks o.grants → o.memory ≡ a.memory → o.signals ≡ a.signals → o.opened ≡ a.opened → o.queues ≡ map queue_origin a.queues.items
+  pub copied-behind : (o : Origin) → o.policy ≡ a.start.policy → SameInForce a.grants o.grants → o.memory ≡ a.memory → o.signals ≡ a.signals → o.opened ≡ a.opened → o.queues ≡ map queue_origin a.queues.items
       → o.packets ≡ filter_map (packet_origin a.queues.items) kept.blocks → o.before ≡ a.start.before + length a.audit.items
       → are_region_lengths (region_lengths a.start.policy) ≡ true → begin (map program_of a.kernels.items) o ≡ state_after (start_of a) a.audit.items
   copied-behind o policy grants memory signals opened queues packets before fit =

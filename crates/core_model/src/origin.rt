@@ -7,7 +7,7 @@ ghost use Rattle.core_model.specs.Legal.{SameOrigin};
 use crate::flight::{InFlight, Progress};
 use aql_packet::{AgentHandle, ClientId, QueueId};
 use grants::Grants;
-use policy::{Policy, PolicyRows};
+use policy::{Object, Policy, PolicyRows, Right, Rights};
 use queue_error::QueueError;
 use regions::Regions;
 use sequences::Sequence;
@@ -43,6 +43,10 @@ pub struct PacketOrigin {
     pub flying: InFlight,
     /// How far it has come.
     pub progress: Progress,
+    /// Whose queue it is in.
+    pub client: ClientId,
+    /// The rights that it holds, of that client.
+    pub rights: Sequence<(Object, Rights)>,
     /// Its argument block, as it was at its launch.
     pub arguments: Sequence<u8>,
 }
@@ -52,7 +56,7 @@ pub struct PacketOrigin {
 pub struct Origin {
     /// The policy that the core was opened with: what it declares stays.
     pub policy: Policy,
-    /// What is in force, by which rows on rights, and what packets in flight hold.
+    /// What is in force, and by which rows on rights. What packets in flight hold lies with them.
     pub grants: Grants,
     /// The bytes of each region.
     pub memory: Regions,
@@ -84,13 +88,29 @@ impl QueueOrigin {
 }
 
 impl PacketOrigin {
-    /// The same packet once more, with arguments of its own.
+    ghost use Rattle.core_model.specs.History.{packet_holds};
+    ghost use Rattle.std.specs.Prelude.{Some};
+
+    /// Whether it holds a client's right on an object.
+    pub fn holds(&self, client: ClientId, object: Object, right: Right) -> bool
+        ensures { result ≡ packet_holds client object right (Some self.now) }
+    {
+        let holder = self.client;
+        self.rights
+            .as_slice()
+            .iter()
+            .any(|named| client == holder && object == named.0 && named.1.has(right))
+    }
+
+    /// The same packet once more, with rights and arguments of its own.
     pub fn copy(&self, alloc: Global) -> Result<PacketOrigin, AllocError>
         ensures { IfOk result (λ copy. copy ≡ self.now) }
     {
         Ok(PacketOrigin {
             flying: self.flying,
             progress: self.progress,
+            client: self.client,
+            rights: self.rights.copy(alloc)?,
             arguments: self.arguments.copy(alloc)?,
         })
     }

@@ -1,6 +1,6 @@
 //! The audit is rotated: its entries so far are handed out, and the history goes on from the state behind them.
 
-ghost use Rattle.std.specs.Prelude.{◌≡◌, ◌++◌, true, false, fold, map, option_to_list, All, IfOk, List, None, OnOk};
+ghost use Rattle.std.specs.Prelude.{◌≡◌, ◌++◌, false, fold, map, option_to_list, IfOk, List, None, OnOk};
 ghost use Rattle.std.specs.List.{filter_map};
 ghost use Rattle.std.specs.Option.{option_copied};
 ghost use Rattle.core_model.specs.History.{begin, beginning};
@@ -9,11 +9,10 @@ ghost use Rattle.regions.specs.Memory.{lengths_of};
 ghost use Rattle.core_model.specs.Legal.{IsLegalPart, SameOrigin};
 ghost use Rattle.core_model.specs.Rotation.{Rotates, lies_too_far};
 ghost use Rattle.core_model.specs.States.{state_after};
-ghost use Rattle.grants.specs.Ledger.{are_in_force};
 ghost use Rattle.access_core.specs.declared.argument_blocks.ArgumentBlock.{ArgumentBlock};
 ghost use Rattle.access_core.specs.inner.ArgumentBlocks.{all_blocks};
 ghost use Rattle.access_core.specs.inner.Numbers.{AscendFrom, queue_in};
-ghost use Rattle.access_core.specs.inner.Origins.{AreInOrder, IsHolding, NumbersFit, packet_origin, queue_origin, sooner, sought_in, told_origin};
+ghost use Rattle.access_core.specs.inner.Origins.{AreInOrder, NumbersFit, packet_origin, queue_origin, sooner, sought_in, told_origin};
 
 use crate::access::AccessCore;
 use crate::access::lookups::queue_of;
@@ -24,7 +23,6 @@ use boxed::Boxed;
 use core_model::{
     InFlight, MOST_BEFORE, Opening, Origin, PacketOrigin, Part, QueueOrigin, Refusal,
 };
-use grants::Grants;
 use packet_processor::Place;
 use sequences::{Reserved, Sequence};
 use std::alloc::{AllocError, Global};
@@ -81,7 +79,7 @@ impl AccessCore {
         self.regions_fit();
         Ok(Origin {
             policy: self.policy().copy(alloc)?,
-            grants: grants_holding(alloc, &self.grants, self.queues.as_slice())?,
+            grants: self.grants.copy(alloc)?,
             memory: self.memory.copy(alloc)?,
             signals: self.signals.copy(alloc)?,
             queues: queue_origins(alloc, self.queues.as_slice())?,
@@ -99,34 +97,6 @@ fn boxed_copy(alloc: Global, origin: &Origin) -> Result<Boxed<Origin>, AllocErro
 {
     let copy = origin.copy(alloc)?;
     Ok(Boxed::new(alloc, copy)?)
-}
-
-// The same grants in memory of their own, by which packets hold besides what their argument blocks list.
-fn grants_holding(alloc: Global, grants: &Grants, queues: &[Queue]) -> Result<Grants, AllocError>
-    requires { All (λ block. are_in_force grants.now block.client block.rights ≡ true) (all_blocks queues.now) }
-    ensures { IfOk result (IsHolding grants.now (all_blocks queues.now)) }
-{
-    let mut holding = grants.copy(alloc)?;
-    for queue in queues {
-        hold_all(&mut holding, queue.blocks.as_slice())?;
-    }
-    Ok(holding)
-}
-
-// Has packets hold what these argument blocks list.
-fn hold_all(holding: &mut Grants, blocks: &[ArgumentBlock]) -> Result<(), AllocError>
-    requires { All (λ block. are_in_force holding.old block.client block.rights ≡ true) blocks.now }
-    ensures { OnOk result (IsHolding holding.old blocks.now holding.new) }
-{
-    for block in blocks {
-        holding.hold(
-            block.client,
-            block.queue,
-            block.packet,
-            block.rights.as_slice(),
-        )?;
-    }
-    Ok(())
 }
 
 // What is kept of a queue, as data.
@@ -183,6 +153,8 @@ fn packet_origin(
             packet: place.packet,
         },
         progress: place.progress,
+        client: block.client,
+        rights: block.rights.copy(alloc)?,
         arguments: block.bytes.copy(alloc)?,
     })
 }
