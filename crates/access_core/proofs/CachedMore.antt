@@ -17,6 +17,7 @@ use Rattle.core_model.proofs.States.{IsLegal-more}
 use Rattle.core_model.specs.Holds.{arguments, held}
 use Rattle.access_core.proofs.QueueAt.{IsQuiet, flight-quiet, queue_at-quiet}
 use Rattle.grants.specs.Ledger as ledger
+use Rattle.access_core.specs.inner.Cached.{IsKeptStart}
 
 -- How the grants follow an entry, and with them the argument blocks.
 pub record GrantsAfter (a : Inside) (new : Ledger) (blocks : List ArgumentBlock) (event : Event) (outcome : Outcome) (effects : List Effect) : Type 0 where
@@ -121,6 +122,7 @@ module _ (a b : Inside) (event : Event) (outcome : Outcome) (effects : List Effe
         room = omega (arith, longer, room, after.queues.in_flight_count, after.same.1);
         places = omega (arith, longer, after.audit.room, after.same.1, was.places);
         few = omega (arith, after.same.1, was.few);
+        start_kept = subst IsKeptStart (sym after.same.0.0) was.start_kept;
         before = rw after.same.0.0 was.before;
         legal = rw (after.same.0.0, after.same.0.1, after.audit.items)
             (IsLegal-more (start_of a) a.audit.items (entry_of event outcome effects) was.legal (owed-inside a was old seen_as event outcome effects is_due));

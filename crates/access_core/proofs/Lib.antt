@@ -43,4 +43,6 @@ pub mod Least
 pub mod Opened
 pub mod Rotated
 mod Rotating
+mod MovingLemmas
+mod Truncated
 pub mod PolicyRows

@@ -17,6 +17,7 @@ use Rattle.core_model.specs.declared.origin.Origin.{Origin}
 use Rattle.core_model.specs.Legal.{IsOpening}
 use Rattle.core_model.proofs.States.{begin-opening, whole-legal}
 use Rattle.grants.specs.Ledger as ledger
+use Rattle.regions.specs.Memory.{lengths_of}
 use Rattle.kernel_check.specs.Programs.{Program}
 
 -- an opening history is legal
@@ -58,6 +59,11 @@ IsCached-opened a policy opened fresh ruled memory values queues none_opened fly
       room = rw entries (omega (arith, flying));
       places = let none : length a.audit.items ≡ 0 = ap length entries in omega (arith, none, places);
       few = few;
+      start_kept = record {
+        unheld = opened.grants.none_held;
+        rules = opened.rules ∙ sym (λ i. rules_of (record (opened.policy_is i) { rows = (opened.rules i).rows }));
+        lengths = ap lengths_of opened.memory ∙ lengths_of-zeros (region_lengths policy) ∙ sym lengths;
+      };
       before = let none = opened.before in omega (arith, none);
       legal = empty IsLegal (legal-opened policy (map program_of a.kernels.items));
     }

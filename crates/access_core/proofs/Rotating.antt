@@ -22,6 +22,12 @@ use Rattle.grants.specs.Ledger as ledger
 use Rattle.grants.specs.Ledger.{IsCopy, Ledger}
 use Rattle.access_core.specs.inner.Origins.{SameInForce, origin_behind, packet_origin, queue_origin}
 use Rattle.access_core.proofs.Rotated.{rotated}
+use Rattle.access_core.specs.inner.Cached.{IsKeptStart}
+use Rattle.core_model.specs.History.{policy_in}
+use Rattle.core_model.specs.Legal.{SameOrigin}
+use Rattle.policy.specs.Policy.{Declared}
+use Rattle.policy.specs.Rules.{Rules}
+use Rattle.regions.specs.Memory.{lengths_of}
 use Rattle.access_core.proofs.Terms.{AreBlocksOf, AreLaid, IsCached, Inside, Start, are_region_lengths, block_of, byte_at, cached_openings, cached_view, history_of, lies_in_region, lies_in_regions, ltb-false, is_given, queue_in, program_of, queue_at}
 use Rattle.access_core.proofs.Terms.{region_lengths, rules_in, rules_of, start_of}
 
@@ -31,6 +37,16 @@ copy-same grants copy is = record {
   same_rights = λ client on right. ap (λ (l : Ledger). ledger.in_force l client on right) is;
   same_rules = ap (λ (l : Ledger). ledger.rules_in l) is;
 }
+
+-- the same to begin from, with a copy of the grants, is kept as well
+pub same-kept : (one other : Origin) → SameOrigin one other → one.policy ≡ other.policy → IsCopy other.grants one.grants → IsKeptStart other → IsKeptStart one
+same-kept one other same policy copy kept =
+    let ruled : rules_in one.grants ≡ rules_in other.grants = ap (λ (l : Ledger). ledger.rules_in l) copy in
+    record {
+      unheld = λ queue id client on right. same.held queue id client on right ∙ kept.unheld queue id client on right;
+      rules = ruled ∙ kept.rules ∙ sym (ap rules_of same.policy);
+      lengths = ap lengths_of same.memory ∙ kept.lengths ∙ sym (ap region_lengths policy);
+    }
 
 module _ (a : Inside) (kept : IsCached a) where
   -- copies of the fields give the answers of the state behind the audit
@@ -51,6 +67,16 @@ module _ (a : Inside) (kept : IsCached a) where
       })
       ∙ rotated a kept o.grants grants fit
 
+  -- no packet holds anything by its grants either, and its rules are its policy's
+  pub copied-kept : (o : Origin) → o.policy ≡ a.start.policy → IsCopy a.grants o.grants → o.memory ≡ a.memory → IsKeptStart o
+  copied-kept o policy copy memory =
+      let ruled : rules_in o.grants ≡ rules_of (policy_at (start_of a) a.audit.items) = ap (λ (l : Ledger). ledger.rules_in l) copy ∙ kept.rules in
+      record {
+        unheld = λ queue id client on right. ap (λ (l : Ledger). ledger.holds l queue id client on right) copy ∙ kept.unheld queue id client on right;
+        rules = ruled ∙ sym (λ i. rules_of (record (policy i) { rows = (ruled i).rows }));
+        lengths = ap lengths_of memory ∙ kept.lengths ∙ sym (ap region_lengths policy);
+      }
+
   -- and it has no more entries before it than may be
   pub few-behind : (o : Origin) → lies_too_far (history_of a) ≡ false → begin (map program_of a.kernels.items) o ≡ state_after (start_of a) a.audit.items → o.before ≤ MOST_BEFORE
   few-behind o near is =
@@ -59,9 +85,9 @@ module _ (a : Inside) (kept : IsCached a) where
 
   -- with an origin that gives those answers, and an empty audit, the fields are again what the history says
   pub IsCached-rotated : (next : Origin) (audit : Roomy Entry) → begin (map program_of a.kernels.items) next ≡ state_after (start_of a) a.audit.items → audit.items ≡ []
-      → audit.room ≡ a.capacity → next.before ≤ MOST_BEFORE → IsCached (record a { start = next; audit = audit })
+      → audit.room ≡ a.capacity → next.before ≤ MOST_BEFORE → IsKeptStart next → IsCached (record a { start = next; audit = audit })
   unfolding rows_at in_force memory_at effects_of signals openings next_id errors is_stopped flight progress held arguments
-  IsCached-rotated next audit is empty room few =
+  IsCached-rotated next audit is empty room few kept_so =
       let begun : Start = begin (map program_of a.kernels.items) next in
       let here : (x : Start → List Entry → Type 0) → x (state_after (start_of a) a.audit.items) [] → x begun audit.items =
       λ x has. subst (x begun) (sym empty) (subst (λ (now : Start). x now []) (sym is) has) in
@@ -95,6 +121,7 @@ module _ (a : Inside) (kept : IsCached a) where
         room = let before = kept.room in omega (arith, none, before);
         places = omega (arith, none, room);
         few = kept.few;
+        start_kept = kept_so;
         before = few;
         legal = here IsLegal (rotate-legal (start_of a) a.audit.items kept.legal);
       }

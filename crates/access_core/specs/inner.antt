@@ -14,3 +14,4 @@ pub mod Running
 pub mod Laying
 pub mod Untouched
 pub mod Origins
+pub mod MovingOn

@@ -14,6 +14,7 @@ mod group_writes;
 mod host;
 mod leaving;
 mod lookups;
+mod moving;
 mod opening;
 mod polling;
 mod queries;

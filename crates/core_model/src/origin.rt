@@ -3,6 +3,7 @@
 ghost use Rattle.std.specs.Prelude.{◌≡◌, ◌↔◌, IfOk, true};
 ghost use Rattle.core_model.specs.History.{policy_in};
 ghost use Rattle.core_model.specs.Legal.{SameOrigin};
+ghost use Rattle.grants.specs.Ledger.{IsCopy};
 
 use crate::flight::{InFlight, Progress};
 use aql_packet::{AgentHandle, ClientId, QueueId};
@@ -96,10 +97,9 @@ impl PacketOrigin {
         ensures { result ≡ packet_holds client object right (Some self.now) }
     {
         let holder = self.client;
-        self.rights
-            .as_slice()
-            .iter()
-            .any(|named| client == holder && object == named.0 && named.1.has(right))
+        self.rights.as_slice().iter().any(|named| client == holder
+            && object == named.0
+            && named.1.has(right))
     }
 
     /// The same packet once more, with rights and arguments of its own.
@@ -121,6 +121,7 @@ impl Origin {
     pub fn copy(&self, alloc: Global) -> Result<Origin, AllocError>
         ensures same { IfOk result (λ copy. SameOrigin copy self.now) }
         ensures policy { IfOk result (λ copy. copy.policy ≡ self.now.policy) }
+        ensures grants { IfOk result (λ copy. IsCopy self.now.grants copy.grants) }
     {
         Ok(Origin {
             policy: self.policy.copy(alloc)?,

@@ -9,8 +9,10 @@ ghost use Rattle.regions.specs.Memory.{lengths_of};
 ghost use Rattle.core_model.specs.Legal.{IsLegalPart, SameOrigin};
 ghost use Rattle.core_model.specs.Rotation.{Rotates, lies_too_far};
 ghost use Rattle.core_model.specs.States.{state_after};
+ghost use Rattle.grants.specs.Ledger.{IsCopy};
 ghost use Rattle.access_core.specs.declared.argument_blocks.ArgumentBlock.{ArgumentBlock};
 ghost use Rattle.access_core.specs.inner.ArgumentBlocks.{all_blocks};
+ghost use Rattle.access_core.specs.inner.Cached.{IsKeptStart};
 ghost use Rattle.access_core.specs.inner.Numbers.{AscendFrom, queue_in};
 ghost use Rattle.access_core.specs.inner.Origins.{AreInOrder, NumbersFit, packet_origin, queue_origin, sooner, sought_in, told_origin};
 
@@ -61,6 +63,7 @@ impl AccessCore {
         requires { lies_too_far self.now.history ≡ false }
         ensures begins { IfOk result (λ origin.
             begin self.now.history.kernels origin ≡ state_after (beginning self.now.history) self.now.history.entries) }
+        ensures kept { IfOk result IsKeptStart }
         ensures policy { IfOk result (λ origin. origin.policy ≡ self.now.history.origin.policy) }
         ensures lengths { IfOk result (λ origin. lengths_of origin.memory ≡ region_lengths self.now.history.origin.policy) }
     {
@@ -73,6 +76,7 @@ impl AccessCore {
         requires { lies_too_far self.now.history ≡ false }
         ensures begins { IfOk result (λ origin.
             begin self.now.history.kernels origin ≡ state_after (beginning self.now.history) self.now.history.entries) }
+        ensures kept { IfOk result IsKeptStart }
         ensures policy { IfOk result (λ origin. origin.policy ≡ self.now.history.origin.policy) }
         ensures lengths { IfOk result (λ origin. lengths_of origin.memory ≡ region_lengths self.now.history.origin.policy) }
     {
@@ -94,6 +98,7 @@ impl AccessCore {
 fn boxed_copy(alloc: Global, origin: &Origin) -> Result<Boxed<Origin>, AllocError>
     ensures same { IfOk result (λ copy. SameOrigin copy origin.now) }
     ensures policy { IfOk result (λ copy. copy.policy ≡ origin.now.policy) }
+    ensures grants { IfOk result (λ copy. IsCopy origin.now.grants copy.grants) }
 {
     let copy = origin.copy(alloc)?;
     Ok(Boxed::new(alloc, copy)?)

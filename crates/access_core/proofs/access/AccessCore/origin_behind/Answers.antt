@@ -7,7 +7,7 @@ use Rattle.core_model.specs.States.{state_after}
 use Rattle.regions.specs.Memory.{lengths_of}
 use Rattle.access_core.specs.inner.Origins.{AreInOrder, NumbersFit, packet_origin, queue_origin}
 use Rattle.access_core.proofs.Lying.{all-laid, are-in_order}
-use Rattle.access_core.proofs.Rotating.{copied-behind, copy-same}
+use Rattle.access_core.proofs.Rotating.{copied-behind, copied-kept, copy-same}
 use Rattle.access_core.proofs.Seen.{seen}
 use Rattle.access_core.proofs.Terms.{All-weaker, ArgumentBlock, Queue, all_blocks, are_region_lengths, region_lengths}
 use Rattle.access_core.proofs.access.AccessCore.origin_behind.Goals as goal
@@ -48,6 +48,11 @@ returns-clause-begins c =
     (subst (λ (qs : List Queue). (blocks : List ArgumentBlock) → AreInOrder qs a.in_flight_count blocks → c.in_ok-packet_origins.field-0 ≡ filter_map (packet_origin qs) blocks) c.as_slice-2.ensures.value
     c.in_ok-packet_origins.ensures c.self.invariant.blocks (are-in_order a c.self.invariant))
     (λ i. before_is i + c.len.ensures i) fit)
+
+pub returns-clause-kept : goal.returns-clause-kept
+returns-clause-kept c =
+    let policy_is : c.in_ok-copy.field-0 ≡ c.self.inside.start.policy = c.in_ok-copy.ensures ∙ c.policy.ensures ∙ sym (ap (λ (h : History). h.origin.policy) (seen c.self.view_is)) in
+    copied-kept c.self.inside c.self.invariant _ policy_is c.in_ok-copy-2.ensures c.in_ok-copy-3.ensures
 
 pub returns-clause-policy : goal.returns-clause-policy
 returns-clause-policy c = c.in_ok-copy.ensures ∙ c.policy.ensures
