@@ -26,6 +26,7 @@ mod running_kernels;
 mod serving;
 mod stopping;
 mod taking;
+mod truncating;
 mod viewing;
 
 use crate::kernel::Kernel;

@@ -20,6 +20,7 @@ use Rattle.core_model.specs.History.{begin, effects_of}
 use Rattle.core_model.specs.Legal.{IsLegal}
 use Rattle.core_model.specs.Memory.{signals_after}
 use Rattle.core_model.specs.Policies.{rows_after}
+use Rattle.access_core.specs.declared.access.truncating.Told.{Told}
 use Rattle.access_core.specs.inner.Cached.{IsKeptStart}
 use Rattle.access_core.specs.inner.InPlace.{IsChanged}
 
@@ -54,6 +55,12 @@ pub record MovesOn (old : Origin) (entries : List Entry) (new : Origin) : Type 0
   pub lengths : lengths_of new.memory ≡ lengths_of old.memory
   pub signals : new.signals ≡ fold signals_after old.signals (effects_of entries)
   pub others : new ≡ record old { grants = new.grants; memory = new.memory; signals = new.signals }
+
+-- It moved on by entries, with what is told of queues and packets behind them.
+pub record GoesOn (old : Origin) (entries : List Entry) (told : Told) (new : Origin) : Type 0 where
+  pub mid : Origin
+  pub moved : MovesOn old entries mid
+  pub others : new ≡ record mid { opened = told.opened; queues = told.queues; packets = told.packets; before = told.before }
 
 -- Entries by which a start can move on: they follow lawfully from it.
 pub record MayMove (start : Origin) (entries : List Entry) : Type 0 where

@@ -51,8 +51,8 @@ impl AccessCore {
         Ok(Part::new(start, entries, end))
     }
 
-    // Whether more entries would lie before the next start than may.
-    fn lies_too_far(&self) -> bool
+    /// Whether more entries would lie before the next start than may.
+    pub(crate) fn lies_too_far(&self) -> bool
         ensures { result ≡ lies_too_far self.now.history }
     {
         self.entries_before() + self.audit.len() as u64 > MOST_BEFORE
@@ -121,8 +121,8 @@ fn queue_origin(alloc: Global, queue: &Queue) -> Result<QueueOrigin, AllocError>
     })
 }
 
-// What is kept of all queues.
-fn queue_origins(alloc: Global, queues: &[Queue]) -> Result<Sequence<QueueOrigin>, AllocError>
+/// What is kept of all queues.
+pub(crate) fn queue_origins(alloc: Global, queues: &[Queue]) -> Result<Sequence<QueueOrigin>, AllocError>
     ensures { IfOk result (λ origins. origins ≡ map queue_origin queues.now) }
 {
     let mut origins = Sequence::new(alloc);
@@ -229,8 +229,8 @@ fn tell_packet(
     Ok(())
 }
 
-// What is kept of all packets in flight, which are so many, in the order of their launches.
-fn packet_origins(
+/// What is kept of all packets in flight, which are so many, in the order of their launches.
+pub(crate) fn packet_origins(
     alloc: Global,
     queues: &[Queue],
     count: usize,
