@@ -99,7 +99,7 @@ module _ (a : Inside) (kept : IsCached a) (fit : are_region_lengths (region_leng
 
   -- ---- all of it, where the start went on with what is told of queues and packets
 
-  module _ (told : Told) (new : Origin) (queues : told.queues ≡ map queue_origin a.queues.items) (packets : told.packets ≡ filter_map (packet_origin a.queues.items) kept.blocks)
+  module _ (told : Told) (new : Origin) (queues : told.lists.queues ≡ map queue_origin a.queues.items) (packets : told.lists.packets ≡ filter_map (packet_origin a.queues.items) kept.blocks)
       (opened : told.opened ≡ a.opened) (before : told.before ≡ a.start.before + length a.audit.items) (went : GoesOn a.start a.audit.items told new) where
     pub policy-stays : new.policy ≡ a.start.policy
     policy-stays = ap (λ (o : Origin). o.policy) went.others ∙ ap (λ (o : Origin). o.policy) went.moved.others

@@ -9,6 +9,7 @@ mod argument_blocks;
 mod holders;
 mod kernel;
 mod lists;
+mod origin_memory;
 mod queue;
 mod release_room;
 mod spare_lists;

@@ -1,17 +1,22 @@
-//! Lists of rights of packets that left flight, kept for the memory behind them.
+//! Memory that is got before it is needed: lists of rights of packets that left flight, and memory for what is told of queues
+//! and packets where an audit is emptied.
 
 ghost use Rattle.std.specs.Prelude.{◌≡◌, ◌≤◌, [], OnErr, OnOk, max};
 
+use crate::origin_memory::{MostGiven, OriginMemory};
+use core_model::{MOST_IN_FLIGHT, PacketOrigin, QueueOrigin};
 use policy::{Object, Rights};
 use sequences::Sequence;
 use std::alloc::{AllocError, Global};
 use std::marker::Model;
+use std::mem::replace;
 
 /// Lists of rights of packets that left flight, kept for the memory behind them: packets that are launched later list their
-/// rights there. A contract sees how many can be kept.
+/// rights there. With them lies memory for what is told of queues and packets. A contract sees how many lists can be kept.
 #[derive(Drop)]
 pub struct SpareLists {
     lists: Vec<Sequence<(Object, Rights)>>,
+    told: OriginMemory,
 }
 
 impl Model for SpareLists {
@@ -27,14 +32,54 @@ impl SpareLists {
     pub fn new(alloc: Global) -> SpareLists {
         SpareLists {
             lists: Vec::new(alloc),
+            told: OriginMemory::new(alloc),
         }
     }
 
-    /// Gets places for so many lists in all, unless there are as many.
-    pub fn get_places(&mut self, places: usize) -> Result<(), AllocError>
+    /// Gets memory for what is told of so many queues, and of their packets in flight, each of which is given this at most.
+    pub fn provide(
+        &mut self,
+        alloc: Global,
+        queues: usize,
+        most: MostGiven,
+    ) -> Result<(), AllocError>
+        ensures { self.new ≡ self.old }
+    {
+        self.told.provide(alloc, queues, most)
+    }
+
+    /// Hands the memory for what is told out, until it is given back.
+    pub fn take_told(&mut self, alloc: Global) -> OriginMemory
+        ensures { self.new ≡ self.old }
+    {
+        replace(&mut self.told, OriginMemory::new(alloc))
+    }
+
+    /// Has it back.
+    pub fn give_told(&mut self, told: OriginMemory)
+        ensures { self.new ≡ self.old }
+    {
+        self.told = told;
+    }
+
+    /// Keeps the memory of what was told of queues and packets. It takes none.
+    pub fn keep_told(&mut self, queues: Sequence<QueueOrigin>, packets: Sequence<PacketOrigin>)
+        ensures { self.new ≡ self.old }
+    {
+        self.told.keep(queues, packets);
+    }
+
+    /// Gets places for so many lists in all, unless there are as many, and what `provide` gets for as many packets.
+    pub fn get_places(
+        &mut self,
+        alloc: Global,
+        places: usize,
+        most: MostGiven,
+    ) -> Result<(), AllocError>
         ensures exact { OnOk result (self.new ≡ max self.old places) }
         ensures err { OnErr result (self.new ≡ self.old) }
     {
+        self.told.provide(alloc, places / MOST_IN_FLIGHT, most)?;
         self.lists
             .reserve_exact(places.saturating_sub(self.lists.len()))
     }

@@ -60,7 +60,7 @@ pub record MovesOn (old : Origin) (entries : List Entry) (new : Origin) : Type 0
 pub record GoesOn (old : Origin) (entries : List Entry) (told : Told) (new : Origin) : Type 0 where
   pub mid : Origin
   pub moved : MovesOn old entries mid
-  pub others : new ≡ record mid { opened = told.opened; queues = told.queues; packets = told.packets; before = told.before }
+  pub others : new ≡ record mid { opened = told.opened; queues = told.lists.queues; packets = told.lists.packets; before = told.before }
 
 -- Entries by which a start can move on: they follow lawfully from it.
 pub record MayMove (start : Origin) (entries : List Entry) : Type 0 where

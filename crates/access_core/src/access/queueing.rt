@@ -11,6 +11,7 @@ ghost use Rattle.access_core.specs.Keeping.{GrowsByOpening, KeepsPlaces};
 
 use crate::access::{AccessCore, enter};
 use crate::argument_blocks::ArgumentBlocks;
+use crate::origin_memory::most_given;
 use crate::queue::Queue;
 use crate::release_room::ReleaseRoom;
 use aql_packet::{AgentHandle, ClientId, QueueId, is_ring_size};
@@ -70,8 +71,11 @@ impl AccessCore {
         let releases = ReleaseRoom::get(alloc)?;
         let blocks = ArgumentBlocks::get(alloc)?;
         get_room(&mut self.queues)?;
-        self.spare
-            .get_places(MOST_IN_FLIGHT * (self.queues.len() + 1))?;
+        self.spare.get_places(
+            alloc,
+            MOST_IN_FLIGHT * (self.queues.len() + 1),
+            most_given(self.segments.as_slice()),
+        )?;
         self.opened = queue.0;
         self.queues.push_reserved(Queue {
             number: queue,

@@ -19,6 +19,7 @@ ghost use Rattle.access_core.specs.inner.Origins.{AreInOrder, NumbersFit, packet
 use crate::access::AccessCore;
 use crate::access::lookups::queue_of;
 use crate::argument_blocks::ArgumentBlock;
+use crate::origin_memory::{OriginMemory, most_given};
 use crate::queue::Queue;
 use aql_packet::{PacketId, QueueId};
 use boxed::Boxed;
@@ -46,6 +47,8 @@ impl AccessCore {
         let end = self.boxed_origin(alloc)?;
         let next = boxed_copy(alloc, end.as_ref())?;
         let empty = Reserved::with_room(alloc, self.capacity)?;
+        let most = most_given(self.segments.as_slice());
+        self.spare.provide(alloc, self.queues.len(), most)?;
         let start = replace(&mut self.start, next);
         let entries = replace(&mut self.audit, empty);
         Ok(Part::new(start, entries, end))
@@ -81,14 +84,20 @@ impl AccessCore {
         ensures lengths { IfOk result (λ origin. lengths_of origin.memory ≡ region_lengths self.now.history.origin.policy) }
     {
         self.regions_fit();
+        let mut memory = OriginMemory::new(alloc);
         Ok(Origin {
             policy: self.policy().copy(alloc)?,
             grants: self.grants.copy(alloc)?,
             memory: self.memory.copy(alloc)?,
             signals: self.signals.copy(alloc)?,
-            queues: queue_origins(alloc, self.queues.as_slice())?,
+            queues: queue_origins(alloc, &mut memory, self.queues.as_slice())?,
             opened: self.opened,
-            packets: packet_origins(alloc, self.queues.as_slice(), self.in_flight_count)?,
+            packets: packet_origins(
+                alloc,
+                &mut memory,
+                self.queues.as_slice(),
+                self.in_flight_count,
+            )?,
             before: self.entries_before() + self.audit.len() as u64,
         })
     }
@@ -105,10 +114,14 @@ fn boxed_copy(alloc: Global, origin: &Origin) -> Result<Boxed<Origin>, AllocErro
 }
 
 // What is kept of a queue, as data.
-fn queue_origin(alloc: Global, queue: &Queue) -> Result<QueueOrigin, AllocError>
+fn queue_origin(
+    alloc: Global,
+    memory: &mut OriginMemory,
+    queue: &Queue,
+) -> Result<QueueOrigin, AllocError>
     ensures { IfOk result (λ origin. origin ≡ queue_origin queue.now) }
 {
-    let errors = Vec::from_slice(alloc, queue.errors.as_slice())?;
+    let errors = memory.copy_errors(alloc, queue.errors.as_slice())?;
     Ok(QueueOrigin {
         queue: queue.number,
         opening: Opening {
@@ -117,17 +130,21 @@ fn queue_origin(alloc: Global, queue: &Queue) -> Result<QueueOrigin, AllocError>
         },
         next: queue.next,
         stopped: queue.stopped,
-        errors: Sequence::from_vec(errors),
+        errors,
     })
 }
 
 /// What is kept of all queues.
-pub(crate) fn queue_origins(alloc: Global, queues: &[Queue]) -> Result<Sequence<QueueOrigin>, AllocError>
+pub(crate) fn queue_origins(
+    alloc: Global,
+    memory: &mut OriginMemory,
+    queues: &[Queue],
+) -> Result<Sequence<QueueOrigin>, AllocError>
     ensures { IfOk result (λ origins. origins ≡ map queue_origin queues.now) }
 {
-    let mut origins = Sequence::new(alloc);
+    let mut origins = memory.take_queues(alloc);
     for queue in queues {
-        origins.push(queue_origin(alloc, queue)?)?;
+        origins.push(queue_origin(alloc, memory, queue)?)?;
     }
     Ok(origins)
 }
@@ -146,6 +163,7 @@ fn place_in(queues: &[Queue], queue: QueueId, packet: PacketId) -> Option<&Place
 // What is kept of a packet in flight, as data, by its argument block and its place.
 fn packet_origin(
     alloc: Global,
+    memory: &mut OriginMemory,
     block: &ArgumentBlock,
     place: &Place,
 ) -> Result<PacketOrigin, AllocError>
@@ -159,8 +177,8 @@ fn packet_origin(
         },
         progress: place.progress,
         client: block.client,
-        rights: block.rights.copy(alloc)?,
-        arguments: block.bytes.copy(alloc)?,
+        rights: memory.copy_rights(alloc, block.rights.as_slice())?,
+        arguments: memory.copy_bytes(alloc, block.bytes.as_slice())?,
     })
 }
 
@@ -216,6 +234,7 @@ fn next_launched<'a>(queues: &'a [Queue], from: u64) -> Option<&'a ArgumentBlock
 // What is kept of a packet in flight, as data, behind what is of others, if its place is there.
 fn tell_packet(
     alloc: Global,
+    memory: &mut OriginMemory,
     origins: &mut Sequence<PacketOrigin>,
     queues: &[Queue],
     block: &ArgumentBlock,
@@ -224,7 +243,7 @@ fn tell_packet(
     ensures { OnOk result (origins.new ≡ origins.old ++ option_to_list (packet_origin queues.now block.now)) }
 {
     if let Some(place) = place_in(queues, block.queue, block.packet) {
-        origins.push(packet_origin(alloc, block, place)?)?;
+        origins.push(packet_origin(alloc, memory, block, place)?)?;
     }
     Ok(())
 }
@@ -232,6 +251,7 @@ fn tell_packet(
 /// What is kept of all packets in flight, which are so many, in the order of their launches.
 pub(crate) fn packet_origins(
     alloc: Global,
+    memory: &mut OriginMemory,
     queues: &[Queue],
     count: usize,
 ) -> Result<Sequence<PacketOrigin>, AllocError>
@@ -239,11 +259,11 @@ pub(crate) fn packet_origins(
     requires few { NumbersFit (all_blocks queues.now) }
     ensures { IfOk result (λ origins. (blocks : List ArgumentBlock) → AreInOrder queues.now count blocks → origins ≡ filter_map (packet_origin queues.now) blocks) }
 {
-    let mut origins = Sequence::new(alloc);
+    let mut origins = memory.take_packets(alloc);
     let mut from = 0;
     for told in 0..count {
         if let Some(block) = next_launched(queues, from) {
-            tell_packet(alloc, &mut origins, queues, block)?;
+            tell_packet(alloc, memory, &mut origins, queues, block)?;
             from = block.number + 1;
         }
     }

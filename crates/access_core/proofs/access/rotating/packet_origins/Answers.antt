@@ -8,7 +8,7 @@ use Rattle.access_core.proofs.access.rotating.packet_origins.Goals as goal
 use Rattle.access_core.proofs.access.rotating.packet_origins.Goals.{in-Some+in_ok-tell_packet, in_default}
 
 pub loop-told-init : goal.loop-told-init
-loop-told-init c = λ blocks are. subst (λ origins. AreTold c.args.queues.now blocks origins 0 0) (sym c.new-origins.ensures) (told-none c.args.queues.now blocks)
+loop-told-init c = λ blocks are. subst (λ origins. AreTold c.args.queues.now blocks origins 0 0) (sym c.take_packets-origins.ensures) (told-none c.args.queues.now blocks)
 
 pub overflow_add-from : goal.overflow_add-from
 overflow_add-from c =
