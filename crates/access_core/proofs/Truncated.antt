@@ -45,35 +45,38 @@ module _ (a : Inside) (kept : IsCached a) (fit : are_region_lengths (region_leng
     -- what is kept of it is what the history says of rights, memory and signals
     moved-cached : (now : IsCached b) × (now.blocks ≡ kept.blocks)
     unfolding in_force memory_at signals
-    moved-cached = (record {
-      granted = is.granted;
-      rules = ruled;
-      blocks = kept.blocks;
-      laid = kept.laid;
-      held = kept.held;
-      unheld = λ queue id client on right. is.same_holds queue id client on right ∙ kept.start_kept.unheld queue id client on right;
-      blocks_are = kept.blocks_are;
-      arguments = kept.arguments;
-      entries = kept.entries;
-      segments = kept.segments;
-      lengths = is.lengths ∙ kept.start_kept.lengths;
-      memory = λ x lies. is.memory x (unwrap_or (byte_at a.start.memory x) 0) (byte-there x lies);
-      values = is.signals;
-      openings = kept.openings;
-      queues = kept.queues;
-      ascending = kept.ascending;
-      up_to = kept.up_to;
-      sound = kept.sound;
-      few_queues = kept.few_queues;
-      in_flight_count = kept.in_flight_count;
-      within = kept.within;
-      room = kept.room;
-      places = kept.places;
-      few = kept.few;
-      start_kept = kept.start_kept;
-      before = kept.before;
-      legal = kept.legal;
-    }, refl)
+    moved-cached = (
+      record {
+        granted = is.granted;
+        rules = ruled;
+        blocks = kept.blocks;
+        laid = kept.laid;
+        held = kept.held;
+        unheld = λ queue id client on right. is.same_holds queue id client on right ∙ kept.start_kept.unheld queue id client on right;
+        blocks_are = kept.blocks_are;
+        arguments = kept.arguments;
+        entries = kept.entries;
+        segments = kept.segments;
+        lengths = is.lengths ∙ kept.start_kept.lengths;
+        memory = λ x lies. is.memory x (unwrap_or (byte_at a.start.memory x) 0) (byte-there x lies);
+        values = is.signals;
+        openings = kept.openings;
+        queues = kept.queues;
+        ascending = kept.ascending;
+        up_to = kept.up_to;
+        sound = kept.sound;
+        few_queues = kept.few_queues;
+        in_flight_count = kept.in_flight_count;
+        within = kept.within;
+        room = kept.room;
+        places = kept.places;
+        few = kept.few;
+        start_kept = kept.start_kept;
+        before = kept.before;
+        legal = kept.legal;
+      },
+      refl,
+    )
 
     -- so with the queues and packets that are kept, it begins in the state behind the audit
     pub moved-behind : (o : Origin) → o.policy ≡ a.start.policy → o.grants ≡ moved.grants → o.memory ≡ moved.memory → o.signals ≡ moved.signals → o.opened ≡ a.opened
