@@ -43,8 +43,7 @@ impl<T> Pool<T> {
             self.lists = lists_of(alloc, count, room)?;
             self.most = room;
         }
-        self.lists
-            .reserve(count.saturating_sub(self.lists.len()))?;
+        self.lists.reserve(count.saturating_sub(self.lists.len()))?;
         for _ in self.lists.len()..count {
             self.lists.push(Vec::with_capacity(alloc, self.most)?)?;
         }
@@ -248,7 +247,9 @@ impl OriginMemory {
     fn keep_packet(&mut self, packet: Option<PacketOrigin>) {
         if let Some(packet) = packet {
             let PacketOrigin {
-                rights, arguments, ..
+                rights,
+                arguments,
+                ..
             } = packet;
             self.rights.keep(rights.into_vec());
             self.bytes.keep(arguments.into_vec());

@@ -13,11 +13,14 @@ use Rattle.grants.specs.Ledger.{IsCopy}
 use Rattle.access_core.specs.inner.Cached.{IsKeptStart}
 use Rattle.access_core.proofs.Rotating.{IsCached-rotated, few-behind, same-kept}
 use Rattle.access_core.proofs.Seen.{seen}
-use Rattle.access_core.proofs.Terms.{history_of, program_of, start_of}
+use Rattle.access_core.proofs.Terms.{IsCached, history_of, program_of, start_of}
 use Rattle.access_core.proofs.access.AccessCore.rotate.Goals as goal
 
 pub invariant_of-self : goal.invariant_of-self
-invariant_of-self c =
+invariant_of-self c = subst (λ spare. IsCached (record c.self.inside { spare = spare })) (sym c.provide.ensures) c.self.invariant
+
+pub invariant_of-self-2 : goal.invariant_of-self-2
+invariant_of-self-2 c =
     let a = c.self.inside in
     let near : lies_too_far (history_of a) ≡ false = ap lies_too_far (seen c.self.view_is) ∙ sym c.lies_too_far.ensures ∙ c.if-lies_too_far.false in
     let ends : begin (map program_of a.kernels.items) c.in_ok-end.end ≡ state_after (start_of a) a.audit.items =
@@ -25,14 +28,15 @@ invariant_of-self c =
     let begins : begin (map program_of a.kernels.items) c.replace-start.new.dest ≡ state_after (start_of a) a.audit.items =
     ap (begin (map program_of a.kernels.items)) c.replace-start.ensures.after
     ∙ same-begin (map program_of a.kernels.items) c.in_ok-next.next c.in_ok-end.end (subst (SameOrigin c.in_ok-next.next) c.as_ref.ensures c.in_ok-next.ensures.same) ∙ ends in
-    IsCached-rotated a c.self.invariant c.replace-start.new.dest c.replace-entries.new.dest begins
+    subst (λ spare. IsCached (record a { start = c.replace-start.new.dest; audit = c.replace-entries.new.dest; spare = spare })) (sym c.provide.ensures)
+    (IsCached-rotated a c.self.invariant c.replace-start.new.dest c.replace-entries.new.dest begins
     (ap (λ (list : Roomy Entry). list.items) c.replace-entries.ensures.after ∙ c.in_ok-empty.ensures.empty)
     (ap (λ (list : Roomy Entry). list.room) c.replace-entries.ensures.after ∙ c.in_ok-empty.ensures.room)
     (few-behind a c.self.invariant c.replace-start.new.dest near begins)
     (subst IsKeptStart (sym c.replace-start.ensures.after)
     (same-kept c.in_ok-next.next c.in_ok-end.end (subst (SameOrigin c.in_ok-next.next) c.as_ref.ensures c.in_ok-next.ensures.same)
     (c.in_ok-next.ensures.policy ∙ ap (λ (o : Origin). o.policy) c.as_ref.ensures)
-    (subst (λ (o : Origin). IsCopy o.grants c.in_ok-next.next.grants) c.as_ref.ensures c.in_ok-next.ensures.grants) c.in_ok-end.ensures.kept))
+    (subst (λ (o : Origin). IsCopy o.grants c.in_ok-next.next.grants) c.as_ref.ensures c.in_ok-next.ensures.grants) c.in_ok-end.ensures.kept)))
 
 pub returns-clause-rotated : goal.returns-clause-rotated
 returns-clause-rotated c =
