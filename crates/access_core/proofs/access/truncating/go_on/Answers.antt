@@ -11,5 +11,5 @@ pub returns-clause-moved : goal.returns-clause-moved
 returns-clause-moved c = record {
   mid = c.move_on.new.start;
   moved = subst (λ (es : List Entry). MovesOn c.args.start.now es c.move_on.new.start) (c.as_mut_slice.ensures.value ∙ c.into_vec-entries.ensures.items) c.move_on.ensures;
-  others = refl;
+  others = λ i. record c.move_on.new.start { opened = c.args.told.opened; queues = c.replace-queues.ensures.after i; packets = c.replace-packets.ensures.after i; before = c.args.told.before };
 }
