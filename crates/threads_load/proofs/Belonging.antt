@@ -7,7 +7,7 @@ use Rattle.std.proofs.lemmas.List.Elements.{All-append, All-push}
 use Rattle.atomic_table.specs.Seated.{TableId}
 use Rattle.aql_packet.specs.declared.ids.QueueId.{QueueId}
 use Rattle.client_threads.specs.declared.client_end.ClientEnd.{ClientEnd}
-use Rattle.client_threads.specs.Boards.{PassSeen}
+use Rattle.client_threads.specs.Boards.{FrontSeen}
 use Rattle.client_threads.specs.HandedOver.{KeepsAll}
 use Rattle.client_threads.specs.Lanes.{LaneSeen}
 use Rattle.client_threads.specs.Opening.{IsOpened}
@@ -16,25 +16,25 @@ use Rattle.client_threads.specs.Running.{IsEndOf, IsLaneOf}
 use Rattle.client_threads.proofs.Belonging.{ends_are_of, kept, lane_is_of}
 use Rattle.threads_load.specs.Stages.{EachStaysOf}
 
-pub new_ends : (old new : List QueueRing) (size producers : ℕ) (front : PassSeen) (queue : QueueId) (ends : List ClientEnd) (lane : LaneSeen)
+pub new_ends : (old new : List QueueRing) (size producers : ℕ) (front : FrontSeen) (queue : QueueId) (ends : List ClientEnd) (lane : LaneSeen)
     → IsOpened old size producers front queue ends lane new → All (λ end. IsEndOf new end) ends
 new_ends old new size producers front queue ends lane h = ends_are_of old new size producers front queue ends lane h
 
-pub new_lane : (board : TableId) (old new : List QueueRing) (size producers : ℕ) (front : PassSeen) (queue : QueueId) (ends : List ClientEnd) (lane : LaneSeen)
+pub new_lane : (board : TableId) (old new : List QueueRing) (size producers : ℕ) (front : FrontSeen) (queue : QueueId) (ends : List ClientEnd) (lane : LaneSeen)
     → IsOpened old size producers front queue ends lane new → front.board ≡ board → IsLaneOf board new lane
 new_lane board old new size producers front queue ends lane h same = subst (λ (b : TableId). IsLaneOf b new lane) same (lane_is_of old new size producers front queue ends lane h)
 
-pub kept_ends : (old new : List QueueRing) (size producers : ℕ) (front : PassSeen) (queue : QueueId) (ends : List ClientEnd) (lane : LaneSeen) (before : List ClientEnd)
+pub kept_ends : (old new : List QueueRing) (size producers : ℕ) (front : FrontSeen) (queue : QueueId) (ends : List ClientEnd) (lane : LaneSeen) (before : List ClientEnd)
     → IsOpened old size producers front queue ends lane new → All (λ end. IsEndOf old end) before → All (λ end. IsEndOf new end) before
 kept_ends old new size producers front queue ends lane before h all k d lt = record { is = kept old new size producers front queue ends lane h _ _ (all k d lt).is }
 
-pub kept_lanes : (board : TableId) (old new : List QueueRing) (size producers : ℕ) (front : PassSeen) (queue : QueueId) (ends : List ClientEnd) (lane : LaneSeen) (before : List LaneSeen)
+pub kept_lanes : (board : TableId) (old new : List QueueRing) (size producers : ℕ) (front : FrontSeen) (queue : QueueId) (ends : List ClientEnd) (lane : LaneSeen) (before : List LaneSeen)
     → IsOpened old size producers front queue ends lane new → All (λ lane. IsLaneOf board old lane) before → All (λ lane. IsLaneOf board new lane) before
 kept_lanes board old new size producers front queue ends lane before h all k d lt =
     let one = all k d lt in record { is = kept old new size producers front queue ends lane h _ _ one.is; board_is = one.board_is; stands = one.stands }
 
 -- a queue's lane keeps all that it served when it is opened, as the lanes before it do
-pub all_keep : (old new : List QueueRing) (size producers : ℕ) (front : PassSeen) (queue : QueueId) (ends : List ClientEnd) (lane : LaneSeen) (before more : List LaneSeen)
+pub all_keep : (old new : List QueueRing) (size producers : ℕ) (front : FrontSeen) (queue : QueueId) (ends : List ClientEnd) (lane : LaneSeen) (before more : List LaneSeen)
     → IsOpened old size producers front queue ends lane new → more ≡ before ++ lane ∷ [] → All KeepsAll before → All KeepsAll more
 all_keep old new size producers front queue ends lane before more h is all =
     let keeps : KeepsAll lane = ap (λ (l : LaneSeen). l.kept) h.lane_is ∙ sym (ap (λ (l : LaneSeen). l.served) h.lane_is) in

@@ -6,3 +6,4 @@ pub mod Sums
 pub mod Counted
 pub mod Granted
 pub mod Handing
+pub mod Shares

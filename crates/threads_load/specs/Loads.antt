@@ -11,16 +11,17 @@ use Rattle.access_core.specs.declared.kernel.Kernel.{Kernel}
 use Rattle.client_threads.specs.declared.settling.Settlement.{Settlement}
 use Rattle.client_threads.specs.declared.settling.Settlement.TheVariants as settlement
 use Rattle.client_threads.specs.Lanes.{LaneSeen}
-use Rattle.client_threads.specs.Settling.{IsEnd}
+use Rattle.client_threads.specs.Boards.{FrontSeen}
+use Rattle.client_threads.specs.Settling.{IsClosed}
 use Rattle.client_threads.specs.Takes.{AllAgree, IsLeastMismatch}
 use Rattle.threads_load.specs.declared.load.Ended.{Ended}
 use Rattle.threads_load.specs.declared.load.Load.{Load}
-use Rattle.threads_load.specs.declared.load.TheConstants.{PLACES}
 use Rattle.threads_load.specs.declared.plan.PlannedQueue.{PlannedQueue}
 use Rattle.threads_load.specs.declared.report.Ending.{Ending}
 use Rattle.threads_load.specs.declared.report.Ending.TheVariants as ending
 use Rattle.threads_load.specs.Counts.{AreCounts, are_finished}
 use Rattle.threads_load.specs.Grantings.{HasAllAllowed}
+use Rattle.threads_load.specs.Limits.{load_places}
 use Rattle.threads_load.specs.Plans.{planned}
 use Rattle.threads_load.specs.Reports.{text_of_report}
 use Rattle.threads_load.specs.Stages.{AreOf, HasQueues, WasLeft}
@@ -42,18 +43,18 @@ ending_if false = ending.Unsettled
 
 -- a load ended so, over a plan whose queues each want so many packets: all that the policy allows was granted; the planned queues were
 -- opened, each by its client on its agent, and its lanes are just theirs; the core is the one that was opened, as the last section left
--- it; parts that were handed out of it, for its kernels, lead to its audit; and all their entries are what these lanes served, which
+-- it, and each section was made through its front or a lane's; parts that were handed out of it, for its kernels, lead to its audit; and all their entries are what these lanes served, which
 -- have seen it, with all packets finished or not, or first differ there (own)
 pub record EndsWith (opened : Core) (plan : List PlannedQueue) (wanted : ℕ) (parts : List Part) (core : Core) (ended : Ending) : Type 0 where
   pub legal : IsLegal (beginning core.history) core.history.entries
   pub parts_legal : All (IsLegalPart opened.history.kernels) parts
   pub lead : LeadTo parts core.history.origin
-  pub seen : List Core
+  pub front : FrontSeen
   pub lanes : List LaneSeen
-  pub granted : WasLeft seen (λ left. HasAllAllowed left.history)
+  pub granted : WasLeft front.left (λ left. HasAllAllowed left.history)
   pub queues : HasQueues core plan
   pub lanes_are : AreOf (length plan) lanes
-  pub end : IsEnd opened seen lanes core
+  pub closed : IsClosed opened front lanes core
   pub ends : EndsAs (entries_in parts ++ core.history.entries) lanes (are_finished (entries_in parts ++ core.history.entries) wanted (length plan)) ended
 
 -- all parts that were handed out, in order (own)
@@ -81,4 +82,4 @@ TellsPlan opened plan wanted load =
 -- opened over them, with the queues that the policy plans (own)
 abbrev pub TellsLoad : Declared → List Kernel → ℕ → ℕ → Load → Type 0
 TellsLoad policy kernels packets producers load =
-    (opened : Core) × IsOpening opened.history policy (map program_of kernels) PLACES × TellsPlan opened (planned policy) (wanted_of packets producers) load
+    (opened : Core) × IsOpening opened.history policy (map program_of kernels) load_places × TellsPlan opened (planned policy) (wanted_of packets producers) load

@@ -1,6 +1,6 @@
 //! The load, from a policy to its report.
 
-ghost use Rattle.std.specs.Prelude.{◌≡◌, ℕ, [], ◌++◌, All, IfOk, List, Ok, OnOk, length, map};
+ghost use Rattle.std.specs.Prelude.{◌≡◌, ◌≢◌, ℕ, [], ◌++◌, All, IfErr, IfOk, List, Ok, OnOk, length, map};
 ghost use Rattle.core_model.specs.History.{Part};
 ghost use Rattle.core_model.specs.declared.entry.Entry.{Entry};
 ghost use Rattle.core_model.specs.Legal.{IsLegalPart, IsOpening};
@@ -8,14 +8,16 @@ ghost use Rattle.core_model.specs.Rotation.{entries_in};
 ghost use Rattle.access_core.specs.Cores.{Core};
 ghost use Rattle.access_core.specs.Opening.{program_of};
 ghost use Rattle.client_threads.specs.Sections.{IsSection};
-ghost use Rattle.client_threads.specs.Settling.{IsEnd, IsSettlement, core_of};
+ghost use Rattle.client_threads.specs.Boards.{all_shares};
+ghost use Rattle.client_threads.specs.Settling.{IsClosed, IsSettlement, core_of};
+ghost use Rattle.client_threads.specs.declared.settling.SettleAllFault.{SettleAllFault};
 ghost use Rattle.threads_load.specs.Counts.{AreCounts};
 ghost use Rattle.threads_load.specs.Grantings.{HasAllAllowed};
 ghost use Rattle.threads_load.specs.Loads.{EndsBy, EndsLoad, TellsLoad, TellsPlan, ending_if, parts_in, wanted_of};
+ghost use Rattle.threads_load.specs.Limits.{load_packets, load_places};
 ghost use Rattle.threads_load.specs.Rounds.{parts_of};
 ghost use Rattle.threads_load.specs.Stages.{IsReady, IsStage, IsStageWith, WasLeft};
 ghost use Rattle.threads_load.specs.declared.plan.PlannedQueue.{PlannedQueue};
-ghost use Rattle.threads_load.specs.declared.limits.TheConstants.{PACKETS};
 
 use crate::counting::{PacketCounts, are_finished, count_none, count_on};
 use crate::fault::LoadFault;
@@ -147,12 +149,15 @@ fn ended_by(settlement: Settlement, out: HandedOut, wanted: u64) -> Result<Ended
     }
 }
 
-// Why a broker was not settled.
-fn fault_of<B: Room>(back: UnsettledBroker<B>) -> LoadFault {
+// Why a broker was not settled, all of whose fronts are there.
+fn fault_of<B: Room>(back: UnsettledBroker<B>) -> LoadFault
+    requires { back.fault ≢ SettleAllFault.MissingFront }
+{
     match back.fault {
         SettleAllFault::OutOfMemory => LoadFault::OutOfMemory,
         SettleAllFault::MissingPass => LoadFault::MissingPass,
         SettleAllFault::NotNext => LoadFault::NotNext,
+        SettleAllFault::MissingFront => unreachable!(),
     }
 }
 
@@ -164,7 +169,8 @@ fn settle<B: Room>(
 ) -> Result<Settlement, UnsettledBroker<B>>
     requires { IsStageWith B.board out.now.settled stage }
     ensures settled { IfOk result (IsSettlement stage.broker (parts_of out.now) stage.ends.items stage.lanes.items) }
-    ensures end { IfOk result (λ settlement. IsEnd B.opened stage.front.left stage.lanes.items (core_of settlement)) }
+    ensures closed { IfOk result (λ settlement. IsClosed B.opened stage.front stage.lanes.items (core_of settlement)) }
+    ensures refused { IfErr result (λ back. back.fault ≢ SettleAllFault.MissingFront) }
 {
     let Stage {
         broker,
@@ -172,16 +178,7 @@ fn settle<B: Room>(
         ends,
         lanes,
     } = stage;
-    let mut front = front;
-    settle_all(
-        alloc,
-        broker,
-        &mut front,
-        &out.settled,
-        out.left(),
-        ends,
-        lanes,
-    )
+    settle_all(alloc, broker, front, &out.settled, out.left(), ends, lanes)
 }
 
 // Settles it, looks whether the queues of the plan are open still, and tells how the load ended.
@@ -227,17 +224,18 @@ pub fn open_broker(
 fn grant_alone<B: Room>(broker: &mut Broker<B>, front: &mut Front) -> Result<(), Refusal>
     requires { front.old.board ≡ B.board }
     ensures front { front.new.board ≡ B.board }
-    ensures section { IsSection B.opened front.old.left front.new.left (λ before after. OnOk result (HasAllAllowed after.history)) }
+    ensures section { IsSection B.opened front.old front.new (λ before after. OnOk result (HasAllAllowed after.history)) }
     ensures rings { broker.new ≡ broker.old }
 {
     broker.with_core_alone(front, |core| grant_all(core))
 }
 
-/// Gives a broker its name, and grants all that its policy allows. The front has seen that.
+/// Gives a broker its name, and grants all that its policy allows, in a section. The front has seen that, and has all
+/// shares.
 pub fn name_broker<B: Room>(unnamed: UnnamedBroker) -> Result<(Broker<B>, Front), LoadFault>
     requires { (unnamed.board ≡ B.board) × (unnamed.core ≡ B.opened) }
     ensures rings { IfOk result (λ named. named.0 ≡ []) }
-    ensures front { IfOk result (λ named. named.1.board ≡ B.board) }
+    ensures front { IfOk result (λ named. (named.1.board ≡ B.board) × (named.1.share ≡ all_shares)) }
     ensures granted { IfOk result (λ named. WasLeft named.1.left (λ left. HasAllAllowed left.history)) }
 {
     let (mut broker, mut front) = unnamed.named::<B>();
@@ -358,7 +356,7 @@ fn run_plan<R: Threads + Wait + Sync, W: Watch>(
     terms: LoadTerms,
     watch: &mut W,
 ) -> Result<Ended, LoadFault>
-    ensures { IfOk result (λ ended. (opened : Core) × IsOpening opened.history policy (map program_of kernels.items) PLACES × EndsLoad opened plan.now (wanted_of terms.packets terms.producers) ended) }
+    ensures { IfOk result (λ ended. (opened : Core) × IsOpening opened.history policy (map program_of kernels.items) load_places × EndsLoad opened plan.now (wanted_of terms.packets terms.producers) ended) }
 {
     let wanted = terms.packets.saturating_mul(terms.producers);
     let gate = LoadGate::within(alloc, plan.len(), wanted, terms.limits)?;
@@ -381,9 +379,10 @@ pub fn run_load<R: Threads + Wait + Sync>(
     kernels: Vec<Kernel>,
     producers: u64,
 ) -> Result<Load, LoadFault>
-    ensures { IfOk result (TellsLoad policy kernels.items PACKETS producers) }
+    ensures { IfOk result (TellsLoad policy kernels.items load_packets producers) }
 {
-    run_load_within(rt, alloc, policy, kernels, producers, LoadLimits::in_all())
+    let terms = LoadTerms::of(producers, None);
+    run_load_watched(rt, alloc, policy, kernels, terms, &mut Unwatched)
 }
 
 /// Runs the load just so, with other limits than 10,000,000 turns of each lane and as many tries of each producer.
@@ -395,7 +394,7 @@ pub fn run_load_within<R: Threads + Wait + Sync>(
     producers: u64,
     limits: LoadLimits,
 ) -> Result<Load, LoadFault>
-    ensures { IfOk result (TellsLoad policy kernels.items PACKETS producers) }
+    ensures { IfOk result (TellsLoad policy kernels.items load_packets producers) }
 {
     let terms = LoadTerms {
         producers,

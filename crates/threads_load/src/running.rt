@@ -14,7 +14,7 @@ ghost use Rattle.core_model.specs.Rotation.{Rotates, entries_in};
 ghost use Rattle.core_model.specs.declared.entry.Entry.{Entry};
 ghost use Rattle.threads_load.specs.Counts.{AreCounts};
 ghost use Rattle.threads_load.specs.Rounds.{IsHandedOut, parts_of};
-ghost use Rattle.threads_load.specs.Stages.{AreOf, EachStaysOf, IsReady, IsStage, IsStageWith};
+ghost use Rattle.threads_load.specs.Stages.{AreOf, EachStaysOf, IsReady, IsStage, IsStageWith, KeepShares};
 ghost use Rattle.threads_load.specs.declared.plan.PlannedQueue.{PlannedQueue};
 
 use crate::bells::BellGate;
@@ -111,7 +111,7 @@ fn produce_all<B: Room + Send + Sync, R: Threads + Sync>(
 }
 
 // Lanes run. Each stays that of its queue.
-#[tactic(auto, using(crate::proofs::Planned::lanes_stay))]
+#[tactic(auto, using(crate::proofs::Planned::lanes_stay, crate::proofs::Shares::ran_keep))]
 fn run_all<B: Room + Send + Sync, R: Threads + Wait + Sync>(
     rt: &R,
     alloc: Global,
@@ -123,6 +123,7 @@ fn run_all<B: Room + Send + Sync, R: Threads + Wait + Sync>(
     ensures lanes { All (λ lane. IsLaneOf B.board broker.now lane) result.items }
     ensures queues { (queues : ℕ) → AreOf queues lanes.items → AreOf queues result.items }
     ensures settled { (parts : List Part) → AreSettledWith parts lanes.items → AreSettledWith parts result.items }
+    ensures shares { KeepShares lanes.items result.items }
 {
     let bells = BellGate { rt, broker, gate };
     run_lanes(rt, alloc, broker, lanes, &bells)
@@ -144,6 +145,7 @@ fn run_both<B: Room + Send + Sync, R: Threads + Wait + Sync>(
     ensures ends { All (λ end. IsEndOf broker.now end) result.0.items }
     ensures lanes { All (λ lane. IsLaneOf B.board broker.now lane) result.1.items }
     ensures settled { (parts : List Part) → AreSettledWith parts lanes.items → AreSettledWith parts result.1.items }
+    ensures shares { KeepShares lanes.items result.1.items }
 {
     thread::join(
         rt,
@@ -153,7 +155,7 @@ fn run_both<B: Room + Send + Sync, R: Threads + Wait + Sync>(
         { produce_all(rt, broker, plan, share, gate, ends) },
         move || -> Vec<Lane>
             requires { IsSend B.row × IsSync B.row × IsSync R.row × All (λ lane. IsLaneOf B.board broker.now lane) lanes.items }
-            ensures { All (λ lane. IsLaneOf B.board broker.entry.now lane) result.items × ((parts : List Part) → AreSettledWith parts lanes.items → AreSettledWith parts result.items) }
+            ensures { All (λ lane. IsLaneOf B.board broker.entry.now lane) result.items × ((parts : List Part) → AreSettledWith parts lanes.items → AreSettledWith parts result.items) × KeepShares lanes.items result.items }
         { run_all(rt, alloc, broker, lanes, gate) },
     )
 }
@@ -168,14 +170,14 @@ fn rotate<B: Room, R: Wait>(
 ) -> Result<Part, Refusal>
     requires { front.old.board ≡ B.board }
     ensures front { front.new.board ≡ B.board }
-    ensures section { IsSection B.opened front.old.left front.new.left (λ before after.
+    ensures section { IsSection B.opened front.old front.new (λ before after.
         Rotates before.history result after.history × IfOk result (λ part. IsLegalPart before.history.kernels part)) }
 {
     broker.with_core(rt, front, |core| core.rotate(alloc))
 }
 
 // Hands out the next part. It is a legal one.
-#[tactic(auto, using(crate::proofs::Handing::handed_legal, crate::proofs::Planned::section_begins))]
+#[tactic(auto, using(crate::proofs::Handing::handed_legal, crate::proofs::Planned::section_begins, crate::proofs::Shares::section_share))]
 fn rotate_next<B: Room, R: Wait>(
     rt: &R,
     alloc: Global,
@@ -185,6 +187,7 @@ fn rotate_next<B: Room, R: Wait>(
     requires { front.old.board ≡ B.board }
     ensures front { front.new.board ≡ B.board }
     ensures begins { IsPrefix front.old.left front.new.left }
+    ensures share { front.new.share ≡ front.old.share }
     ensures part { IfOk result (IsLegalPart B.opened.history.kernels) }
 {
     rotate(rt, alloc, broker, front)
@@ -212,6 +215,7 @@ fn settle_part(part: Part, settled: &mut SettledParts, lanes: &mut Vec<Lane>) ->
     ensures parts { settled.new ++ option_to_list result ≡ settled.old ++ part ∷ [] }
     ensures of { (board : TableId) (rings : List QueueRing) → All (λ lane. IsLaneOf board rings lane) lanes.old.items → All (λ lane. IsLaneOf board rings lane) lanes.new.items }
     ensures queues { (queues : ℕ) → AreOf queues lanes.old.items → AreOf queues lanes.new.items }
+    ensures shares { KeepShares lanes.old.items lanes.new.items }
 {
     match settled.settle(part, lanes) {
         Ok(()) => None,
@@ -232,6 +236,7 @@ fn take_part<B: Room, W: Watch>(
     requires parts { All (IsLegalPart B.opened.history.kernels) settled.old }
     ensures of { (board : TableId) (rings : List QueueRing) → All (λ lane. IsLaneOf board rings lane) lanes.old.items → All (λ lane. IsLaneOf board rings lane) lanes.new.items }
     ensures queues { (queues : ℕ) → AreOf queues lanes.old.items → AreOf queues lanes.new.items }
+    ensures shares { KeepShares lanes.old.items lanes.new.items }
     ensures settled { AreSettledWith settled.new lanes.new.items }
     ensures parts { All (IsLegalPart B.opened.history.kernels) settled.new }
     ensures left { IfOk result (λ left. All (IsLegalPart B.opened.history.kernels) (settled.new ++ option_to_list left)) }
@@ -261,8 +266,10 @@ fn hand_out<B: Room, R: Wait, W: Watch>(
     requires parts { All (IsLegalPart B.opened.history.kernels) settled.old }
     ensures front { front.new.board ≡ B.board }
     ensures begins { IsPrefix front.old.left front.new.left }
+    ensures share { front.new.share ≡ front.old.share }
     ensures lanes { All (λ lane. IsLaneOf B.board broker.now lane) lanes.new.items }
     ensures queues { (queues : ℕ) → AreOf queues lanes.old.items → AreOf queues lanes.new.items }
+    ensures shares { KeepShares lanes.old.items lanes.new.items }
     ensures settled { AreSettledWith settled.new lanes.new.items }
     ensures parts { All (IsLegalPart B.opened.history.kernels) settled.new }
     ensures left { IfOk result (λ left. All (IsLegalPart B.opened.history.kernels) (settled.new ++ option_to_list left)) }
@@ -304,8 +311,10 @@ fn run_rounds<B: Room + Send + Sync, R: Threads + Wait + Sync, W: Watch>(
     requires parts { All (IsLegalPart B.opened.history.kernels) settled.old }
     ensures front { front.new.board ≡ B.board }
     ensures begins { IsPrefix front.old.left front.new.left }
+    ensures share { front.new.share ≡ front.old.share }
     ensures lanes { All (λ lane. IsLaneOf B.board broker.now lane) result.0.items }
     ensures queues { (queues : ℕ) → AreOf queues lanes.items → AreOf queues result.0.items }
+    ensures shares { KeepShares lanes.items result.0.items }
     ensures settled { AreSettledWith settled.new result.0.items }
     ensures parts { All (IsLegalPart B.opened.history.kernels) settled.new }
     ensures left { IfOk result.1 (λ left. All (IsLegalPart B.opened.history.kernels) (settled.new ++ option_to_list left)) }
@@ -378,9 +387,10 @@ fn run_along<B: Room + Send + Sync, R: Threads + Wait + Sync, W: Watch>(
     requires front { front.board ≡ B.board }
     requires lanes { All (λ lane. IsLaneOf B.board broker.now lane) lanes.items }
     requires settled { AreSettledWith [] lanes.items }
-    ensures front { (result.0.board ≡ B.board) × IsPrefix front.left result.0.left }
+    ensures front { (result.0.board ≡ B.board) × IsPrefix front.left result.0.left × (result.0.share ≡ front.share) }
     ensures lanes { All (λ lane. IsLaneOf B.board broker.now lane) result.1.items }
     ensures queues { (queues : ℕ) → AreOf queues lanes.items → AreOf queues result.1.items }
+    ensures shares { KeepShares lanes.items result.1.items }
     ensures out { IsHandedOut B.opened.history.kernels result.1.items result.2 }
     ensures counts { (queues : ℕ) → AreCounts [] queues counts.items → IfOk result.3 (λ _. AreCounts (entries_in (parts_of result.2)) queues result.2.counts.items) }
 {
@@ -424,9 +434,10 @@ fn run_beside<B: Room + Send + Sync, R: Threads + Wait + Sync, W: Watch>(
     requires lanes { All (λ lane. IsLaneOf B.board broker.now lane) lanes.items }
     requires settled { AreSettledWith [] lanes.items }
     ensures ends { All (λ end. IsEndOf broker.now end) result.0.items }
-    ensures front { (result.1.0.board ≡ B.board) × IsPrefix front.left result.1.0.left }
+    ensures front { (result.1.0.board ≡ B.board) × IsPrefix front.left result.1.0.left × (result.1.0.share ≡ front.share) }
     ensures lanes { All (λ lane. IsLaneOf B.board broker.now lane) result.1.1.items }
     ensures queues { (queues : ℕ) → AreOf queues lanes.items → AreOf queues result.1.1.items }
+    ensures shares { KeepShares lanes.items result.1.1.items }
     ensures out { IsHandedOut B.opened.history.kernels result.1.1.items result.1.2 }
     ensures counts { (queues : ℕ) → AreCounts [] queues counts.items → IfOk result.1.3 (λ _. AreCounts (entries_in (parts_of result.1.2)) queues result.1.2.counts.items) }
 {
@@ -438,8 +449,8 @@ fn run_beside<B: Room + Send + Sync, R: Threads + Wait + Sync, W: Watch>(
         { produce_all(rt, broker, plan, share, gate, ends) },
         move || -> (Front, Vec<Lane>, HandedOut, Result<(), LoadFault>)
             requires { IsSend B.row × IsSync B.row × IsSync R.row × (front.board ≡ B.board) × All (λ lane. IsLaneOf B.board broker.now lane) lanes.items × AreSettledWith [] lanes.items }
-            ensures { ((result.0.board ≡ B.board) × IsPrefix front.left result.0.left) × All (λ lane. IsLaneOf B.board broker.entry.now lane) result.1.items
-                × ((queues : ℕ) → AreOf queues lanes.items → AreOf queues result.1.items) × IsHandedOut B.opened.history.kernels result.1.items result.2
+            ensures { ((result.0.board ≡ B.board) × IsPrefix front.left result.0.left × (result.0.share ≡ front.share)) × All (λ lane. IsLaneOf B.board broker.entry.now lane) result.1.items
+                × ((queues : ℕ) → AreOf queues lanes.items → AreOf queues result.1.items) × KeepShares lanes.items result.1.items × IsHandedOut B.opened.history.kernels result.1.items result.2
                 × ((queues : ℕ) → AreCounts [] queues counts.items → IfOk result.3 (λ _. AreCounts (entries_in (parts_of result.2)) queues result.2.counts.items)) }
         { run_along(rt, alloc, broker, front, lanes, counts, gate, watch) },
     )

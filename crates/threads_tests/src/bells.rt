@@ -5,6 +5,7 @@ ghost use Rattle.client_threads.specs.Running.{IsEndOf};
 ghost use Rattle.threads_load.specs.Stages.{IsStage};
 
 use crate::stages::{packet, publish_one, reaches, split_last_end, stage, unnamed};
+use aql_packet::{AgentHandle, ClientId, RegionHandle};
 use client_threads::{Broker, ClientEnd, Room, UnnamedBroker};
 use doorbell::Doorbell;
 use std::alloc::Global;
@@ -13,10 +14,24 @@ use std::sync::Wait;
 use std::sync::atomic::{AtomicU64, Ordering};
 use std::thread;
 use std::thread::Threads;
-use threads_load::Stage;
+use threads_load::{LoadGate, PlannedQueue, Share, Stage, produce};
 
 /// How many packets are published, each once the one before was heard.
 const PACKETS: u64 = 3;
+
+/// The plan of the first queue.
+const FIRST_PLANNED: [PlannedQueue; 1] = [PlannedQueue {
+    client: ClientId(1),
+    agent: AgentHandle(1),
+    region: RegionHandle(2),
+}];
+
+/// Nothing is published.
+const NOTHING: Share = Share {
+    packets: 0,
+    tries: 0,
+    are_renewed: false,
+};
 
 /// What a bell tells where a packet was not heard of: it frees the thread that waits.
 const NOT_HEARD: u64 = u64::MAX;
@@ -113,6 +128,74 @@ fn named_bells_tell<B: Room + Send + Sync, R: Threads + Wait + Sync>(
 // Whether those of a broker do.
 fn bells_tell<R: Threads + Wait + Sync>(rt: &R, alloc: Global) -> Option<(bool, bool)> {
     named_bells_tell::<Brand, R>(rt, alloc, unnamed(alloc)?)
+}
+
+// Waits at a bell once, and tells in a word that it rang. Whether it was a producer's end.
+fn hear_once<R: Wait>(rt: &R, bell: &Doorbell, heard: &AtomicU64) -> bool {
+    let told = bell.wait(rt);
+    heard.store(1, Ordering::SeqCst);
+    told != NOT_HEARD
+}
+
+// Ends a producer that publishes nothing.
+fn end_heard<B: Room>(
+    broker: &Broker<B>,
+    gate: &LoadGate,
+    end: &mut ClientEnd,
+    bell: &Doorbell,
+    heard: &AtomicU64,
+)
+    requires { IsEndOf broker.now end.old }
+    ensures { IsEndOf broker.now end.new }
+{
+    produce(broker, &FIRST_PLANNED, NOTHING, gate, end);
+    if !reaches(heard, 1) {
+        bell.ring(NOT_HEARD);
+    }
+}
+
+// Whether a thread that waits at a bell hears the end of a producer.
+fn end_tells<B: Room + Send + Sync, R: Threads + Wait + Sync>(
+    rt: &R,
+    broker: &Broker<B>,
+    gate: &LoadGate,
+    end: ClientEnd,
+    bell: &Doorbell,
+) -> bool
+    requires { IsEndOf broker.now end }
+{
+    let mut end = end;
+    let heard = AtomicU64::new(0);
+    let (told, _) = thread::join(
+        rt,
+        || hear_once(rt, bell, &heard),
+        || end_heard(broker, gate, &mut end, bell, &heard),
+    );
+    told
+}
+
+// Whether the end of the first queue's producer is heard at its bell, of a broker that gets its name.
+fn named_end_tells<B: Room + Send + Sync, R: Threads + Wait + Sync>(
+    rt: &R,
+    alloc: Global,
+    unnamed: UnnamedBroker,
+) -> Option<bool>
+    requires { (unnamed.board ≡ B.board) × (unnamed.core ≡ B.opened) }
+{
+    let gate = LoadGate::new(alloc, 1, 0).ok()?;
+    let (stage, end) = split_last_end(stage::<B>(alloc, unnamed, 1, 1)?)?;
+    let bell = stage.broker.doorbell(end.queue())?;
+    Some(end_tells(rt, &stage.broker, &gate, end, bell))
+}
+
+// The same, of a broker that is opened for it.
+fn an_end_tells<R: Threads + Wait + Sync>(rt: &R, alloc: Global) -> Option<bool> {
+    named_end_tells::<Brand, R>(rt, alloc, unnamed(alloc)?)
+}
+
+#[test]
+fn a_producers_end_is_heard_at_its_queues_bell(rt: HostRuntime) {
+    assert!(rt; an_end_tells(&rt, rt.alloc()) == Some(true));
 }
 
 #[test]

@@ -240,11 +240,10 @@ pub fn settle<B: Room>(alloc: Global, stage: Stage<B>, parts: &[Part]) -> Option
         ends,
         lanes,
     } = stage;
-    let mut front = front;
     match settle_all(
         alloc,
         broker,
-        &mut front,
+        front,
         &SettledParts::none(),
         parts,
         ends,

@@ -18,6 +18,7 @@ loop-planned-preserved g c = (
       c.args.plan.now c.loop-planned.planned-index _ within
       (c.in_ok-open_next.ensures.queues (take c.loop-planned.planned-index c.args.plan.now) (c.loop-planned.invariant.4 lanes)),
   λ keep. c.in_ok-open_next.ensures.keeps (c.loop-planned.invariant.5 keep),
+  c.in_ok-open_next.ensures.shares,
 )
 
 pub returns-clause-queues : goal.returns-clause-queues

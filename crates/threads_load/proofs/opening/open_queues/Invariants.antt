@@ -4,7 +4,7 @@ use Rattle.std.specs.Prelude.{All}
 use mathlib.Core.List.{IsPrefix}
 use Rattle.client_threads.specs.HandedOver.{KeepsAll}
 use Rattle.client_threads.specs.Running.{IsEndOf, IsLaneOf}
-use Rattle.threads_load.specs.Stages.{AreOf}
+use Rattle.threads_load.specs.Stages.{AreOf, HaveShares}
 use Rattle.threads_load.proofs.opening.open_queues.Given as goal
 
 abbrev pub invariant-loop-planned : goal.invariant-loop-planned
@@ -13,3 +13,4 @@ invariant-loop-planned g l =
     × IsPrefix l.initial.front.left l.front.left
     × (AreOf 0 l.initial.lanes.items → AreOf (length (take l.planned-index l.plan)) l.lanes.items)
     × (All KeepsAll l.initial.lanes.items → All KeepsAll l.lanes.items)
+    × HaveShares l.front l.lanes.items
