@@ -1,9 +1,9 @@
 #!/usr/bin/env python3
 """Runs `rt ci`, and behind it the trials of this folder on the programs that it has proved and built.
 
-The last line is `N passed, M failed` over all, and the status is 0 only where nothing failed. `rt ci` leaves each
-program that it has proved as crates/NAME/out/NAME. The trials are those of `make quick`, here on the proved program, and those
-that it leaves out. `make` builds the program unproved besides, and the versions of both are held. With a path, gate.py PROGRAM,
+The last line is `N passed, M failed` over all, and the status is 0 only where nothing failed; what failed is told once more
+above it. `rt ci` leaves each program that it has proved as crates/NAME/out/NAME. The trials are those of `make quick`, here on
+the proved program, and those that it leaves out. `make` builds the program unproved besides, and the versions of both are held. With a path, gate.py PROGRAM,
 the trials alone are run, on that one in place of brokerd.
 """
 import importlib.machinery
@@ -25,15 +25,22 @@ ARCHIVE = f"{TOP}/crates/hobbydresser_c/out/libhobbydresser_c.a"
 # the memory that a check takes at the most, in GB: the largest of a whole gate took 5.9
 MOST = 6
 PROVED = re.compile(r"brokerd [\d.]+ \(rattle-kit-\w+ logic [0-9a-f]{16}\)\n")
+# the lines that tell what failed, and how many of them are told once more
+WRONG = re.compile(r"NOT PROVED|FAILED|BAD EDIT|NOT TRIED|no verdict|not in the layout|^rt: .*(?:killed|signal)")
+WRONG_LINES = 40
+# the seconds after which what failed isn't run once more
+LATE = 6000
 
 
-def told(words):
-    """Runs a command and passes on what it prints: how many passed and failed, by its last line and its status."""
+def told(words, wrong):
+    """Runs a command and passes on what it prints: how many passed and failed, by its last line and its status. The lines that tell
+    what failed are kept."""
     last = ""
     with subprocess.Popen(words, cwd=TOP, stdout=subprocess.PIPE, text=True, errors="replace") as command:
         for line in command.stdout:
             print(line, end="", flush=True)
             last = line if line.strip() else last
+            wrong += [line.rstrip()] if WRONG.search(line) else []
     found = re.match(r"(\d+) passed, (\d+) failed", last)
     passed, failed = (int(found[1]), int(found[2])) if found else (0, 1)
     return passed, max(failed, 1) if command.returncode else failed
@@ -46,6 +53,18 @@ def checks_at_once():
     with open("/proc/meminfo", encoding="ascii") as it:
         free = int(re.search(r"MemAvailable:\s+(\d+)", it.read())[1]) / 2**20
     return max(1, min(len(os.sched_getaffinity(0)), int(free // MOST) + 1))
+
+
+def prove_all(wrong, since):
+    """Runs `rt ci`. Where something failed it is run once more with two checks at a time, over what the first run kept: a check that
+    was ended since others beside it had all the memory passes then, and what the prover refuses it refuses again."""
+    counts = told(["rt", "ci"], first := [])
+    if counts[1] and time.monotonic() - since < LATE:
+        print("== rt ci once more, two checks at a time, since there failed:", *first[:WRONG_LINES], sep="\n", flush=True)
+        os.environ["RT_JOBS"] = "2"
+        counts = told(["rt", "ci"], first := [])
+    wrong += first
+    return counts
 
 
 def know_proved_libraries():
@@ -100,21 +119,23 @@ def tell_cost(watch, since):
 
 
 def main(program=None):
-    counts, watch, since = [], None, time.monotonic()
+    counts, watch, since, wrong = [], None, time.monotonic(), []
     if not program:
         os.environ.setdefault("RT_JOBS", str(checks_at_once()))
         with Watch() as watch:
-            counts.append(told(["rt", "ci"]))
+            counts.append(prove_all(wrong, since))
         build_archive()
         program = f"{TOP}/crates/brokerd/out/brokerd"
         counts.append(try_versions(program))
-    counts.append(told([sys.executable, "-B", f"{HERE}/quick.py", os.path.abspath(program), ARCHIVE]))
+    counts.append(told([sys.executable, "-B", f"{HERE}/quick.py", os.path.abspath(program), ARCHIVE], wrong))
     for script in "joins.py", "wants.py":
         print(f"== {script}", flush=True)
-        counts.append(told([sys.executable, "-B", f"{HERE}/{script}", BENCH]))
+        counts.append(told([sys.executable, "-B", f"{HERE}/{script}", BENCH], wrong))
     if watch:
         tell_cost(watch, since)
     passed, failed = (sum(column) for column in zip(*counts))
+    if wrong:
+        print("what failed:", *wrong[:WRONG_LINES], sep="\n")
     print(f"{passed} passed, {failed} failed")
     sys.exit(1 if failed else 0)
 

@@ -59,11 +59,10 @@ fn is_settled<B: Room>(alloc: Global, stage: Stage<B>, gate: &LoadGate) -> bool
         ends,
         lanes,
     } = stage;
-    let mut front = front;
     match settle_all(
         alloc,
         broker,
-        &mut front,
+        front,
         &SettledParts::none(),
         &[],
         ends,

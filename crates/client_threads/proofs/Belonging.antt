@@ -8,7 +8,7 @@ use Rattle.aql_packet.specs.declared.ids.QueueId.{QueueId}
 use Rattle.ring.specs.Passes.{RingSeen, ProducerSeen, ProcessorSeen}
 use Rattle.ring.specs.Dealt.{dealt, new_producer_pass, new_processor_pass}
 use Rattle.client_threads.specs.declared.client_end.ClientEnd.{ClientEnd}
-use Rattle.client_threads.specs.Boards.{PassSeen}
+use Rattle.client_threads.specs.Boards.{FrontSeen}
 use Rattle.client_threads.specs.Lanes.{LaneSeen}
 use Rattle.client_threads.specs.Opening.{IsOpened, as_end}
 use Rattle.client_threads.specs.Rings.{IsOf, IsRingOf, QueueRing, ring_of}
@@ -38,7 +38,7 @@ ends_belong queue new ring is [] h k d lt = absurd (omega (arith, lt))
 ends_belong queue new ring is (p ∷ ps) h zero d lt = record { is = (ring, is, h zero p (omega arith)) }
 ends_belong queue new ring is (p ∷ ps) h (suc k) d lt = ends_belong queue new ring is ps (λ j e l. h (suc j) e (omega (arith, l))) k d (omega (arith, lt))
 
-module _ (old new : List QueueRing) (size producers : ℕ) (front : PassSeen) (queue : QueueId) (ends : List ClientEnd) (lane : LaneSeen) (h : IsOpened old size producers front queue ends lane new) where
+module _ (old new : List QueueRing) (size producers : ℕ) (front : FrontSeen) (queue : QueueId) (ends : List ClientEnd) (lane : LaneSeen) (h : IsOpened old size producers front queue ends lane new) where
   new_ring : IsRingOf new queue.0 h.ring
   new_ring = ap (ring_of queue.0) h.rings ∙ ring_new queue.0 old h.ring h.fresh (same_number queue.0)
 

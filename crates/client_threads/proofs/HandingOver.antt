@@ -12,6 +12,7 @@ use Rattle.core_model.specs.declared.origin.Origin.{Origin}
 use Rattle.core_model.specs.declared.served.Served.{Served}
 use Rattle.client_threads.specs.HandedOver.{AreSettledWith, KeepsAll, handed_over, kept_by, kept_in}
 use Rattle.client_threads.specs.Lanes.{LaneSeen}
+use Rattle.access_core.specs.Cores.{Core}
 use Rattle.client_threads.specs.Rings.{QueueRing}
 use Rattle.client_threads.specs.Running.{EachGoesOn, GoesOn, IsLaneOf}
 use Rattle.client_threads.specs.Takes.{AllAgree, DiffersAt, IsLeastMismatch, lane_at, served_by, served_in, takes}
@@ -28,8 +29,8 @@ Went (Some old) (Some new) = GoesOn old new
 Went None (Some new) = ⊥
 Went (Some old) None = ⊥
 
-module _ (board : TableId) (rings : List QueueRing) (queue : ℕ) where
-  went : (old new : List LaneSeen) → length new ≡ length old → EachGoesOn board rings old new → Went (lane_at queue old) (lane_at queue new)
+module _ (opened : Core) (board : TableId) (rings : List QueueRing) (queue : ℕ) where
+  went : (old new : List LaneSeen) → length new ≡ length old → EachGoesOn opened board rings old new → Went (lane_at queue old) (lane_at queue new)
   unfolding Went
   went [] [] same each = tt
   went [] (y ∷ ys) same each = absurd (omega (arith, same))
@@ -49,9 +50,9 @@ went_settled (Some old) (Some new) taken w h =
     w.served ∙ ap (λ xs. xs ++ w.more) h ∙ append_assoc taken old.kept w.more ∙ ap (λ xs. taken ++ xs) (sym w.kept)
 
 -- parts that were settled with lanes are still, once these have gone on
-pub still_settled : (board : TableId) (rings : List QueueRing) (old new : List LaneSeen) → length new ≡ length old → EachGoesOn board rings old new → (parts : List Part) → AreSettledWith parts old → AreSettledWith parts new
-still_settled board rings old new same each parts h =
-    λ queue. went_settled (lane_at queue old) (lane_at queue new) (takes (entries_in parts) queue) (went board rings queue old new same each) (h queue)
+pub still_settled : (opened : Core) (board : TableId) (rings : List QueueRing) (old new : List LaneSeen) → length new ≡ length old → EachGoesOn opened board rings old new → (parts : List Part) → AreSettledWith parts old → AreSettledWith parts new
+still_settled opened board rings old new same each parts h =
+    λ queue. went_settled (lane_at queue old) (lane_at queue new) (takes (entries_in parts) queue) (went opened board rings queue old new same each) (h queue)
 
 -- ---- lanes that keep all
 

@@ -24,7 +24,7 @@ use Rattle.core_model.specs.declared.outcome.Taken.{Taken}
 use Rattle.core_model.specs.declared.served.Served.{Served}
 use Rattle.client_threads.specs.declared.pending.PendingPacket.{PendingPacket}
 use Rattle.client_threads.specs.Advancing.{IsOfItsKind, is_barrier_among, is_some_barrier}
-use Rattle.client_threads.specs.Boards.{PassSeen}
+use Rattle.client_threads.specs.Boards.{FrontSeen}
 use Rattle.client_threads.specs.Serving.{take_of, served_of}
 use Rattle.client_threads.specs.inner.Kept.{Keeps, seen_as, served_as, served_from, served_of_pass}
 use Rattle.client_threads.specs.inner.Turns.{IsHanded}
@@ -108,7 +108,7 @@ known_more served one pending p h id kind =
       kinds = All-push (IsOfItsKind (served ++ one ∷ [])) pending p old.kinds (kind ∙ ap is_barrier_among (sym (get_last served one p.id.0 id)));
     }
 
-module _ (queue : QueueId) (pass : ProcessorSeen) (kept : List Served) (handed : ℕ) (pending : List PendingPacket) (front : PassSeen) where
+module _ (queue : QueueId) (pass : ProcessorSeen) (kept : List Served) (handed : ℕ) (pending : List PendingPacket) (front : FrontSeen) where
   pub known_of : Keeps queue pass kept handed pending front → AreKnown (served_of_pass pass) pending
   known_of h = record { below = h.lane.pending; kinds = h.kinds }
 
@@ -177,7 +177,7 @@ looked_rests ring old new peeked.Empty h = ap (λ p. (as_processor p).raising) h
 looked_rests ring old new (peeked.Shown shown) h = ap (λ p. (as_processor p).raising) h.2.1.1
 
 -- a lane that only looked keeps what a lane keeps
-pub looked_keeps : (ring : RingSeen) (queue : QueueId) (pass mid : ProcessorSeen) (kept : List Served) (handed : ℕ) (pending : List PendingPacket) (front : PassSeen) (found : Peeked)
+pub looked_keeps : (ring : RingSeen) (queue : QueueId) (pass mid : ProcessorSeen) (kept : List Served) (handed : ℕ) (pending : List PendingPacket) (front : FrontSeen) (found : Peeked)
     → Keeps queue pass kept handed pending front → HasPeeked ring pass found mid → mid.part.retired ≡ pass.part.retired → Keeps queue mid kept handed pending front
 looked_keeps ring queue pass mid kept handed pending front found h looked leaves =
     let same : served_of_pass mid ≡ served_of_pass pass = ap (served_from 0) leaves in
@@ -199,13 +199,13 @@ looked_keeps ring queue pass mid kept handed pending front found h looked leaves
     }
 
 -- and it is as before but for its pass
-pub looked_as : (queue : QueueId) (pass mid : ProcessorSeen) (kept : List Served) (pending : List PendingPacket) (front : PassSeen) → mid.part.retired ≡ pass.part.retired
+pub looked_as : (queue : QueueId) (pass mid : ProcessorSeen) (kept : List Served) (pending : List PendingPacket) (front : FrontSeen) → mid.part.retired ≡ pass.part.retired
     → seen_as queue mid kept pending front ≡ record (seen_as queue pass kept pending front) { pass = mid }
 looked_as queue pass mid kept pending front leaves =
     ap (λ (ss : List Served). record { queue = queue; pass = mid; served = ss; kept = kept; pending = ids_of pending; front = front }) (ap (served_from 0) leaves)
 
 -- so does the lane of a queue that opens
-module _ (queue : QueueId) (pass : ProcessorSeen) (front : PassSeen) (none : pass.part.retired ≡ []) where
+module _ (queue : QueueId) (pass : ProcessorSeen) (front : FrontSeen) (none : pass.part.retired ≡ []) where
   pub opened_keeps : queue.0 ≤ most_queues → pass.part.raising ≡ false → Keeps queue pass [] 0 [] front
   opened_keeps few resting =
       let count : length pass.part.retired ≡ 0 = ap length none in

@@ -25,3 +25,7 @@ pub mod Runs
 pub mod Numbers
 pub mod Turning
 pub mod Showing
+pub mod TurnsMade
+pub mod Gathering
+pub mod OwnEntries
+pub mod Places

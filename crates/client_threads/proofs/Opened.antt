@@ -29,18 +29,19 @@ use Rattle.core_model.specs.declared.origin.Opening.{Opening}
 use Rattle.core_model.proofs.More.{openings-more}
 use Rattle.ring_core.specs.Machine.{is_producer_count, judged_size}
 use Rattle.ring.specs.Dealt.{dealt, new_processor_pass}
+use Rattle.ring.specs.Passes.{ProcessorSeen}
 use Rattle.access_core.specs.Cores.{Core}
 use Rattle.access_core.specs.Opening.{program_of}
 use Rattle.access_core.specs.declared.kernel.Kernel.{Kernel}
-use Rattle.client_threads.specs.Boards.{PassSeen}
-use Rattle.client_threads.specs.Opening.{AreOpened, HasOpened, IsOneOfFew, IsOpened, OpensQueue, as_end, next_queue, opened_so_far}
+use Rattle.client_threads.specs.Boards.{FrontSeen}
+use Rattle.client_threads.specs.Opening.{AreOpened, HasOpened, IsOneOfFew, IsOpened, OpensQueue, as_end, new_lane, next_queue, opened_so_far}
 use Rattle.client_threads.specs.Rings.{AreApart, QueueRing, ring_of}
 use Rattle.client_threads.specs.Sections.{AllFollow, Appends, IsFirst, last_of}
 use Rattle.client_threads.specs.declared.client_end.ClientEnd.{ClientEnd}
 use Rattle.client_threads.specs.declared.opening.Beside.{Beside}
 use Rattle.client_threads.specs.Desks.{seen}
 use Rattle.client_threads.specs.Lanes.{LaneSeen}
-use Rattle.client_threads.specs.inner.Openings.{HasEntered, IsBeside, IsOpenable}
+use Rattle.client_threads.specs.inner.Openings.{HasEntered, IsBeside, IsOpenable, IsUnused}
 use Rattle.client_threads.proofs.Apart.{apart_more}
 use Rattle.client_threads.proofs.Calls.{answered_meets}
 use Rattle.client_threads.proofs.Numbers.{equal_le, never_behind, next_positive, opened_grows, trans_le}
@@ -181,13 +182,13 @@ opening_appends asked before after reply (inl met) = call_appends asked before a
 opening_appends asked before after reply (inr behind) = record { more = []; history = behind.history_is ∙ none_more before }
 
 -- the rings of a broker stand opened behind a section that opens a queue, or is refused
-module _ {X : Type 0} (queue : X → QueueId) (ends : X → List ClientEnd) (lane : X → LaneSeen) (core : Core) (before : History) (client : ClientId) (agent : AgentHandle) (size asked producers : ℕ) (front : PassSeen) (old new : List QueueRing) where
-  pub opened_behind : (result : Result X Refusal) → AreOpened core old
+module _ {X : Type 0} (queue : X → QueueId) (ends : X → List ClientEnd) (lane : X → FrontSeen → LaneSeen) (core : Core) (before : History) (client : ClientId) (agent : AgentHandle) (size asked producers : ℕ) (old new : List QueueRing) where
+  pub opened_behind : (result : Result X Refusal) (any : FrontSeen) → AreOpened core old
       → OpensQueue (Open client agent size) before (map_ok (λ o. outcome.Opened (queue o)) result) core.history
-      → IfOk result (λ o. IsOpened old asked producers front (queue o) (ends o) (lane o) new) → IfErr result (λ _. new ≡ old) → AreOpened core new
-  opened_behind (Ok o) are opens made refused =
-      subst (AreOpened core) (sym made.rings) (opened_more core old _ are (opened_number before client agent size core.history (queue o) (opened_by_core (Open client agent size) before core.history (outcome.Opened (queue o)) opens)))
-  opened_behind (Err why) are opens made refused = subst (AreOpened core) (sym refused) are
+      → ((its : FrontSeen) → IfOk result (λ o. IsOpened old asked producers its (queue o) (ends o) (lane o its) new)) → IfErr result (λ _. new ≡ old) → AreOpened core new
+  opened_behind (Ok o) any are opens made refused =
+      subst (AreOpened core) (sym (made any).rings) (opened_more core old _ are (opened_number before client agent size core.history (queue o) (opened_by_core (Open client agent size) before core.history (outcome.Opened (queue o)) opens)))
+  opened_behind (Err why) any are opens made refused = subst (AreOpened core) (sym refused) are
 
 module _ (h : History) (client : ClientId) (agent : AgentHandle) (size : ℕ) where
   abbrev Asked : Event
@@ -223,9 +224,9 @@ module _ (h : History) (client : ClientId) (agent : AgentHandle) (size : ℕ) wh
   entered_apart rings made o fresh apart = apart_more rings (seen made.desk) apart (ap (λ n. ring_of n rings) o.next ∙ fresh)
 
 -- what was made and entered is opened
-pub entered_opened : (old new : List QueueRing) (size producers : ℕ) (front : PassSeen) (next queue : QueueId) (made : Beside) (ends : List ClientEnd) (lane : LaneSeen)
-    → IsBeside next (judged_size size producers) producers front made → (h : History) (call : Event) → IsOpenable h call next → ring_of (next_queue h) old ≡ None → HasEntered made old new queue ends lane → IsOpened old size producers front queue ends lane new
-entered_opened old new size producers front next queue made ends lane beside h call openable fresh entered =
+pub entered_opened : (old new : List QueueRing) (size producers : ℕ) (next queue : QueueId) (made : Beside) (ends : List ClientEnd) (pass : ProcessorSeen)
+    → IsBeside next (judged_size size producers) producers made → (h : History) (call : Event) → IsOpenable h call next → ring_of (next_queue h) old ≡ None → HasEntered made old new queue ends pass → (front : FrontSeen) → IsOpened old size producers front queue ends (new_lane queue pass front) new
+entered_opened old new size producers next queue made ends pass beside h call openable fresh entered front =
     let same : next ≡ queue = sym (entered.queue_is ∙ beside.queue_is) in
     record {
       ring = (seen made.desk).ring;
@@ -234,18 +235,17 @@ entered_opened old new size producers front next queue made ends lane beside h c
       fresh = ap (λ (q : QueueId). ring_of q.0 old) (sym same) ∙ (ap (λ n. ring_of n old) openable.next ∙ fresh);
       rings = entered.rings_are ∙ ap (λ (q : QueueId). old ++ record { queue = q.0; ring = (seen made.desk).ring } ∷ []) (sym entered.queue_is);
       ends_are = entered.ends_are ∙ beside.ends_are ∙ ap (λ (q : QueueId). map (as_end q) (dealt (seen made.desk).ring.table producers)) same;
-      lane_is = entered.lane_is ∙ beside.lane_is ∙ ap (λ (q : QueueId). record { queue = q; pass = new_processor_pass (seen made.desk).ring.table; served = []; kept = []; pending = []; front = front }) same;
+      lane_is = ap (λ (p : ProcessorSeen). new_lane queue p front) (entered.pass_is ∙ beside.pass_is);
     }
 
--- a queue whose lane sees a further front is opened, with a lane that has seen that
-pub seen_opened : (old new : List QueueRing) (size producers : ℕ) (before after : PassSeen) (queue : QueueId) (ends : List ClientEnd) (lane : LaneSeen)
-    → IsOpened old size producers before queue ends lane new → IsOpened old size producers after queue ends (record lane { front = after }) new
-seen_opened old new size producers before after queue ends lane h = record {
-  ring = h.ring;
-  size_is = h.size_is;
-  producers_is = h.producers_is;
-  fresh = h.fresh;
-  rings = h.rings;
-  ends_are = h.ends_are;
-  lane_is = ap (λ (l : LaneSeen). record l { front = after }) h.lane_is;
-}
+-- the pass of a queue that was opened retired nothing
+pub entered_unused : (old new : List QueueRing) (size producers : ℕ) (next queue : QueueId) (made : Beside) (ends : List ClientEnd) (pass : ProcessorSeen) → IsBeside next size producers made
+    → (h : History) (call : Event) → IsOpenable h call next → HasEntered made old new queue ends pass → IsUnused queue pass
+entered_unused old new size producers next queue made ends pass beside h call openable entered =
+    let same : queue ≡ next = entered.queue_is ∙ beside.queue_is in
+    let is : pass ≡ new_processor_pass (seen made.desk).ring.table = entered.pass_is ∙ beside.pass_is in
+    record {
+      few = subst (λ (q : QueueId). q.0 ≤ most_queues) (sym same) openable.few;
+      none = ap (λ (p : ProcessorSeen). p.part.retired) is;
+      resting = ap (λ (p : ProcessorSeen). p.part.raising) is;
+    }

@@ -19,7 +19,7 @@ use Rattle.client_threads.specs.declared.pending.PendingPacket.{PendingPacket}
 use Rattle.client_threads.specs.declared.advancing.Advanced.{Advanced}
 use Rattle.client_threads.specs.declared.advancing.Advanced.TheVariants as advanced
 use Rattle.client_threads.specs.Advancing.{AdvancesTo, IsAdvanced, IsLastCall, IsOfItsKind, leaves, served_barrier, told}
-use Rattle.client_threads.specs.Boards.{PassSeen}
+use Rattle.client_threads.specs.Boards.{FrontSeen}
 use Rattle.client_threads.specs.Lanes.{IsLane, LaneSeen, ids_of}
 use Rattle.client_threads.specs.inner.Kept.{Keeps, seen_as, served_of_pass}
 
@@ -32,7 +32,7 @@ first_removed (q ∷ qs) p lt is = ap (λ x. x ∷ qs) (sym is)
 abbrev pub IsSame : PendingPacket → PendingPacket → Type 0
 IsSame q p = (q.id ≡ p.id) × (q.is_barrier ≡ p.is_barrier)
 
-module _ (queue : QueueId) (pass : ProcessorSeen) (kept : List Served) (handed : ℕ) (front : PassSeen) (p q : PendingPacket) (same : IsSame q p) (rest : List PendingPacket) where
+module _ (queue : QueueId) (pass : ProcessorSeen) (kept : List Served) (handed : ℕ) (front : FrontSeen) (p q : PendingPacket) (same : IsSame q p) (rest : List PendingPacket) where
   others : {X : Type 0} (P : X → Type 0) (x : X) (xs : List X) → All P (x ∷ xs) → All P xs
   others P x xs h k d lt = h (suc k) d (omega (arith, lt))
 
@@ -102,7 +102,7 @@ advances old before (advanced.Refused p why) new after id reply is h = h
 
 -- ---- by the steps of the code
 
-module _ (queue : QueueId) (pass : ProcessorSeen) (kept : List Served) (handed : ℕ) (front : PassSeen) (old removed : List PendingPacket) (p q : PendingPacket) (same : IsSame q p)
+module _ (queue : QueueId) (pass : ProcessorSeen) (kept : List Served) (handed : ℕ) (front : FrontSeen) (old removed : List PendingPacket) (p q : PendingPacket) (same : IsSame q p)
     (keeps : Keeps queue pass kept handed old front) (some : 0 < length old) (first : p ≡ slice_index_or old 0 p) (are : removed ≡ remove old 0) where
   parted : old ≡ p ∷ removed
   parted = first_removed old p some first ∙ ap (λ (ps : List PendingPacket). p ∷ ps) (sym are)

@@ -10,7 +10,7 @@ use Rattle.core_model.specs.States.{state_after}
 use Rattle.core_model.specs.declared.entry.Entry.{Entry}
 use Rattle.core_model.specs.declared.served.Served.{Served}
 use Rattle.access_core.specs.Cores.{Core}
-use Rattle.client_threads.specs.Boards.{Compared}
+use Rattle.client_threads.specs.Boards.{Compared, FrontSeen, with_section}
 use Rattle.client_threads.specs.Sections.{AllFollow, Appends, Follows, IsFirst, IsNext, IsSection, Stand, gone, last_of, seen_entries, whole}
 use Rattle.client_threads.specs.Takes.{takes}
 use Rattle.client_threads.proofs.Differences.{takes-append}
@@ -83,7 +83,7 @@ step_by e a b f true is =
     f.goes in
     subst (λ (w : List Entry). IsPrefix (e ++ a.entries) (w ++ b.entries)) (sym (append-nil e)) (behind e a.entries b.entries p)
 
-step : (e : List Entry) (a b : Core) → Follows a.history b.history → IsPrefix (e ++ a.history.entries) ((e ++ gone a b) ++ b.history.entries)
+pub step : (e : List Entry) (a b : Core) → Follows a.history b.history → IsPrefix (e ++ a.history.entries) ((e ++ gone a b) ++ b.history.entries)
 step e a b f = step_by e a.history b.history f (b.history.origin.before == a.history.origin.before) refl
 
 pub grows : (e : List Entry) (core : Core) (left : List Core) → AllFollow core left → IsPrefix (e ++ core.history.entries) (whole e core left)
@@ -173,8 +173,8 @@ served_stand opened served queue seen before core more first s p all is =
 -- ---- a section
 
 -- what is known of a core that is lent and left makes a section
-pub section_of : {Did : Core → Core → Type 0} (opened : Core) (seen new left : List Core) (old core : Core) → IsFirst opened → AllFollow opened left → last_of opened left ≡ old → IsPrefix seen left → IsLegal (beginning old.history) old.history.entries
-    → IsNext old core → Did old core → new ≡ left ++ core ∷ [] → IsSection opened seen new Did
+pub section_of : {Did : Core → Core → Type 0} (opened : Core) (seen new : FrontSeen) (left : List Core) (old core : Core) → IsFirst opened → AllFollow opened left → last_of opened left ≡ old → IsPrefix seen.left left → IsLegal (beginning old.history) old.history.entries
+    → IsNext old core → Did old core → new ≡ with_section seen left core → IsSection opened seen new Did
 section_of {Did} opened seen new left old core first all last begins legal next did is = record {
   before = left;
   begins = begins;

@@ -37,7 +37,7 @@ use Rattle.client_threads.specs.declared.serving.ServeAnswer.{ServeAnswer}
 use Rattle.client_threads.specs.declared.serving.ServeAnswer.TheVariants.{Empty, Launched, Denied, Waiting, Refused}
 use Rattle.client_threads.specs.Advancing.{AdvancesTo, IsAdvanced, IsLastCall, next_call}
 use Rattle.access_core.specs.Cores.{Core}
-use Rattle.client_threads.specs.Boards.{PassSeen}
+use Rattle.client_threads.specs.Boards.{FrontSeen}
 use Rattle.client_threads.specs.Lanes.{LaneSeen}
 use Rattle.client_threads.specs.Running.{GoesOn}
 use Rattle.client_threads.specs.Sections.{AllFollow, Appends, IsFirst, Stand, last_of, seen_entries}
@@ -244,7 +244,7 @@ serves_both one two three before mid after a b = record {
 
 -- a lane that served in a section went on, and its front is as before
 pub served_goes_on : (old new : LaneSeen) (before after : History) → ServesIn old before new after → GoesOn old new
-served_goes_on old new before after h = record { queue = h.queue; table = h.table; more = takes h.entries old.queue.0; served = h.served; kept = h.kept }
+served_goes_on old new before after h = record { queue = h.queue; table = h.table; share = ap (λ (f : FrontSeen). f.share) h.front; more = takes h.entries old.queue.0; served = h.served; kept = h.kept }
 
 pub served_appends : (old new : LaneSeen) (before after : History) → ServesIn old before new after → Appends before after
 served_appends old new before after h = record { more = h.entries; history = h.history }
@@ -252,10 +252,10 @@ served_appends old new before after h = record { more = h.entries; history = h.h
 -- ---- in a section
 
 -- a lane that served in a section and sees what it left went on, and what it served stands in that
-pub turn_on : (old mid : LaneSeen) (front : PassSeen) (before after : History) → ServesIn old before mid after → GoesOn old (record mid { front = front })
-turn_on old mid front before after h = record { queue = h.queue; table = h.table; more = takes h.entries old.queue.0; served = h.served; kept = h.kept }
+pub turn_on : (old mid : LaneSeen) (front : FrontSeen) (before after : History) → ServesIn old before mid after → front.share ≡ old.front.share → GoesOn old (record mid { front = front })
+turn_on old mid front before after h share = record { queue = h.queue; table = h.table; share = share; more = takes h.entries old.queue.0; served = h.served; kept = h.kept }
 
-pub turn_stands : (opened : Core) (left : List Core) (before core : Core) (old mid : LaneSeen) (front : PassSeen) → IsFirst opened → AllFollow opened left → last_of opened left ≡ before → IsPrefix old.front.left left → StandsIn old
+pub turn_stands : (opened : Core) (left : List Core) (before core : Core) (old mid : LaneSeen) (front : FrontSeen) → IsFirst opened → AllFollow opened left → last_of opened left ≡ before → IsPrefix old.front.left left → StandsIn old
     → ServesIn old before.history mid core.history → front.left ≡ left ++ core ∷ [] → StandsIn (record mid { front = front })
 turn_stands opened left before core old mid front first all last begins stands h is =
     let history : core.history ≡ record (last_of opened left).history { entries = (last_of opened left).history.entries ++ h.entries } = h.history ∙ ap (λ (c : Core). record c.history { entries = c.history.entries ++ h.entries }) (sym last) in

@@ -28,6 +28,11 @@ KeepsAll lane = lane.kept ≡ lane.served
 abbrev pub handed_over : LaneSeen → LaneSeen
 handed_over lane = record lane { kept = [] }
 
+-- the number of each cause that is a refusal
+abbrev pub number_of_part_fault : PartFault → Option ℕ
+number_of_part_fault fault.NotNext = Some 4
+number_of_part_fault (fault.Mismatch queue id) = None
+
 -- why a part isn't settled behind others, in this order: they don't lead to where it begins; they do, and this is the least queue and the
 -- least id at which what all of them took and what the lanes served differ (own)
 abbrev pub IsUnsettledPartFor : List Part → Part → List LaneSeen → PartFault → Type 0

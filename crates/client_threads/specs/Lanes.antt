@@ -7,17 +7,24 @@ use Rattle.ring.specs.Bytes.{words_of}
 use Rattle.ring.specs.Passes.{ProcessorSeen}
 use Rattle.core_model.specs.declared.served.Served.{Served}
 use Rattle.client_threads.specs.declared.pending.PendingPacket.{PendingPacket}
-use Rattle.client_threads.specs.Boards.{PassSeen}
+use Rattle.client_threads.specs.Boards.{FrontSeen}
 
--- a lane: its queue, its pass, what it served, the last of that, which it has not handed over, which of it is pending, and the states of
--- the core that it has seen
+-- a lane: its queue, its pass, what it served, the last of that, which it has not handed over, which of it is pending, and its front
 pub record LaneSeen : Type 0 where
   pub queue : QueueId
   pub pass : ProcessorSeen
   pub served : List Served
   pub kept : List Served
   pub pending : List PacketId
-  pub front : PassSeen
+  pub front : FrontSeen
+
+-- the share of a lane's front
+abbrev pub share_of : LaneSeen → ℕ
+share_of lane = lane.front.share
+
+-- the places of the sections that were made through it
+abbrev pub own_of : LaneSeen → List ℕ
+own_of lane = lane.front.own
 
 -- served packets stand under their ids, in order from one on
 abbrev pub AreNumbered : ℕ → List Served → Type 0

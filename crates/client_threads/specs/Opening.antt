@@ -22,10 +22,10 @@ use Rattle.access_core.specs.Opening.{Opens}
 use Rattle.access_core.specs.declared.access.OpenFault.{OpenFault}
 use Rattle.access_core.specs.declared.kernel.Kernel.{Kernel}
 use Rattle.ring_core.specs.Machine.{judged_size}
-use Rattle.ring.specs.Passes.{RingSeen, ProducerSeen}
+use Rattle.ring.specs.Passes.{RingSeen, ProcessorSeen, ProducerSeen}
 use Rattle.ring.specs.Dealt.{dealt, new_processor_pass}
 use Rattle.client_threads.specs.declared.client_end.ClientEnd.{ClientEnd}
-use Rattle.client_threads.specs.Boards.{PassSeen}
+use Rattle.client_threads.specs.Boards.{FrontSeen}
 use Rattle.client_threads.specs.Lanes.{LaneSeen}
 use Rattle.client_threads.specs.Rings.{QueueRing, ring_of}
 
@@ -79,13 +79,22 @@ AreOpened core (r ∷ rs) = HasOpened core r.queue × AreOpened core rs
 abbrev pub as_end : QueueId → ProducerSeen → ClientEnd
 as_end queue pass = record { queue = queue; pass = pass }
 
--- a queue was opened: it has a ring of this size, which it had not, with an end for each of its producers, and a lane that served nothing
--- and has seen what this front has
-pub record IsOpened (old : List QueueRing) (size producers : ℕ) (front : PassSeen) (queue : QueueId) (ends : List ClientEnd) (lane : LaneSeen) (new : List QueueRing) : Type 0 where
+-- a lane that served nothing
+abbrev pub new_lane : QueueId → ProcessorSeen → FrontSeen → LaneSeen
+new_lane queue pass front = record { queue = queue; pass = pass; served = []; kept = []; pending = []; front = front }
+
+-- a queue was opened: it has a ring of this size, which it had not, with an end for each of its producers, and a lane that served nothing,
+-- with this front
+pub record IsOpened (old : List QueueRing) (size producers : ℕ) (front : FrontSeen) (queue : QueueId) (ends : List ClientEnd) (lane : LaneSeen) (new : List QueueRing) : Type 0 where
   pub ring : RingSeen
   pub size_is : ring.size ≡ size
   pub producers_is : ring.producers ≡ producers
   pub fresh : ring_of queue.0 old ≡ None
   pub rings : new ≡ old ++ record { queue = queue.0; ring = ring } ∷ []
   pub ends_are : ends ≡ map (as_end queue) (dealt ring.table producers)
-  pub lane_is : lane ≡ record { queue = queue; pass = new_processor_pass ring.table; served = []; kept = []; pending = []; front = front }
+  pub lane_is : lane ≡ new_lane queue (new_processor_pass ring.table) front
+
+-- the front of an opening before the lane that was opened got a share of it
+abbrev pub before_lane : {X : Type 0} → Result X Refusal → FrontSeen → FrontSeen
+before_lane (Ok opened) front = record front { share = front.share + 1 }
+before_lane (Err why) front = front

@@ -1,5 +1,5 @@
 -- Sections under the lock: what each leaves to the next, and what they come to in all (own).
-use Rattle.std.specs.Prelude.{◌≡◌, ◌⊎◌, ℕ, ◌==◌, Bool, if◌then◌else◌, List, [], ◌∷◌, ◌++◌, ⊤}
+use Rattle.std.specs.Prelude.{◌≡◌, ◌⊎◌, ℕ, zero, suc, ◌==◌, Bool, if◌then◌else◌, List, [], ◌∷◌, ◌++◌, drop, length, ⊤}
 use mathlib.Core.List.{IsPrefix}
 use Rattle.core_model.specs.History.{History, beginning}
 use Rattle.core_model.specs.Legal.{IsLegal, IsOpening}
@@ -7,6 +7,7 @@ use Rattle.core_model.specs.States.{state_after}
 use Rattle.core_model.specs.declared.entry.Entry.{Entry}
 use Rattle.core_model.specs.declared.served.Served.{Served}
 use Rattle.access_core.specs.Cores.{Core}
+use Rattle.client_threads.specs.Boards.{FrontSeen, with_section}
 
 -- a history goes on from another, with its kernels, room and declared policy: entries were added; or first all that the other has were
 -- handed out, and it begins from the state behind them
@@ -44,17 +45,26 @@ abbrev pub AllFollow : Core → List Core → Type 0
 AllFollow opened [] = ⊤
 AllFollow opened (core ∷ rest) = IsNext opened core × AllFollow core rest
 
--- A section: it began with what the last one left, which is legal; whatever was seen before stands before it; and it did this.
-pub record IsSection (opened : Core) (seen new : List Core) (Did : Core → Core → Type 0) : Type 0 where
+-- A section through a front: it began with what the last one left, which is legal; whatever the front had seen stands before it; it did
+-- this; and it alone is the front's own beside those that were
+pub record IsSection (opened : Core) (seen new : FrontSeen) (Did : Core → Core → Type 0) : Type 0 where
   pub before : List Core
-  pub begins : IsPrefix seen before
+  pub begins : IsPrefix seen.left before
   pub first : IsFirst opened
   pub all : AllFollow opened before
   pub legal : IsLegal (beginning (last_of opened before).history) (last_of opened before).history.entries
   pub core : Core
   pub did : Did (last_of opened before) core
   pub next : IsNext (last_of opened before) core
-  pub new_is : new ≡ before ++ core ∷ []
+  pub new_is : new ≡ with_section seen before core
+
+-- the core was looked at, as the last section left it, which is legal; this was seen
+pub record IsLook (opened : Core) (Saw : Core → Type 0) : Type 0 where
+  pub before : List Core
+  pub first : IsFirst opened
+  pub all : AllFollow opened before
+  pub legal : IsLegal (beginning (last_of opened before).history) (last_of opened before).history.entries
+  pub saw : Saw (last_of opened before)
 
 -- what was handed out between two states
 abbrev pub gone : Core → Core → List Entry
@@ -64,6 +74,22 @@ gone old new = if new.history.origin.before == old.history.origin.before then []
 abbrev pub whole : List Entry → Core → List Core → List Entry
 whole earlier core [] = earlier ++ core.history.entries
 whole earlier core (next ∷ rest) = whole (earlier ++ gone core next) next rest
+
+-- the state before the section at a place
+abbrev pub state_at : Core → List Core → ℕ → Core
+state_at opened left zero = opened
+state_at opened [] (suc k) = opened
+state_at opened (core ∷ rest) (suc k) = state_at core rest k
+
+-- all entries before the section at a place, handed out or not, behind those that were handed out before
+abbrev pub whole_at : List Entry → Core → List Core → ℕ → List Entry
+whole_at earlier core left zero = earlier ++ core.history.entries
+whole_at earlier core [] (suc k) = earlier ++ core.history.entries
+whole_at earlier core (next ∷ rest) (suc k) = whole_at (earlier ++ gone core next) next rest k
+
+-- the entries that the section at a place entered
+abbrev pub entered : Core → List Core → ℕ → List Entry
+entered opened left k = drop (length (whole_at [] opened left k)) (whole_at [] opened left (suc k))
 
 -- all entries since the opening, handed out or not, by the states that were seen
 abbrev pub seen_entries : List Core → List Entry

@@ -1,6 +1,6 @@
 -- What a broker comes to once all its ends and lanes have come back (own).
-use Rattle.std.specs.Prelude.{◌≡◌, ℕ, ◌==◌, ◌<◌, ◌≤◌, ◌&&◌, Bool, true, false, List, [], ◌∷◌, ◌++◌, length, slice_index, slice_index_or, All, Option, Some, None, is_some, if◌then◌else◌, ⊤}
-use Rattle.std.specs.List.{filter_map, list_all}
+use Rattle.std.specs.Prelude.{◌≡◌, ℕ, ◌+◌, ◌==◌, ◌<◌, ◌≤◌, ◌&&◌, Bool, true, false, List, [], ◌∷◌, ◌++◌, length, slice_index, slice_index_or, All, Option, Some, None, is_some, if◌then◌else◌, ⊤}
+use Rattle.std.specs.List.{filter_map, flat_map, list_all, sum_by}
 use mathlib.Core.List.{IsPrefix}
 use Rattle.core_model.specs.History.{Part, beginning}
 use Rattle.core_model.specs.Rotation.{LeadTo, entries_in}
@@ -21,7 +21,8 @@ use Rattle.client_threads.specs.declared.settling.SettleAllFault.TheVariants as 
 use Rattle.client_threads.specs.declared.settling.SettledQueue.{SettledQueue}
 use Rattle.client_threads.specs.declared.settling.Settlement.{Settlement}
 use Rattle.client_threads.specs.declared.settling.Settlement.TheVariants as settlement
-use Rattle.client_threads.specs.Lanes.{LaneSeen}
+use Rattle.client_threads.specs.Boards.{AreAllBelow, FrontSeen, all_shares}
+use Rattle.client_threads.specs.Lanes.{LaneSeen, own_of, share_of}
 use Rattle.client_threads.specs.Rings.{QueueRing}
 use Rattle.client_threads.specs.Sections.{AllFollow, IsFirst, Stand, last_of, whole}
 use Rattle.client_threads.specs.Takes.{AllAgree, IsLeastMismatch, lane_at, takes}
@@ -29,6 +30,10 @@ use Rattle.client_threads.specs.Takes.{AllAgree, IsLeastMismatch, lane_at, takes
 -- the pass of an end of a queue
 abbrev pub pass_of : ℕ → ClientEnd → Option ProducerSeen
 pass_of queue end = if end.queue.0 == queue then Some end.pass else None
+
+-- whether a front and the fronts of lanes have all shares of the right to make sections
+abbrev pub have_all_shares : FrontSeen → List LaneSeen → Bool
+have_all_shares front lanes = front.share + sum_by share_of lanes == all_shares
 
 -- the producers' passes to a queue's ring, in order
 abbrev pub passes_of : ℕ → List ClientEnd → List ProducerSeen
@@ -90,6 +95,7 @@ abbrev pub number_of_fault : SettleAllFault → ℕ
 number_of_fault fault.OutOfMemory = 0
 number_of_fault fault.MissingPass = 3
 number_of_fault fault.NotNext = 4
+number_of_fault fault.MissingFront = 5
 
 -- the core that a broker came to
 abbrev pub core_of : Settlement → Core
@@ -112,12 +118,36 @@ pub record IsEnd (opened : Core) (seen : List Core) (lanes : List LaneSeen) (cor
   pub begins : IsPrefix seen left
   pub shown : All (IsShown opened left) lanes
 
--- why a broker isn't settled, in this order: a pass is missing; all are there, and the parts don't lead to the audit of the core with which
--- the broker ended; they do, and memory was wanted and not to be had (own)
-abbrev pub IsUnsettledFor : Core → List Core → List QueueRing → List Part → List ClientEnd → List LaneSeen → SettleAllFault → Type 0
-IsUnsettledFor opened seen rings parts ends lanes fault.MissingPass = has_all_passes rings ends lanes ≡ false
-IsUnsettledFor opened seen rings parts ends lanes fault.NotNext =
-    (has_all_passes rings ends lanes ≡ true)
-    × ((core : Core) × IsEnd opened seen lanes core × IsLegal (beginning core.history) core.history.entries × (LeadTo parts core.history.origin → ⊥))
-IsUnsettledFor opened seen rings parts ends lanes fault.OutOfMemory =
-    (has_all_passes rings ends lanes ≡ true) × ((core : Core) × IsEnd opened seen lanes core × IsLedTo parts core)
+-- a broker ended so, and each section since its opening was made through this front or a lane's: the places of their sections are all that
+-- there are, each once
+pub record IsClosed (opened : Core) (front : FrontSeen) (lanes : List LaneSeen) (core : Core) : Type 0 where
+  pub end : IsEnd opened front.left lanes core
+  pub only : AreAllBelow (length end.left) (front.own ++ flat_map own_of lanes)
+
+-- a broker without a lock: its rings, the states in which sections left its core, and its core
+pub record StillSeen : Type 0 where
+  pub rings : List QueueRing
+  pub left : List Core
+  pub core : Core
+
+-- all fronts and all passes are there, and the parts lead to the core's audit
+pub record IsComplete (front : FrontSeen) (rings : List QueueRing) (parts : List Part) (ends : List ClientEnd) (lanes : List LaneSeen) (core : Core) : Type 0 where
+  pub shares : have_all_shares front lanes ≡ true
+  pub passes : has_all_passes rings ends lanes ≡ true
+  pub led : IsLedTo parts core
+
+-- why a broker isn't settled, in this order: a front is missing; all are there, and a pass is missing; all are there, and the parts don't lead
+-- to the core's audit; they do, and memory was wanted and not to be had (own)
+abbrev pub IsCauseOf : FrontSeen → List QueueRing → List Part → List ClientEnd → List LaneSeen → Core → SettleAllFault → Type 0
+IsCauseOf front rings parts ends lanes core fault.MissingFront = have_all_shares front lanes ≡ false
+IsCauseOf front rings parts ends lanes core fault.MissingPass = (have_all_shares front lanes ≡ true) × (has_all_passes rings ends lanes ≡ false)
+IsCauseOf front rings parts ends lanes core fault.NotNext =
+    (have_all_shares front lanes ≡ true)
+    × (has_all_passes rings ends lanes ≡ true)
+    × IsLegal (beginning core.history) core.history.entries
+    × (LeadTo parts core.history.origin → ⊥)
+IsCauseOf front rings parts ends lanes core fault.OutOfMemory = IsComplete front rings parts ends lanes core
+
+-- this is why, of the core that comes back, which is the one with which the broker ended
+abbrev pub IsUnsettledFor : Core → FrontSeen → List QueueRing → List Part → List ClientEnd → List LaneSeen → Core → SettleAllFault → Type 0
+IsUnsettledFor opened front rings parts ends lanes core why = IsEnd opened front.left lanes core × IsCauseOf front rings parts ends lanes core why

@@ -1,3 +1,4 @@
+pub mod Gatherings
 pub mod Kept
 pub mod Nothing
 pub mod Openings

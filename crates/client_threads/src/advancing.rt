@@ -4,7 +4,7 @@ ghost use Rattle.std.specs.Prelude.{◌≡◌, ◌<◌, ◌++◌, ◌∷◌, [],
 ghost use Rattle.aql_packet.specs.Reading.{decoded, packet_type};
 ghost use Rattle.core_model.specs.Legal.{MeetsOrLacks};
 ghost use Rattle.core_model.specs.declared.event.Event.{Event};
-ghost use Rattle.client_threads.specs.Advancing.{AdvancesTo, IsLastCall, has_barrier_type, is_some_barrier, leaves, next_call, told};
+ghost use Rattle.client_threads.specs.Advancing.{AdvancesTo, IsLastCall, has_barrier_type, has_work_after, is_some_barrier, leaves, next_call, told};
 ghost use Rattle.client_threads.specs.inner.Turns.{RunsTo};
 
 use crate::lane::Lane;
@@ -178,7 +178,8 @@ fn leaves(reply: &Result<Outcome, Refusal>) -> bool
 
 // A packet that stays pending after this reply.
 fn left_by(packet: PendingPacket, reply: &Result<Outcome, Refusal>) -> PendingPacket
-    ensures { (result.id ≡ packet.id) × (result.is_barrier ≡ packet.is_barrier) }
+    ensures same { (result.id ≡ packet.id) × (result.is_barrier ≡ packet.is_barrier) }
+    ensures work { result.has_work ≡ has_work_after packet.has_work reply.now }
 {
     let has_work = match reply {
         Ok(Outcome::Worked(Worked::Ran { left, .. })) => *left != 0,

@@ -1,17 +1,17 @@
 //! The broker: one core under its lock, and a ring with its doorbell for each queue.
 
-ghost use Rattle.std.specs.Prelude.{◌≡◌, [], Some, map};
+ghost use Rattle.std.specs.Prelude.{◌≡◌, ◌<◌, [], Some, map};
 ghost use Rattle.std.specs.Option.{IfSome, option_copied};
 ghost use Rattle.std.specs.List.{find};
-ghost use Rattle.std.specs.Fn.{FnOnceReturnsAtMut};
+ghost use Rattle.std.specs.Fn.{FnOnceReturnsAt, FnOnceReturnsAtMut};
 ghost use Rattle.atomic_table.specs.Seated.{TableId};
-ghost use Rattle.client_threads.specs.Boards.{Compared};
+ghost use Rattle.client_threads.specs.Boards.{Compared, all_shares, fresh_of, one_less, united_with};
 ghost use Rattle.client_threads.specs.Desks.{is_desk_of, seen};
 ghost use Rattle.client_threads.specs.Opening.{OpensBroker};
 ghost use Rattle.client_threads.specs.Rings.{AreApart, IsOf, IsRingOf, ring_of};
-ghost use Rattle.client_threads.specs.Sections.{Continues, IsSection};
+ghost use Rattle.client_threads.specs.Sections.{Continues, IsLook, IsSection};
 
-use crate::board::{Board, Front, Keeper, SharedFront};
+use crate::board::{Board, Front, Keeper, SharedSight};
 use crate::room::{Held, Room};
 use access_core::{AccessCore, Kernel, OpenFault};
 use aql_packet::QueueId;
@@ -40,7 +40,7 @@ pub struct Broker<B: Room> {
     pub(crate) board: Board,
     pub(crate) desks: Vec<Desk>,
     // It has seen each opening of a queue that has a ring.
-    pub(crate) openings: SharedFront,
+    pub(crate) openings: SharedSight,
 }
 
 impl<B: Room> Model for Broker<B> {
@@ -64,11 +64,13 @@ pub struct UnnamedBroker {
     core: AccessCore,
     board: Board,
     keeper: Keeper,
+    front: Front,
     alloc: Global,
 }
 
 impl Model for UnnamedBroker {
     ghost use Rattle.std.specs.Prelude.{◌≡◌, []};
+    ghost use Rattle.client_threads.specs.Boards.{all_shares, resting_keeper};
     ghost use Rattle.client_threads.specs.Opening.{UnnamedSeen};
     ghost use Rattle.client_threads.specs.Sections.{IsFirst};
 
@@ -76,7 +78,7 @@ impl Model for UnnamedBroker {
 
     ghost view = { λ b. record { board = b.board; core = b.core } };
 
-    ghost invariant = { λ b. (b.keeper.board ≡ b.board) × (b.keeper.left ≡ []) × IsFirst b.core };
+    ghost invariant = { λ b. (b.keeper ≡ resting_keeper b.board []) × (b.front ≡ record { board = b.board; left = []; share = all_shares; own = [] }) × IsFirst b.core };
 }
 
 impl UnnamedBroker {
@@ -91,29 +93,32 @@ impl UnnamedBroker {
         ensures { OpensBroker policy kernels.items capacity result }
     {
         let core = AccessCore::open(alloc, policy, kernels, capacity)?;
-        let (board, keeper) = Board::new(alloc)?;
+        let (board, keeper, front) = Board::new(alloc)?;
         Ok(UnnamedBroker {
             core,
             board,
             keeper,
+            front,
             alloc,
         })
     }
 
-    /// The broker under a name, which its type has from now on, and the front that has seen nothing.
+    /// The broker under a name, which its type has from now on, and the front that has seen nothing, through which no
+    /// section was made, and which has all shares: no section can be made but through it, and through what `again` gives
+    /// of it.
     pub fn named<B: Room>(self) -> (Broker<B>, Front)
         requires { (self.board ≡ B.board) × (self.core ≡ B.opened) }
         ensures rings { result.0 ≡ [] }
-        ensures front { (result.1.board ≡ B.board) × (result.1.left ≡ []) }
+        ensures front { result.1 ≡ record { board = B.board; left = []; share = all_shares; own = [] } }
     {
         let UnnamedBroker {
             core,
             board,
-            mut keeper,
+            keeper,
+            mut front,
             alloc,
         } = self;
-        let front = board.front(&mut keeper);
-        let openings = SharedFront::of(board.front(&mut keeper));
+        let openings = SharedSight::of(board.sight(&mut front));
         let held = Held {
             core,
             keeper,
@@ -198,7 +203,7 @@ impl<B: Room> Broker<B> {
     /// Takes the core's lock, for which it may wait, calls `f` on the core, and answers what `f` answers. The core is the
     /// one that the broker was opened with, as the last section left it, whichever thread made that; `f` goes on from it,
     /// as each call of the core does: it exchanges no core. What the front had seen stands before, and it has seen this
-    /// section then.
+    /// section then, which is its own: it has one more, and no other was made for it.
     pub fn with_core<R: Wait, X, F: FnOnce(&mut AccessCore) -> X>(
         &self,
         rt: &R,
@@ -209,7 +214,7 @@ impl<B: Room> Broker<B> {
         requires can { F.IsAlwaysCallable f }
         requires continues { Continues (FnOnceReturnsAtMut F.FnOnce f) }
         ensures front { front.new.board ≡ B.board }
-        ensures section { IsSection B.opened front.old.left front.new.left (λ old new. FnOnceReturnsAtMut F.FnOnce f old result new) }
+        ensures section { IsSection B.opened front.old front.new (λ old new. FnOnceReturnsAtMut F.FnOnce f old result new) }
     {
         let mut guard = self.held.lock(rt);
         let held = &mut *guard;
@@ -226,7 +231,7 @@ impl<B: Room> Broker<B> {
         requires can { F.IsAlwaysCallable f }
         requires continues { Continues (FnOnceReturnsAtMut F.FnOnce f) }
         ensures front { front.new.board ≡ B.board }
-        ensures section { IsSection B.opened front.old.left front.new.left (λ old new. FnOnceReturnsAtMut F.FnOnce f old result new) }
+        ensures section { IsSection B.opened front.old front.new (λ old new. FnOnceReturnsAtMut F.FnOnce f old result new) }
         ensures rings { self.new ≡ self.old }
     {
         let Broker { held, board, .. } = self;
@@ -234,12 +239,30 @@ impl<B: Room> Broker<B> {
         held.section(board, front, f)
     }
 
-    /// Another front that has seen the same.
-    pub fn again(&self, front: &mut Front) -> Front
-        requires { front.old.board ≡ B.board }
-        ensures { (front.new ≡ front.old) × (result ≡ front.old) }
+    /// Takes the core's lock, for which it may wait, and calls `f`, which only looks at the core. It makes no section, and
+    /// wants no front.
+    pub fn look_at_core<R: Wait, X, F: FnOnce(&AccessCore) -> X>(&self, rt: &R, f: F) -> X
+        requires can { F.IsAlwaysCallable f }
+        ensures { IsLook B.opened (λ core. FnOnceReturnsAt F.FnOnce f core result) }
     {
-        self.board.copy(front)
+        let guard = self.held.lock(rt);
+        guard.look(f)
+    }
+
+    /// Another front that has seen the same, with one share of this one's. No section was made through it.
+    pub fn again(&self, front: &mut Front) -> Front
+        requires { (front.old.board ≡ B.board) × (1 < front.old.share) }
+        ensures { (front.new ≡ one_less front.old) × (result ≡ fresh_of front.old) }
+    {
+        self.board.again(front)
+    }
+
+    /// A front gets all that another has: its share, and its sections.
+    pub fn unite(&self, front: &mut Front, other: Front)
+        requires { (front.old.board ≡ B.board) × (other.board ≡ B.board) }
+        ensures { front.new ≡ united_with front.old other }
+    {
+        self.board.unite(front, other);
     }
 
     /// What two fronts have seen is compared: the one begins the other.
@@ -248,7 +271,7 @@ impl<B: Room> Broker<B> {
         ensures kept { (front.new ≡ front.old) × (other.new ≡ other.old) }
         ensures one { Compared front.old.left other.old.left }
     {
-        let copy = self.board.copy(other);
-        self.board.compare(front, copy);
+        let sight = self.board.sight(other);
+        self.board.compare(front, sight);
     }
 }

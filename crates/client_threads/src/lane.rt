@@ -1,21 +1,24 @@
 //! A lane: what serves a queue.
 
-ghost use Rattle.std.specs.Prelude.{◌≡◌, ◌+◌, ◌<◌, ◌^◌, [], All, length};
+ghost use Rattle.std.specs.Prelude.{◌≡◌, ◌+◌, ◌<◌, ◌^◌, ◌++◌, ◌∷◌, [], All, length};
+ghost use mathlib.Core.List.{IsPrefix};
 ghost use Rattle.ring.specs.Showing.{HasPeeked};
 ghost use Rattle.client_threads.specs.Advancing.{IsOfItsKind};
+ghost use Rattle.client_threads.specs.Boards.{resting_keeper, sight_of, with_section};
 ghost use Rattle.client_threads.specs.HandedOver.{handed_over};
 ghost use Rattle.client_threads.specs.Lanes.{IsLane, ids_of};
 ghost use Rattle.client_threads.specs.inner.Turns.{IsFoundBy, Looks};
 
-use crate::board::{Board, Front};
+use crate::board::{Board, Front, Keeper, Sight};
 use crate::pending::PendingPacket;
+use access_core::AccessCore;
 use aql_packet::QueueId;
 use core_model::Served;
 use ring::{Peeked, ProcessorPass, Ring};
 use std::marker::Model;
 
 /// What serves a queue: its processor's pass, the packets that it served, which of them are launched and not done, and the
-/// front that has seen the core as the lane's last turn left it. A contract sees all five, and that what the lane served is
+/// front through which it makes its sections, which has seen the core as the lane's last turn left it. A contract sees all five, and that what the lane served is
 /// what its pass retired. When it runs, it keeps the last of what it served: what it has not handed over with a part of the
 /// audit that was settled.
 #[derive(Drop)]
@@ -97,18 +100,36 @@ impl Lane {
         self.pass.peek(ring)
     }
 
-    // Another front that has seen the same.
-    pub(crate) fn copy_front(&mut self, board: &Board) -> Front
-        requires { self.old.front.board ≡ board.now }
-        ensures { (self.new ≡ self.old) × (result ≡ self.old.front) }
+    // The share of its front.
+    pub(crate) fn share(&self) -> u64
+        ensures { result ≡ self.now.front.share }
     {
-        board.copy(&mut self.front)
+        self.front.share()
     }
 
-    // It has seen what a front has from now on.
-    pub(crate) fn see(&mut self, front: Front)
-        ensures { self.new ≡ record self.old { front = front } }
+    // Its front alone.
+    pub(crate) fn into_front(self) -> Front
+        ensures { result ≡ self.front }
     {
-        self.front = front;
+        let Lane { front, .. } = self;
+        front
+    }
+
+    // What its front has seen.
+    pub(crate) fn sight(&mut self, board: &Board) -> Sight
+        requires { self.old.front.board ≡ board.now }
+        ensures { (self.new ≡ self.old) × (result ≡ sight_of self.old.front) }
+    {
+        board.sight(&mut self.front)
+    }
+
+    // Writes how its section left the core.
+    pub(crate) fn leave(&mut self, board: &Board, keeper: &mut Keeper, core: &AccessCore)
+        requires { (keeper.old ≡ resting_keeper board.now keeper.old.left) × (self.old.front.board ≡ board.now) }
+        ensures keeper { keeper.new ≡ resting_keeper board.now (keeper.old.left ++ core.now ∷ []) }
+        ensures lane { self.new ≡ record self.old { front = with_section self.old.front keeper.old.left core.now } }
+        ensures begins { IsPrefix self.old.front.left keeper.old.left }
+    {
+        board.write(keeper, &mut self.front, core);
     }
 }

@@ -1,16 +1,20 @@
 //! Lanes run, each on a thread of its own.
 
-ghost use Rattle.std.specs.Prelude.{◌≡◌, ◌<◌, List, length, All};
+ghost use Rattle.std.specs.Prelude.{◌≡◌, ◌<◌, ℕ, List, [], length, false, true, All};
+ghost use Rattle.std.specs.List.{sum_by};
+ghost use Rattle.ring.specs.declared.processor.Peeked.{Peeked};
 ghost use Rattle.core_model.specs.History.{Part};
 ghost use Rattle.client_threads.specs.HandedOver.{AreSettledWith};
-ghost use Rattle.client_threads.specs.Running.{EachGoesOn, GoesOn, IsLaneOf, KeepsOn};
-ghost use Rattle.client_threads.specs.inner.Turns.{IsFoundBy, ServesIn, StandsIn};
+ghost use Rattle.client_threads.specs.Advancing.{AdvancesTo};
+ghost use Rattle.client_threads.specs.Lanes.{share_of};
+ghost use Rattle.client_threads.specs.Running.{EachGoesOn, GoesOn, IsLaneOf, IsTurn, KeepsOn};
+ghost use Rattle.client_threads.specs.inner.Turns.{DoesFound, FoundTo, HasTurned, HasWork, IsFoundBy, IsFoundTurn, ServesIn, StandsIn, StaysOn};
 
 use crate::advancing::{Advanced, advance_one};
 use crate::board::Board;
 use crate::broker::Broker;
 use crate::lane::Lane;
-use crate::room::{Held, Room, leave};
+use crate::room::{Held, Room};
 use crate::serving::{ServeAnswer, serve_shown};
 use access_core::AccessCore;
 use ring::{Peeked, Ring};
@@ -42,7 +46,10 @@ pub trait Gate {
 }
 
 // Whether a lane has nothing to do: its pass found no packet, and none is pending.
-fn is_idle(found: &Peeked, lane: &Lane) -> bool {
+fn is_idle(found: &Peeked, lane: &Lane) -> bool
+    ensures idle { result ≡ true → (found.now ≡ Peeked.Empty) × (lane.now.pending ≡ []) }
+    ensures busy { result ≡ false → HasWork found.now lane.now }
+{
     match found {
         Peeked::Empty => lane.pending().is_empty(),
         Peeked::Shown(_) => false,
@@ -60,7 +67,8 @@ fn serve(
 ) -> ServeAnswer
     requires ring { lane.old.pass.table ≡ ring.now.table }
     requires found { IsFoundBy found lane.old.pass }
-    ensures { ServesIn lane.old core.old.history lane.new core.new.history }
+    ensures serves { ServesIn lane.old core.old.history lane.new core.new.history }
+    ensures found { FoundTo ring.now found lane.old core.old.history result lane.new core.new.history }
 {
     match found {
         Peeked::Empty => ServeAnswer::Empty,
@@ -71,7 +79,8 @@ fn serve(
 // It advances its first pending packet.
 #[tactic(auto, using(crate::proofs::Turning::advances_in))]
 fn advance(alloc: Global, lane: &mut Lane, core: &mut AccessCore) -> Advanced
-    ensures { ServesIn lane.old core.old.history lane.new core.new.history }
+    ensures serves { ServesIn lane.old core.old.history lane.new core.new.history }
+    ensures advances { AdvancesTo lane.old core.old.history result lane.new core.new.history }
 {
     advance_one(alloc, lane, core)
 }
@@ -86,7 +95,8 @@ fn do_turn(
 ) -> LaneAnswer
     requires ring { lane.old.pass.table ≡ ring.now.table }
     requires found { IsFoundBy found lane.old.pass }
-    ensures { ServesIn lane.old core.old.history lane.new core.new.history }
+    ensures serves { ServesIn lane.old core.old.history lane.new core.new.history }
+    ensures does { DoesFound ring.now found lane.old core.old.history result lane.new core.new.history }
 {
     let served = serve(alloc, lane, core, ring, found);
     let advanced = advance(alloc, lane, core);
@@ -94,7 +104,7 @@ fn do_turn(
 }
 
 impl<B: Room> Held<B> {
-    // One turn of a lane, in a section of the core, which the lane has seen then.
+    // One turn of a lane, in a section through its front, which the lane has seen then.
     fn turn(
         &mut self,
         alloc: Global,
@@ -110,13 +120,12 @@ impl<B: Room> Held<B> {
         ensures on { GoesOn lane.old lane.new }
         ensures board { lane.new.front.board ≡ B.board }
         ensures stands { StandsIn lane.new }
+        ensures turn { IsFoundTurn B.opened ring.now found lane.old result lane.new }
     {
-        let seen = lane.copy_front(board);
-        board.check(&mut self.keeper, seen);
         self.core.audit();
         let done = do_turn(alloc, lane, &mut self.core, ring, found);
         self.core.audit();
-        lane.see(leave(board, &mut self.keeper, &self.core));
+        lane.leave(board, &mut self.keeper, &self.core);
         done
     }
 }
@@ -146,7 +155,8 @@ impl<B: Room> Broker<B> {
         requires ring { lane.old.pass.table ≡ ring.now.table }
         requires found { IsFoundBy found lane.old.pass }
         requires lane { IsLaneOf B.board self.now lane.old }
-        ensures { KeepsOn B.board self.now lane.old lane.new }
+        ensures on { StaysOn B.board self.now lane.old lane.new }
+        ensures turn { IsFoundTurn B.opened ring.now found lane.old result lane.new }
     {
         let mut guard = self.hold(rt);
         let held = &mut *guard;
@@ -154,11 +164,12 @@ impl<B: Room> Broker<B> {
     }
 
     // One turn of a lane. Where it has nothing to do, it doesn't ask for the lock.
-    #[tactic(auto, using(crate::proofs::GoingOn::looked_of, crate::proofs::GoingOn::looked_keeps_on, crate::proofs::GoingOn::looked_then_on, crate::proofs::Handing::looked_table))]
+    #[tactic(auto, using(crate::proofs::GoingOn::looked_of, crate::proofs::GoingOn::looked_keeps_on, crate::proofs::GoingOn::looked_then_on, crate::proofs::Handing::looked_table, crate::proofs::TurnsMade::idle_turn, crate::proofs::TurnsMade::looked_then_turned))]
     fn turn<R: Wait>(&self, rt: &R, alloc: Global, lane: &mut Lane, ring: &Ring) -> LaneAnswer
         requires ring { lane.old.pass.table ≡ ring.now.table }
         requires lane { IsLaneOf B.board self.now lane.old }
-        ensures { KeepsOn B.board self.now lane.old lane.new }
+        ensures on { StaysOn B.board self.now lane.old lane.new }
+        ensures turn { IsTurn B.opened ring.now lane.old result lane.new }
     {
         let found = lane.look(ring);
         if is_idle(&found, lane) {
@@ -172,7 +183,7 @@ impl<B: Room> Broker<B> {
 }
 
 // Turns of a lane on its ring, from 1 on, until the gate doesn't let it in.
-#[tactic(auto, using(crate::proofs::GoingOn::keeps_on_none, crate::proofs::GoingOn::keeps_on_both, crate::proofs::GoingOn::still_on))]
+#[tactic(auto, using(crate::proofs::GoingOn::stays_on_none, crate::proofs::GoingOn::stays_on_both, crate::proofs::GoingOn::still_on, crate::proofs::TurnsMade::no_turn, crate::proofs::TurnsMade::one_turn_more))]
 fn run_on<B: Room, R: Wait, G: Gate>(
     rt: &R,
     alloc: Global,
@@ -183,7 +194,8 @@ fn run_on<B: Room, R: Wait, G: Gate>(
 )
     requires ring { lane.old.pass.table ≡ ring.now.table }
     requires lane { IsLaneOf B.board broker.now lane.old }
-    ensures { KeepsOn B.board broker.now lane.old lane.new }
+    ensures on { StaysOn B.board broker.now lane.old lane.new }
+    ensures turns { HasTurned B.opened ring.now lane.old lane.new }
 {
     let number = lane.number();
     for before in 0..u64::MAX {
@@ -197,7 +209,7 @@ fn run_on<B: Room, R: Wait, G: Gate>(
 }
 
 // Turns of a lane. Its ring is looked up once.
-#[tactic(auto, using(crate::proofs::GoingOn::table_of))]
+#[tactic(auto, using(crate::proofs::GoingOn::table_of, crate::proofs::TurnsMade::turned_on))]
 fn run_lane<B: Room, R: Wait, G: Gate>(
     rt: &R,
     alloc: Global,
@@ -206,7 +218,7 @@ fn run_lane<B: Room, R: Wait, G: Gate>(
     gate: &G,
 )
     requires { IsLaneOf B.board broker.now lane.old }
-    ensures { KeepsOn B.board broker.now lane.old lane.new }
+    ensures { KeepsOn B.opened B.board broker.now lane.old lane.new }
 {
     let ring = broker.ring_of(lane.queue());
     run_on(rt, alloc, broker, lane, ring, gate);
@@ -222,7 +234,7 @@ fn run_each<B: Room + Send + Sync, R: Threads + Wait + Sync, G: Gate + Sync>(
 )
     requires some { 0 < length lanes.old }
     requires lanes { All (λ lane. IsLaneOf B.board broker.now lane) lanes.old }
-    ensures { EachGoesOn B.board broker.now lanes.old lanes.new }
+    ensures { EachGoesOn B.opened B.board broker.now lanes.old lanes.new }
 {
     let threads = lanes.len();
     thread::for_each_mut(
@@ -243,7 +255,7 @@ fn run_any<B: Room + Send + Sync, R: Threads + Wait + Sync, G: Gate + Sync>(
 ) -> Vec<Lane>
     requires { All (λ lane. IsLaneOf B.board broker.now lane) lanes.items }
     ensures count { length result.items ≡ length lanes.items }
-    ensures each { EachGoesOn B.board broker.now lanes.items result.items }
+    ensures each { EachGoesOn B.opened B.board broker.now lanes.items result.items }
 {
     let mut lanes = lanes;
     if lanes.len() > 0 {
@@ -258,7 +270,9 @@ fn run_any<B: Room + Send + Sync, R: Threads + Wait + Sync, G: Gate + Sync>(
 /// packet and none is pending; then the gate is told. Where no thread can be made, lanes run one after another. It takes no
 /// memory of its own. The lanes come back in the order in which they were handed in, each of its queue and ring; what each
 /// served begins with what it had served, and stands, in order, among what the core took by the states that the lane has
-/// seen. What they had handed over stays so: parts that were settled with them still are.
+/// seen. Each made turns and nothing else, with these answers: a turn is a section of the lane's own, in which at most a
+/// take of its queue is entered, with the bytes that its pass was shown, and at most one call for its first pending packet,
+/// or no section where neither is. What they had handed over stays so: parts that were settled with them still are.
 pub fn run_lanes<B: Room + Send + Sync, R: Threads + Wait + Sync, G: Gate + Sync>(
     rt: &R,
     alloc: Global,
@@ -268,8 +282,9 @@ pub fn run_lanes<B: Room + Send + Sync, R: Threads + Wait + Sync, G: Gate + Sync
 ) -> Vec<Lane>
     requires { All (λ lane. IsLaneOf B.board broker.now lane) lanes.items }
     ensures count { length result.items ≡ length lanes.items }
-    ensures each { EachGoesOn B.board broker.now lanes.items result.items }
+    ensures each { EachGoesOn B.opened B.board broker.now lanes.items result.items }
     ensures lanes { All (λ lane. IsLaneOf B.board broker.now lane) result.items }
+    ensures shares { sum_by share_of result.items ≡ sum_by share_of lanes.items }
     ensures settled { (parts : List Part) → AreSettledWith parts lanes.items → AreSettledWith parts result.items }
 {
     run_any(rt, alloc, broker, lanes, gate)

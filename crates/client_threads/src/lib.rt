@@ -19,6 +19,7 @@ mod room;
 mod serving;
 mod settled_parts;
 mod settling;
+mod still;
 
 pub use advancing::{Advanced, advance_one};
 pub use board::Front;
@@ -28,12 +29,15 @@ pub use core_model::Served;
 pub use lane::Lane;
 pub use lanes::{Gate, LaneAnswer, run_lanes};
 pub use laws::{
-    law_lanes_that_keep_all_are_settled, law_opened_queues_belong, law_queues_keep_their_openings,
-    law_runs_are_whole_histories, law_sections_stand_in_order,
+    law_each_place_is_ones_own, law_lanes_that_keep_all_are_settled, law_no_share_no_section,
+    law_nothing_else, law_opened_queues_belong, law_queues_keep_their_openings,
+    law_runs_are_whole_histories, law_sections_keep_their_places, law_sections_stand_in_order,
+    law_turns_enter_their_own,
 };
 pub use opening::Opened;
 pub use pending::PendingPacket;
 pub use room::Room;
 pub use serving::{ServeAnswer, serve_one};
 pub use settled_parts::{PartFault, SettledParts, UnsettledPart};
-pub use settling::{SettleAllFault, SettledQueue, Settlement, UnsettledBroker, settle_all};
+pub use settling::{SettleAllFault, SettledQueue, Settlement, settle_all};
+pub use still::{StillBroker, UnsettledBroker};

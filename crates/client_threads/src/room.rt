@@ -1,8 +1,8 @@
 //! What lies under a broker's lock: the core, and the pass that knows each state in which a section left it.
 
-ghost use Rattle.std.specs.Prelude.{◌≡◌, [], ◌++◌, ◌∷◌};
-ghost use Rattle.std.specs.Fn.{FnOnceReturnsAtMut};
-ghost use Rattle.client_threads.specs.Sections.{Continues, IsSection};
+ghost use Rattle.std.specs.Prelude.{◌≡◌};
+ghost use Rattle.std.specs.Fn.{FnOnceReturnsAt, FnOnceReturnsAtMut};
+ghost use Rattle.client_threads.specs.Sections.{Continues, IsLook, IsSection};
 
 use crate::board::{Board, Front, Keeper};
 use access_core::AccessCore;
@@ -29,7 +29,7 @@ impl Room for Brand {
 }
 
 /// What lies under the lock: the core, which goes on from the one that was opened, and the pass that knows all states
-/// in which it was left. A contract sees both.
+/// in which it was left. That pass has no share of the right to make sections. A contract sees the core and these states.
 #[derive(Drop)]
 pub struct Held<B: Room> {
     pub(crate) core: AccessCore,
@@ -39,27 +39,18 @@ pub struct Held<B: Room> {
 
 impl<B: Room> Model for Held<B> {
     ghost use Rattle.std.specs.Prelude.{◌≡◌};
+    ghost use Rattle.client_threads.specs.Boards.{resting_keeper};
     ghost use Rattle.client_threads.specs.Sections.{AllFollow, HeldSeen, IsFirst, last_of};
 
     ghost Value = { HeldSeen };
 
     ghost view = { λ h. record { core = h.core; left = h.keeper.left } };
 
-    ghost invariant = { λ h. (h.keeper.board ≡ B.board) × AllFollow B.opened h.keeper.left × (last_of B.opened h.keeper.left ≡ h.core) × IsFirst B.opened };
-}
-
-// Writes in which state a section left the core. The front that comes of it has seen that.
-pub(crate) fn leave(board: &Board, keeper: &mut Keeper, core: &AccessCore) -> Front
-    requires { keeper.old.board ≡ board.now }
-    ensures keeper { keeper.new ≡ record { board = keeper.old.board; left = keeper.old.left ++ core.now ∷ [] } }
-    ensures front { result ≡ keeper.new }
-{
-    board.write(keeper, core);
-    board.front(keeper)
+    ghost invariant = { λ h. (h.keeper ≡ resting_keeper B.board h.keeper.left) × AllFollow B.opened h.keeper.left × (last_of B.opened h.keeper.left ≡ h.core) × IsFirst B.opened };
 }
 
 impl<B: Room> Held<B> {
-    // Calls a function on the core, and writes how it left it.
+    // Calls a function on the core, and writes how it left it: a section through the front.
     pub(crate) fn section<X, F: FnOnce(&mut AccessCore) -> X>(
         &mut self,
         board: &Board,
@@ -69,15 +60,21 @@ impl<B: Room> Held<B> {
         requires board { (board.now ≡ B.board) × (front.old.board ≡ B.board) }
         requires can { F.IsAlwaysCallable f }
         requires continues { Continues (FnOnceReturnsAtMut F.FnOnce f) }
-        ensures board { front.new.board ≡ B.board }
-        ensures section { IsSection B.opened front.old.left front.new.left (λ old new. FnOnceReturnsAtMut F.FnOnce f old result new) }
+        ensures section { IsSection B.opened front.old front.new (λ old new. FnOnceReturnsAtMut F.FnOnce f old result new) }
     {
-        let seen = board.copy(front);
-        board.check(&mut self.keeper, seen);
         self.core.audit();
         let answer = f(&mut self.core);
         self.core.audit();
-        *front = leave(board, &mut self.keeper, &self.core);
+        board.write(&mut self.keeper, front, &self.core);
         answer
+    }
+
+    // Calls a function that only looks at the core: this is no section.
+    pub(crate) fn look<X, F: FnOnce(&AccessCore) -> X>(&self, f: F) -> X
+        requires can { F.IsAlwaysCallable f }
+        ensures { IsLook B.opened (λ core. FnOnceReturnsAt F.FnOnce f core result) }
+    {
+        self.core.audit();
+        f(&self.core)
     }
 }

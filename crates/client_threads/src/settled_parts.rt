@@ -43,6 +43,20 @@ pub enum PartFault {
     Mismatch { queue: QueueId, id: PacketId },
 }
 
+impl PartFault {
+    ghost use Rattle.client_threads.specs.HandedOver.{number_of_part_fault};
+
+    /// The refusal's number, as `settle_all` has it; a mismatch is no refusal, and has none (own).
+    pub fn number(&self) -> Option<u8>
+        ensures { result ≡ number_of_part_fault self.now }
+    {
+        match self {
+            PartFault::NotNext => Some(4),
+            PartFault::Mismatch { .. } => None,
+        }
+    }
+}
+
 /// A part that was not settled, and why.
 #[derive(Drop)]
 pub struct UnsettledPart {

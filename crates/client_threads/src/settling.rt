@@ -2,6 +2,8 @@
 //! published and served.
 
 ghost use Rattle.std.specs.Prelude.{◌≡◌, ◌≢◌, ◌↔◌, ◌==◌, ◌&&◌, ℕ, ◌+◌, ◌<◌, ◌≤◌, [], ◌++◌, IfOk, IfErr, All, Some, None, true, false, length, map, is_some, slice_index_or, vec_capacity};
+ghost use Rattle.std.specs.List.{sum_by};
+ghost use Rattle.atomic_table.specs.Seated.{TableId};
 ghost use Rattle.ring.specs.Settling.{has_pass, has_passes};
 ghost use Rattle.client_threads.specs.Desks.{seen};
 ghost use Rattle.client_threads.specs.HandedOver.{AreSettledWith};
@@ -9,28 +11,26 @@ ghost use Rattle.client_threads.specs.Rings.{AreApart};
 ghost use Rattle.client_threads.specs.Running.{IsEndOf, IsLaneOf};
 ghost use Rattle.client_threads.specs.Lanes.{LaneSeen};
 ghost use Rattle.client_threads.specs.Takes.{lane_at};
-ghost use Rattle.client_threads.specs.Opening.{AreOpened};
-ghost use Rattle.client_threads.specs.Sections.{last_of};
-ghost use Rattle.client_threads.specs.Settling.{AreSettled, IsEnd, IsLedTo, IsQueueSettled, IsRingSettled, IsSettlement, IsShown, IsUnsettledFor, core_of, has_all_passes, has_its_passes, passes_of};
-ghost use Rattle.client_threads.specs.inner.Turns.{HasSeen};
+ghost use Rattle.client_threads.specs.Settling.{AreSettled, IsClosed, IsLedTo, IsQueueSettled, IsRingSettled, IsSettlement, IsUnsettledFor, core_of, has_all_passes, has_its_passes, have_all_shares, passes_of};
+ghost use Rattle.client_threads.specs.inner.Gatherings.{HasGathered, IsOnBoard, KnowsAll};
 ghost use Rattle.client_threads.specs.inner.Rooms.{AreReady, AreRoomy, IsRoomFor, IsSomeOf};
 ghost use Rattle.core_model.specs.History.{beginning};
 ghost use Rattle.core_model.specs.Legal.{IsLegal};
 ghost use Rattle.core_model.specs.Rotation.{LeadTo};
 
-use crate::board::{Board, Front, SharedFront};
+use crate::board::{Board, Front, Keeper};
 use crate::broker::{Broker, Desk};
 use crate::client_end::ClientEnd;
 use crate::lane::Lane;
 use crate::mismatch::{find_lane, find_mismatch};
-use crate::room::{Held, Room};
+use crate::room::Room;
 use crate::settled_parts::SettledParts;
+use crate::still::{StillBroker, UnsettledBroker};
 use access_core::AccessCore;
 use aql_packet::{PacketId, QueueId};
 use core_model::Part;
 use ring::{ProducerPass, Ring, SettleRoom, settle_in};
 use std::alloc::{AllocError, Global};
-use std::sync::Mutex;
 
 /// A queue with its settled ring.
 #[derive(Drop, Debug)]
@@ -68,6 +68,9 @@ pub enum SettleAllFault {
     /// The parts that were handed out don't follow each other from nothing on to the audit.
     #[error("the parts that were handed out do not follow each other")]
     NotNext,
+    /// The front of one who may have made sections is not there.
+    #[error("a front is missing")]
+    MissingFront,
 }
 
 impl SettleAllFault {
@@ -81,17 +84,9 @@ impl SettleAllFault {
             SettleAllFault::OutOfMemory => 0,
             SettleAllFault::MissingPass => 3,
             SettleAllFault::NotNext => 4,
+            SettleAllFault::MissingFront => 5,
         }
     }
-}
-
-/// A broker that was not settled, with all that was handed in.
-#[derive(Drop)]
-pub struct UnsettledBroker<B: Room> {
-    pub fault: SettleAllFault,
-    pub broker: Broker<B>,
-    pub ends: Vec<ClientEnd>,
-    pub lanes: Vec<Lane>,
 }
 
 // Whether an end is a queue's, for the producer with a number.
@@ -135,7 +130,7 @@ fn has_its_passes(desk: &Desk, ends: &[ClientEnd], lanes: &[Lane]) -> bool
 
 // Whether all passes of all rings are.
 #[tactic(auto, using(crate::proofs::Looking::ring_lacks, crate::proofs::Looking::ring_passed, crate::proofs::Looking::rings_have))]
-fn has_all_passes(desks: &[Desk], ends: &[ClientEnd], lanes: &[Lane]) -> bool
+pub(crate) fn has_all_passes(desks: &[Desk], ends: &[ClientEnd], lanes: &[Lane]) -> bool
     ensures { result ≡ has_all_passes (map seen desks.now) ends.now lanes.now }
 {
     for desk in desks {
@@ -147,7 +142,7 @@ fn has_all_passes(desks: &[Desk], ends: &[ClientEnd], lanes: &[Lane]) -> bool
 }
 
 // Whether settled parts and then others lead to a core's audit, which is legal.
-fn leads(settled: &SettledParts, parts: &[Part], core: &AccessCore) -> bool
+pub(crate) fn leads(settled: &SettledParts, parts: &[Part], core: &AccessCore) -> bool
     ensures legal { IsLegal (beginning core.now.history) core.now.history.entries }
     ensures lead { result ≡ true ↔ LeadTo (settled.now ++ parts.now) core.now.history.origin }
 {
@@ -157,7 +152,7 @@ fn leads(settled: &SettledParts, parts: &[Part], core: &AccessCore) -> bool
 
 // Room to settle the ring of a queue: for the words of its slots, and for its producers' passes.
 #[derive(Drop)]
-struct QueueRoom {
+pub(crate) struct QueueRoom {
     words: SettleRoom,
     passes: Vec<ProducerPass>,
 }
@@ -240,18 +235,22 @@ fn lane_place(lanes: &[Lane], queue: QueueId) -> usize
 }
 
 // Moves the lane of a queue out of these.
-#[tactic(auto, using(crate::proofs::Ends::lane_stays))]
+#[tactic(auto, using(crate::proofs::Ends::lane_stays, crate::proofs::Gathering::sum_removed, crate::proofs::Gathering::all_removed, crate::proofs::Gathering::on_board))]
 fn take_lane(lanes: &mut Vec<Lane>, queue: QueueId) -> Lane
     requires { is_some (lane_at queue.0 lanes.old.items) ≡ true }
     ensures lane { lane_at queue.0 lanes.old.items ≡ Some result }
     ensures others { (other : ℕ) → other ≢ queue.0 → lane_at other lanes.new.items ≡ lane_at other lanes.old.items }
+    ensures sums { (g : LaneSeen → ℕ) → sum_by g lanes.new.items + g result ≡ sum_by g lanes.old.items }
+    ensures on { (board : TableId) → All (IsOnBoard board) lanes.old.items → (result.front.board ≡ board) × All (IsOnBoard board) lanes.new.items }
 {
     let place = lane_place(lanes.as_slice(), queue);
     lanes.remove(place)
 }
 
-// Settles the ring of a queue, of which all passes are there.
+// Settles the ring of a queue, of which all passes are there. The lane's front comes back.
 fn settle_ring(
+    board: &Board,
+    keeper: &mut Keeper,
     ring: Ring,
     passes: Vec<ProducerPass>,
     lane: Lane,
@@ -260,14 +259,21 @@ fn settle_ring(
     requires passes { All (λ pass. pass.table ≡ ring.table) passes.items }
     requires lane { lane.pass.table ≡ ring.table }
     requires words { words ≡ ring.size }
-    ensures { IsRingSettled ring passes.items lane result }
+    requires board { (keeper.old.board ≡ board.now) × (lane.front.board ≡ board.now) }
+    ensures settled { IsRingSettled ring passes.items lane result }
+    ensures gathered { keeper.new ≡ record keeper.old { share = keeper.old.share + lane.front.share; own = keeper.old.own ++ lane.front.own } }
+    ensures knows { KnowsAll keeper.new }
 {
-    let Lane { pass, .. } = lane;
+    let Lane { pass, front, .. } = lane;
+    board.collect(keeper, front);
     settle_in(ring, passes, pass, words)
 }
 
 // Settles the ring of a queue, with the passes of its ends and its lane.
+#[tactic(auto, using(crate::proofs::Gathering::gathered_one))]
 fn settle_queue(
+    board: &Board,
+    keeper: &mut Keeper,
     desk: Desk,
     room: QueueRoom,
     ends: &mut Vec<ClientEnd>,
@@ -276,6 +282,10 @@ fn settle_queue(
     requires room { IsRoomFor ends.old.items (seen desk) room }
     requires passes { All (λ pass. pass.table ≡ (seen desk).ring.table) (passes_of desk.queue.0 ends.old.items) }
     requires lane { IsSomeOf (seen desk).ring.table (lane_at desk.queue.0 lanes.old.items) }
+    requires board { (keeper.old.board ≡ board.now) × All (IsOnBoard board.now) lanes.old.items }
+    ensures gathered { HasGathered keeper.old lanes.old.items keeper.new lanes.new.items }
+    ensures knows { KnowsAll keeper.new }
+    ensures on { All (IsOnBoard board.now) lanes.new.items }
     ensures settled { IsQueueSettled (seen desk) ends.old.items lanes.old.items result }
     ensures ends { (other : ℕ) → other ≢ desk.queue.0 → passes_of other ends.new.items ≡ passes_of other ends.old.items }
     ensures lanes { (other : ℕ) → other ≢ desk.queue.0 → lane_at other lanes.new.items ≡ lane_at other lanes.old.items }
@@ -286,13 +296,28 @@ fn settle_queue(
     let lane = take_lane(lanes, queue);
     SettledQueue {
         queue,
-        ring: settle_ring(ring.into_inner(), passes, lane, words),
+        ring: settle_ring(board, keeper, ring.into_inner(), passes, lane, words),
     }
 }
 
-// Settles all rings, in order. It takes no memory.
-#[tactic(auto, using(crate::proofs::Readiness::next_ready, crate::proofs::Readiness::some_room, crate::proofs::Readiness::settled_next, crate::proofs::Readiness::going_begins, crate::proofs::Readiness::going_ends))]
+// The fronts of all lanes come back.
+#[tactic(auto, using(crate::proofs::Gathering::gathered_begins, crate::proofs::Gathering::on_board_begins))]
+fn collect_all(board: &Board, keeper: &mut Keeper, lanes: Vec<Lane>)
+    requires board { (keeper.old.board ≡ board.now) × All (IsOnBoard board.now) lanes.items }
+    requires knows { KnowsAll keeper.old }
+    ensures gathered { HasGathered keeper.old lanes.items keeper.new [] }
+    ensures knows { KnowsAll keeper.new }
+{
+    for lane in lanes {
+        board.collect(keeper, lane.into_front());
+    }
+}
+
+// Settles all rings, in order, and all fronts come back. It takes no memory.
+#[tactic(auto, using(crate::proofs::Readiness::next_ready, crate::proofs::Readiness::some_room, crate::proofs::Readiness::settled_next, crate::proofs::Readiness::going_begins, crate::proofs::Readiness::going_ends, crate::proofs::Gathering::gathered_none))]
 fn settle_rings(
+    board: &Board,
+    keeper: &mut Keeper,
     desks: Vec<Desk>,
     rooms: Vec<QueueRoom>,
     ends: Vec<ClientEnd>,
@@ -303,7 +328,11 @@ fn settle_rings(
     requires ready { AreReady ends.items lanes.items (map seen desks.items) rooms.items ends.items lanes.items }
     requires none { room.items ≡ [] }
     requires room { length desks.items ≤ vec_capacity room }
-    ensures { AreSettled (map seen desks.items) ends.items lanes.items result.items }
+    requires board { (keeper.old.board ≡ board.now) × All (IsOnBoard board.now) lanes.items }
+    requires knows { KnowsAll keeper.old }
+    ensures gathered { HasGathered keeper.old lanes.items keeper.new [] }
+    ensures knows { KnowsAll keeper.new }
+    ensures settled { AreSettled (map seen desks.items) ends.items lanes.items result.items }
 {
     let mut desks = desks;
     let mut rooms = rooms;
@@ -313,17 +342,18 @@ fn settle_rings(
     while !desks.is_empty() {
         let desk = desks.remove(0);
         let room = rooms.remove(0);
-        settled.push_reserved(settle_queue(desk, room, &mut ends, &mut lanes));
+        settled.push_reserved(settle_queue(board, keeper, desk, room, &mut ends, &mut lanes));
     }
+    collect_all(board, keeper, lanes);
     settled
 }
 
 // Gets all memory that settling takes.
-fn get_rooms(
+pub(crate) fn get_rooms(
     alloc: Global,
     desks: &[Desk],
     ends: &[ClientEnd],
-) -> Result<(Vec<QueueRoom>, Vec<SettledQueue>), AllocError>
+) -> Result<Rooms, AllocError>
     ensures rooms { IfOk result (λ r. AreRoomy ends.now (map seen desks.now) r.0.items) }
     ensures none { IfOk result (λ r. r.1.items ≡ []) }
     ensures room { IfOk result (λ r. length desks.now ≤ vec_capacity r.1) }
@@ -333,98 +363,20 @@ fn get_rooms(
     Ok((rooms, settled))
 }
 
-// A broker that isn't settled, with its core under its lock again.
-fn unsettled<B: Room>(
-    fault: SettleAllFault,
-    held: Held<B>,
-    board: Board,
-    desks: Vec<Desk>,
-    openings: SharedFront,
-    ends: Vec<ClientEnd>,
-    lanes: Vec<Lane>,
-) -> UnsettledBroker<B>
-    requires apart { AreApart (map seen desks.items) }
-    requires board { board ≡ B.board }
-    requires openings { (openings.board ≡ B.board) × AreOpened (last_of B.opened openings.left) (map seen desks.items) }
-    ensures fault { result.fault ≡ fault }
-    ensures back { (result.broker ≡ map seen desks.items) × (result.ends.items ≡ ends.items) × (result.lanes.items ≡ lanes.items) }
-{
-    let broker = Broker {
-        held: Mutex::new(held),
-        board,
-        desks,
-        openings,
-    };
-    UnsettledBroker {
-        fault,
-        broker,
-        ends,
-        lanes,
-    }
-}
+/// Room that was got to settle rings: for the words and passes of each, and for what comes of them.
+pub(crate) type Rooms = (Vec<QueueRoom>, Vec<SettledQueue>);
 
-impl<B: Room> Held<B> {
-    // The core.
-    fn core(&self) -> &AccessCore
-        ensures { result.now ≡ self.now.core }
-    {
-        &self.core
-    }
-
-    // The core alone.
-    fn into_core(self) -> AccessCore
-        ensures { result ≡ self.core }
-    {
-        let Held {
-            core,
-            keeper: _,
-            room: _,
-        } = self;
-        core
-    }
-
-    // What a lane served stands among what the core took, in order.
-    fn show(&mut self, board: &Board, lane: &mut Lane)
-        requires { (board.now ≡ B.board) × HasSeen B.board lane.old }
-        ensures same { (self.new ≡ self.old) × (lane.new ≡ lane.old) }
-        ensures shown { IsShown B.opened self.old.left lane.old }
-    {
-        let front = lane.copy_front(board);
-        board.check(&mut self.keeper, front);
-    }
-
-    // So it does of all lanes.
-    fn show_all(&mut self, board: &Board, lanes: &mut Vec<Lane>)
-        requires board { board.now ≡ B.board }
-        requires seen { All (HasSeen B.board) lanes.old.items }
-        ensures same { (self.new ≡ self.old) × (lanes.new.items ≡ lanes.old.items) }
-        ensures shown { All (IsShown B.opened self.old.left) lanes.old.items }
-    {
-        for place in 0..lanes.len() {
-            self.show(board, &mut lanes[place]);
-        }
-    }
-
-    // What a front has seen stands before, and so does of all lanes what they served.
-    fn end(&mut self, board: &Board, front: &mut Front, lanes: &mut Vec<Lane>)
-        requires board { (board.now ≡ B.board) × (front.old.board ≡ B.board) }
-        requires seen { All (HasSeen B.board) lanes.old.items }
-        ensures same { (self.new ≡ self.old) × (front.new ≡ front.old) × (lanes.new.items ≡ lanes.old.items) }
-        ensures end { IsEnd B.opened front.old.left lanes.old.items self.old.core }
-    {
-        let seen = board.copy(front);
-        board.check(&mut self.keeper, seen);
-        self.show_all(board, lanes);
-    }
-}
-
-// Settles a broker whose passes are all there, and to whose core the parts lead, in rooms that were got for it.
-fn settle_in_rooms(
+// Settles a broker whose passes are all there, and to whose core the parts lead, in rooms that were got for it. All fronts
+// come back.
+#[tactic(auto, using(crate::proofs::Gathering::gathered_both))]
+pub(crate) fn settle_in_rooms(
+    board: &Board,
+    keeper: &mut Keeper,
     core: AccessCore,
     settled: &SettledParts,
     parts: &[Part],
     desks: Vec<Desk>,
-    rooms: (Vec<QueueRoom>, Vec<SettledQueue>),
+    rooms: Rooms,
     ends: Vec<ClientEnd>,
     lanes: Vec<Lane>,
 ) -> Settlement
@@ -434,73 +386,73 @@ fn settle_in_rooms(
     requires ready { AreReady ends.items lanes.items (map seen desks.items) rooms.0.items ends.items lanes.items }
     requires none { rooms.1.items ≡ [] }
     requires room { length desks.items ≤ vec_capacity rooms.1 }
+    requires board { (keeper.old.board ≡ board.now) × All (IsOnBoard board.now) lanes.items }
+    requires knows { KnowsAll keeper.old }
+    ensures gathered { HasGathered keeper.old lanes.items keeper.new [] }
+    ensures knows { KnowsAll keeper.new }
     ensures settled { IsSettlement (map seen desks.items) (settled.now ++ parts.now) ends.items lanes.items result }
     ensures core { core_of result ≡ core }
 {
     if let Some((queue, id)) = find_mismatch(settled, parts, core.audit(), lanes.as_slice()) {
+        collect_all(board, keeper, lanes);
         return Settlement::Mismatch { core, queue, id };
     }
     let (rooms, room) = rooms;
-    let rings = settle_rings(desks, rooms, ends, lanes, room);
+    let rings = settle_rings(board, keeper, desks, rooms, ends, lanes, room);
     Settlement::Settled { core, rings }
 }
 
-/// Settles a broker once its threads have ended, all its ends and lanes have come back, and with all parts that
-/// were handed out of its core, in order: those that were settled as they came, and then these. The core is the one that
-/// the broker was opened with, as the last section left it: what the front has seen stands before, and what each lane
-/// served stands, in order, among all that it took. Where all parts and the audit have of each queue just the packets
-/// that its lane served, ids and bytes, in order, each ring is settled: they are the packets that were published under
-/// the ids below its read index, and every other published packet stands whole in its slot. Else it names the least
-/// queue and the least id at which they differ. Refused in this order: a pass is missing; the first of all parts doesn't
-/// begin with nothing before it, a later one doesn't begin where the one before it ends, or the audit doesn't begin
-/// where the last ends (without parts: the audit has entries before it); memory isn't to be had. All then comes back as
-/// it was.
-#[tactic(auto, using(crate::proofs::Readiness::all_ready))]
+/// Settles a broker once its threads have ended, all its ends and lanes and all fronts have come back, and with all parts
+/// that were handed out of its core, in order: those that were settled as they came, and then these. Who has several fronts
+/// unites them. The core is the one that the broker was opened with, as the last section left it: each section since was
+/// made through these fronts, and no other was; what the front has seen stands before, and what each lane served stands, in
+/// order, among all that it took. Where all parts and the audit have of each queue just the packets that its lane served,
+/// ids and bytes, in order, each ring is settled: they are the packets that were published under the ids below its read
+/// index, and every other published packet stands whole in its slot. Else it names the least queue and the least id at which
+/// they differ. Refused in this order: a front is missing; a pass is missing; the first of all parts doesn't begin with
+/// nothing before it, a later one doesn't begin where the one before it ends, or the audit doesn't begin where the last ends
+/// (without parts: the audit has entries before it); memory isn't to be had. All then comes back as it was.
+#[tactic(auto, using(crate::proofs::Readiness::all_ready, crate::proofs::GoingOn::all_seen, crate::proofs::GoingOn::all_on_board, crate::proofs::Gathering::closed_of, crate::proofs::Gathering::end_of))]
 pub fn settle_all<B: Room>(
     alloc: Global,
     broker: Broker<B>,
-    front: &mut Front,
+    front: Front,
     settled: &SettledParts,
     parts: &[Part],
     ends: Vec<ClientEnd>,
     lanes: Vec<Lane>,
 ) -> Result<Settlement, UnsettledBroker<B>>
-    requires front { front.old.board ≡ B.board }
+    requires front { front.board ≡ B.board }
     requires ends { All (λ end. IsEndOf broker end) ends.items }
     requires lanes { All (λ lane. IsLaneOf B.board broker lane) lanes.items }
     requires settled { AreSettledWith settled.now lanes.items }
-    ensures front { front.new ≡ front.old }
-    ensures end { IfOk result (λ settlement. IsEnd B.opened front.old.left lanes.items (core_of settlement)) }
+    ensures closed { IfOk result (λ settlement. IsClosed B.opened front lanes.items (core_of settlement)) }
     ensures settled { IfOk result (IsSettlement broker (settled.now ++ parts.now) ends.items lanes.items) }
-    ensures all { IfOk result (λ _. has_all_passes broker ends.items lanes.items ≡ true) }
-    ensures fault { IfErr result (λ u. IsUnsettledFor B.opened front.old.left broker (settled.now ++ parts.now) ends.items lanes.items u.fault) }
-    ensures back { IfErr result (λ u. (u.broker ≡ broker) × (u.ends.items ≡ ends.items) × (u.lanes.items ≡ lanes.items)) }
+    ensures all { IfOk result (λ _. (have_all_shares front lanes.items ≡ true) × (has_all_passes broker ends.items lanes.items ≡ true)) }
+    ensures fault { IfErr result (λ u. IsUnsettledFor B.opened front broker (settled.now ++ parts.now) ends.items lanes.items u.broker.core u.fault) }
+    ensures back { IfErr result (λ u. (u.broker.rings ≡ broker) × (u.front ≡ front) × (u.ends.items ≡ ends.items) × (u.lanes.items ≡ lanes.items)) }
 {
-    let Broker {
-        held,
-        board,
-        desks,
-        openings,
-    } = broker;
-    let mut held = held.into_inner();
+    let mut broker = StillBroker::of(broker);
+    let mut front = front;
     let mut lanes = lanes;
-    held.end(&board, front, &mut lanes);
-    if !has_all_passes(desks.as_slice(), ends.as_slice(), lanes.as_slice()) {
-        let why = SettleAllFault::MissingPass;
-        return Err(unsettled(why, held, board, desks, openings, ends, lanes));
+    broker.end(&mut front, &mut lanes);
+    if let Some(fault) = broker.cause(&front, settled, parts, ends.as_slice(), lanes.as_slice()) {
+        return Err(UnsettledBroker {
+            fault,
+            broker,
+            front,
+            ends,
+            lanes,
+        });
     }
-    if !leads(settled, parts, held.core()) {
-        let why = SettleAllFault::NotNext;
-        return Err(unsettled(why, held, board, desks, openings, ends, lanes));
-    }
-    match get_rooms(alloc, desks.as_slice(), ends.as_slice()) {
-        Err(_) => {
-            let why = SettleAllFault::OutOfMemory;
-            Err(unsettled(why, held, board, desks, openings, ends, lanes))
-        }
-        Ok(rooms) => {
-            let core = held.into_core();
-            Ok(settle_in_rooms(core, settled, parts, desks, rooms, ends, lanes))
-        }
+    match broker.rooms(alloc, ends.as_slice()) {
+        Err(_) => Err(UnsettledBroker {
+            fault: SettleAllFault::OutOfMemory,
+            broker,
+            front,
+            ends,
+            lanes,
+        }),
+        Ok(rooms) => Ok(broker.settle(front, settled, parts, rooms, ends, lanes)),
     }
 }

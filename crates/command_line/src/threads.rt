@@ -14,9 +14,7 @@ use std::sync::Wait;
 use std::thread::Threads;
 use std::time::{Clock, Duration, Instant};
 use std::{io, thread};
-use threads_load::{
-    Ending, Load, LoadFault, LoadLimits, LoadTerms, PACKETS, PLACES, Watch, run_load_watched,
-};
+use threads_load::{Ending, Load, LoadFault, LoadTerms, PLACES, Watch, run_load_watched};
 
 /// What is told of a load that has no queue.
 const NO_QUEUE: &str =
@@ -55,15 +53,7 @@ pub struct AskedLoad {
 impl AskedLoad {
     // The terms of the load.
     fn terms(self) -> LoadTerms {
-        let limits = match self.packets {
-            Some(_) => LoadLimits::for_each_packet(),
-            None => LoadLimits::in_all(),
-        };
-        LoadTerms {
-            producers: self.producers,
-            packets: self.packets.unwrap_or(PACKETS),
-            limits,
-        }
+        LoadTerms::of(self.producers, self.packets)
     }
 }
 

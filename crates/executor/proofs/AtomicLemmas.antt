@@ -1,18 +1,23 @@
 -- What an atomic operation comes to, by the number that it finds.
-use Rattle.std.proofs.Common.{◌≡◌, ℕ, ◌+◌, ◌≤◌, List, take, drop, Option, Some, None, refl, ap, ◌∙◌, arith}
+use Rattle.std.proofs.Common.{◌≡◌, ℕ, ◌+◌, ◌≤◌, List, take, drop, Option, Some, None, refl, sym, ap, ◌∙◌, arith}
 use Rattle.std.specs.Prelude.{Result, Ok, Err}
-use Rattle.std.specs.Int.{Width}
+use Rattle.std.specs.Int.{Width, w32, w64}
 use Rattle.byteorder.specs.Endian.{little_number}
 use Rattle.byteorder.specs.Numbers.{little_from-take}
 use Rattle.executor.specs.Accesses.{atomic_broken, group_atomic_broken, lent, unless_broken}
-use Rattle.executor.specs.Atomics.{bytes_found, replacing}
+use Rattle.executor.specs.Atomics.{bytes_found, left32, left64, place_of, replacing, replacing32, replacing64, told32, told64}
 use Rattle.executor.specs.Items.{Contents, LentRegion}
-use Rattle.executor.specs.Meaning.{Act}
+use Rattle.executor.specs.Meaning.{Act, after_atomic32, after_atomic64, broke, goes_on, onward}
+use Rattle.executor.specs.Registers.{read32, read64}
 use Rattle.executor.specs.Written.{seen}
-use Rattle.executor.specs.inner.Found.{number_found}
+use Rattle.executor.specs.declared.item.Item.{Item}
+use Rattle.executor.specs.declared.registers.Registers.{Registers}
+use Rattle.executor.specs.inner.Found.{number_found, Changes32, Changes64}
 use Rattle.kernel_check.specs.Flat.{changed}
 use Rattle.kernel_check.specs.declared.flat_parts.Change.{Change}
 use Rattle.kernel_check.specs.declared.flat_parts.Change.TheVariants as change
+use Rattle.kernel_check.specs.declared.step.AtomicPointer.{AtomicPointer}
+use Rattle.kernel_check.specs.declared.step.AtomicStep.{AtomicStep}
 use Rattle.kernel_check.specs.declared.step.Source.{Source}
 use Rattle.queue_error.specs.declared.error.SegmentAddress.{SegmentAddress}
 use Rattle.queue_error.specs.declared.error.SegmentAddress.TheVariants as segment
@@ -53,3 +58,57 @@ replaced_by w read change.And s old = refl
 replaced_by w read change.Or s old = refl
 replaced_by w read change.Xor s old = refl
 replaced_by w read change.Exchange s old = refl
+
+-- one of 32 bits at a place
+module _ (view : List LentRegion) (m : Contents) (i : Item) (f : Change) (source : Source ℕ) (target : Option ℕ) (p : AtomicPointer) (x : SegmentAddress) (at : x ≡ place_of i.registers p) where
+  abbrev step32 : AtomicStep (Source ℕ)
+  step32 = record { target = target; pointer = p; operation = changed f source }
+
+  pub changed_on32 : (after : Contents) (value old : ℕ) (told : Registers) → value ≡ read32 i.registers source → Changes32 view m after f x value old → told ≡ told32 i.registers target old
+      → after_atomic32 i m step32 (bytes_found view m (place_of i.registers p) 4) ≡ goes_on (onward i told) after
+  changed_on32 after value old told same did tells =
+      let left : replacing w32 (λ v. v) (changed f value) old ≡ replacing32 i.registers (changed f source) old =
+      ap (λ v. replacing w32 (λ u. u) (changed f v) old) same ∙ replaced_by w32 (read32 i.registers) f source old in
+      went_on view m 4 (after_atomic32 i m step32)
+      (λ o. goes_on (onward i (told32 i.registers target o)) (left32 m (place_of i.registers p) (replacing32 i.registers (changed f source) o)))
+      (λ rule. broke rule (Some (place_of i.registers p))) (λ bytes. refl) (λ rule. refl) (place_of i.registers p) old
+      (ap (λ y. number_found view m y 4) (sym at) ∙ did.0)
+      ∙ (ap (λ r. goes_on (onward i r) (left32 m (place_of i.registers p) (replacing32 i.registers (changed f source) old))) (sym tells)
+      ∙ (ap (λ o. goes_on (onward i told) (left32 m (place_of i.registers p) o)) (sym left)
+      ∙ (ap (λ y. goes_on (onward i told) (left32 m y (replacing w32 (λ v. v) (changed f value) old))) (sym at)
+      ∙ ap (λ n. goes_on (onward i told) n) (sym did.1))))
+
+  pub changed_off32 : (rule : Rule) → number_found view m x 4 ≡ Err rule → after_atomic32 i m step32 (bytes_found view m (place_of i.registers p) 4) ≡ broke rule (Some x)
+  changed_off32 rule is =
+      broke_off view m 4 (after_atomic32 i m step32)
+      (λ o. goes_on (onward i (told32 i.registers target o)) (left32 m (place_of i.registers p) (replacing32 i.registers (changed f source) o)))
+      (λ other. broke other (Some (place_of i.registers p))) (λ bytes. refl) (λ other. refl) (place_of i.registers p) rule
+      (ap (λ y. number_found view m y 4) (sym at) ∙ is)
+      ∙ ap (λ y. broke rule (Some y)) (sym at)
+
+-- one of 64 bits at a place
+module _ (view : List LentRegion) (m : Contents) (i : Item) (f : Change) (source : Source ℕ) (target : Option ℕ) (p : AtomicPointer) (x : SegmentAddress) (at : x ≡ place_of i.registers p) where
+  abbrev step64 : AtomicStep (Source ℕ)
+  step64 = record { target = target; pointer = p; operation = changed f source }
+
+  pub changed_on64 : (after : Contents) (value old : ℕ) (told : Registers) → value ≡ read64 i.registers source → Changes64 view m after f x value old → told ≡ told64 i.registers target old
+      → after_atomic64 i m step64 (bytes_found view m (place_of i.registers p) 8) ≡ goes_on (onward i told) after
+  changed_on64 after value old told same did tells =
+      let left : replacing w64 (λ v. v) (changed f value) old ≡ replacing64 i.registers (changed f source) old =
+      ap (λ v. replacing w64 (λ u. u) (changed f v) old) same ∙ replaced_by w64 (read64 i.registers) f source old in
+      went_on view m 8 (after_atomic64 i m step64)
+      (λ o. goes_on (onward i (told64 i.registers target o)) (left64 m (place_of i.registers p) (replacing64 i.registers (changed f source) o)))
+      (λ rule. broke rule (Some (place_of i.registers p))) (λ bytes. refl) (λ rule. refl) (place_of i.registers p) old
+      (ap (λ y. number_found view m y 8) (sym at) ∙ did.0)
+      ∙ (ap (λ r. goes_on (onward i r) (left64 m (place_of i.registers p) (replacing64 i.registers (changed f source) old))) (sym tells)
+      ∙ (ap (λ o. goes_on (onward i told) (left64 m (place_of i.registers p) o)) (sym left)
+      ∙ (ap (λ y. goes_on (onward i told) (left64 m y (replacing w64 (λ v. v) (changed f value) old))) (sym at)
+      ∙ ap (λ n. goes_on (onward i told) n) (sym did.1))))
+
+  pub changed_off64 : (rule : Rule) → number_found view m x 8 ≡ Err rule → after_atomic64 i m step64 (bytes_found view m (place_of i.registers p) 8) ≡ broke rule (Some x)
+  changed_off64 rule is =
+      broke_off view m 8 (after_atomic64 i m step64)
+      (λ o. goes_on (onward i (told64 i.registers target o)) (left64 m (place_of i.registers p) (replacing64 i.registers (changed f source) o)))
+      (λ other. broke other (Some (place_of i.registers p))) (λ bytes. refl) (λ other. refl) (place_of i.registers p) rule
+      (ap (λ y. number_found view m y 8) (sym at) ∙ is)
+      ∙ ap (λ y. broke rule (Some y)) (sym at)

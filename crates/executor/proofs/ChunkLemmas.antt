@@ -5,19 +5,19 @@ use Rattle.std.specs.List.{insert}
 use Rattle.std.specs.List.Sorted.{IsNonDecreasingBy, IsPartitionPoint}
 use Rattle.std.specs.Int.{bit_at, w64}
 use Rattle.std.specs.Option.{option_and_then}
-use Rattle.std.proofs.lemmas.Bool.{cases_lt}
+use Rattle.std.proofs.lemmas.Bool.{cases_eq, cases_lt}
 use Rattle.std.proofs.lemmas.Bool.Decides.{nat_tests}
 use Rattle.std.proofs.lemmas.Nat.Bits.{bit_at_set_other, bit_at_set_same}
 use Rattle.std.proofs.Common.{length-append, ltb, ltb-true, ltb-false}
 use Rattle.executor.specs.declared.page.Page.{Page}
 use Rattle.executor.specs.declared.written_range.WrittenRange.{WrittenRange}
-use Rattle.executor.specs.inner.Pages.{ChunkSeen, IsChunk, page_byte, page_at, page_of, chunk_byte, chunk_of, byte_at, unplaced, number_at, Rises, StandsAt, PlaceOf, Parts, IsWritten}
+use Rattle.executor.specs.inner.Pages.{ChunkSeen, IsChunk, page_byte, page_at, page_of, chunk_byte, chunk_of, byte_at, unplaced, number_at, Rises, StandsAt, PlaceOf, Parts, IsApart, IsPage, page_place, IsWritten}
 use Rattle.byteorder.specs.Endian.{little_number}
 use Rattle.executor.specs.Written.{laid, seen, AreRuns}
 use Rattle.executor.specs.Told.{runs_of}
 use Rattle.executor.specs.inner.Told.{Told, Gathers, NextRun}
-use Rattle.executor.specs.inner.Words.{laid_if, or_below, seen_number}
-use Rattle.executor.proofs.Maps.{size_64, size_chunk, at_known, at_unknown, laid_same, seen_block, seen_no_block, level_stored}
+use Rattle.executor.specs.inner.Words.{laid_if, or_below, seen_number, IsWhole}
+use Rattle.executor.proofs.Maps.{size_64, size_chunk, at_known, at_unknown, laid_same, seen_block, seen_no_block, seen_none, level_stored}
 use Rattle.executor.proofs.RunLemmas.{told_all, told_at, told_nothing, told_runs, told_skipped, gathers_gap, gathers_block}
 use Rattle.executor.proofs.WordLemmas.{level_read, level_unread, level_overwritten}
 
@@ -215,6 +215,12 @@ number_got [] place chunk is h = absurd (omega arith)
 number_got (c ∷ chunks) zero chunk is h = ap (λ k. k.number) (sym is)
 number_got (c ∷ chunks) (suc place) chunk is h = number_got chunks place chunk is (omega arith)
 
+-- where the pages of the chunk at a place stand
+pub page_got : (chunks : List ChunkSeen) (place index : ℕ) (chunk : ChunkSeen) → chunk ≡ get_or chunks place chunk → place < length chunks → page_place chunks place index ≡ get_or chunk.places index 0
+page_got [] place index chunk is h = absurd (omega arith)
+page_got (c ∷ chunks) zero index chunk is h = ap (λ k. get_or k.places index 0) (sym is)
+page_got (c ∷ chunks) (suc place) index chunk is h = page_got chunks place index chunk is (omega arith)
+
 -- the chunk that stands at a place is found by its number
 pub standing : (floor limit : ℕ) (chunks : List ChunkSeen) (place number : ℕ) (chunk : ChunkSeen) → Rises floor limit chunks → StandsAt chunks place number
     → chunk ≡ get_or chunks place chunk → chunk_of chunks number ≡ Some chunk
@@ -361,6 +367,15 @@ module _ (value chunks : List ChunkSeen) (view : chunks ≡ value) (last last_nu
 -- ---- where a chunk stands
 pub place_past : (chunks : List ChunkSeen) (last last_number begin limit number : ℕ) → IsWritten chunks last last_number begin limit → limit ≤ number → PlaceOf chunks number None
 place_past chunks last last_number begin limit number is past = λ k h e. absurd (omega (arith, rises_below 0 limit chunks k is.rises h, e))
+
+-- no chunk of a number stands anywhere that is so far before all, or behind them
+pub apart_before : (chunks : List ChunkSeen) (last last_number begin limit number : ℕ) → IsWritten chunks last last_number begin limit → number + 1 < begin → IsApart chunks number
+apart_before chunks last last_number begin limit number is less =
+    (λ k h e. absurd (omega (arith, is.begins k h, e, less)), λ k h e. absurd (omega (arith, is.begins k h, e, less)))
+
+pub apart_behind : (chunks : List ChunkSeen) (last last_number begin limit number : ℕ) → IsWritten chunks last last_number begin limit → limit ≤ number → IsApart chunks number
+apart_behind chunks last last_number begin limit number is more =
+    (place_past chunks last last_number begin limit number is more, place_past chunks last last_number begin limit (number + 1) is (omega (arith, more)))
 
 pub place_missed : (chunks : List ChunkSeen) (last last_number begin limit number place : ℕ) → IsWritten chunks last last_number begin limit → Parts chunks number place
     → (place < length chunks → number_at chunks place ≢ number) → PlaceOf chunks number None
@@ -525,6 +540,19 @@ module _ (value chunk : ChunkSeen) (view : chunk ≡ value) (is : IsChunk chunk)
       subst (λ v. or_below read below ≡ seen_number (chunk_byte v) a below) view
       (level_read page_byte 64 size_64 (page_of chunk) a page below read fits page_known change)
 
+  pub chunk_whole : (size number : ℕ) → a % 64 + size ≤ 64 → IsWhole (page_byte page) (a % 64) size number → IsWhole (chunk_byte value) a size number
+  chunk_whole size number fits whole below long = chunk_read below (Some number) (omega (arith, fits, long)) (whole below long)
+
+  -- a page in which a byte is written isn't the empty one
+  pub chunk_own : page_byte page (a % 64) ≢ None → 0 < get_or chunk.places (a / 64) 0
+  chunk_own some = elim (cases_lt 0 (get_or chunk.places (a / 64) 0)) [
+    | inl own ↦ own
+    | inr none ↦
+        let zero_place : get_or chunk.places (a / 64) 0 ≡ 0 = omega (arith, none) in
+        let known : page_at chunk.pages (get_or chunk.places (a / 64) 0) ≡ page = got chunk.pages (get_or chunk.places (a / 64) 0) page _ was (is.within (a / 64)) in
+        absurd (some (ap (λ p. page_byte p (a % 64)) (sym known) ∙ (ap (λ n. page_byte (page_at chunk.pages n) (a % 64)) zero_place ∙ is.empty (a % 64))))
+  ]
+
   pub chunk_loaded : (old new : List ℕ) → a % 64 + length old ≤ 64 → new ≡ seen (page_byte page) (a % 64) old → new ≡ seen (chunk_byte value) a old
   chunk_loaded old new fits change =
       subst (λ v. new ≡ seen (chunk_byte v) a old) view (change ∙ seen_block page_byte 64 size_64 (page_of chunk) a page old fits page_known)
@@ -607,6 +635,19 @@ module _ (value chunks : List ChunkSeen) (view : chunks ≡ value) (last last_nu
         subst (λ v. or_below read below ≡ seen_number (byte_at v) a below) view
         (level_read chunk_byte (2 ^ 13) size_chunk (chunk_of chunks) a chunk below read (omega arith) chunk_known change)
 
+    pub written_number : (size number : ℕ) → a % 64 + size ≤ 64 → IsWhole (chunk_byte chunk) (a % 2 ^ 13) size number → IsWhole (byte_at value) a size number
+    written_number size number fits whole below long = written_read below (Some number) (omega (arith, fits, long)) (whole below long)
+
+    pub written_page : (page : ℕ) → get_or chunk.places (a % 2 ^ 13 / 64) 0 ≡ page → 0 < page → IsPage value a place page
+    written_page page at own = record {
+      stands = stands;
+      is = page_got value place (a % 2 ^ 13 / 64) chunk (was ∙ ap (λ xs. get_or xs place chunk) view) stands.0 ∙ at;
+      own = own;
+    }
+
+    pub page_found : (page : ℕ) → IsPage value a place page → get_or chunk.places (a % 2 ^ 13 / 64) 0 ≡ page
+    page_found page known = sym (page_got value place (a % 2 ^ 13 / 64) chunk (was ∙ ap (λ xs. get_or xs place chunk) view) stands.0) ∙ known.is
+
     pub written_loaded : (old new : List ℕ) → a % 64 + length old ≤ 64 → new ≡ seen (chunk_byte chunk) (a % 2 ^ 13) old → new ≡ seen (byte_at value) a old
     written_loaded old new fits change =
         subst (λ v. new ≡ seen (byte_at v) a old) view (change ∙ seen_block chunk_byte (2 ^ 13) size_chunk (chunk_of chunks) a chunk old (omega arith) chunk_known)
@@ -624,11 +665,23 @@ module _ (value chunks : List ChunkSeen) (view : chunks ≡ value) (last last_nu
           (others_found chunks last last_number begin limit place chunk new is stands_here.0 was same (a / 2 ^ 13) stands_here.1) low done (omega arith) change x)
 
   module _ (none : PlaceOf value (a / 2 ^ 13) None) where
-    pub written_unread : (below : List ℕ) → a % 64 + length below ≤ 64 → little_number (length below) below ≡ seen_number (byte_at value) a below
-    written_unread below fits = level_unread chunk_byte (2 ^ 13) size_chunk (chunk_of value) a below (omega arith) (missing value (a / 2 ^ 13) none)
-
     pub written_unloaded : (old : List ℕ) → a % 64 + length old ≤ 64 → old ≡ seen (byte_at value) a old
     written_unloaded old fits = seen_no_block chunk_byte (2 ^ 13) size_chunk (chunk_of value) a old (omega arith) (missing value (a / 2 ^ 13) none)
+
+-- an access in one page sees the bytes below where there is no chunk
+pub written_unread : (value : List ChunkSeen) (a : ℕ) (below : List ℕ) → PlaceOf value (a / 2 ^ 13) None → a % 64 + length below ≤ 64
+    → little_number (length below) below ≡ seen_number (byte_at value) a below
+written_unread value a below none fits = level_unread chunk_byte (2 ^ 13) size_chunk (chunk_of value) a below (omega (arith, fits)) (missing value (a / 2 ^ 13) none)
+
+-- an access of a few bytes sees those below where there is no chunk, nor a next one
+pub written_apart : (value : List ChunkSeen) (a : ℕ) (below : List ℕ) → IsApart value (a / 2 ^ 13) → length below ≤ 8 → little_number (length below) below ≡ seen_number (byte_at value) a below
+written_apart value a below apart few =
+    ap (little_number (length below)) (seen_none (byte_at value) a below (λ i h. elim (cases_eq ((a + i) / 2 ^ 13) (a / 2 ^ 13)) [
+      | inl same ↦ at_unknown chunk_byte (2 ^ 13) size_chunk (chunk_of value) (a + i) (ap (chunk_of value) same ∙ missing value (a / 2 ^ 13) apart.0)
+      | inr other ↦
+          let next : (a + i) / 2 ^ 13 ≡ a / 2 ^ 13 + 1 = omega (arith, other, h, few) in
+          at_unknown chunk_byte (2 ^ 13) size_chunk (chunk_of value) (a + i) (ap (chunk_of value) next ∙ missing value (a / 2 ^ 13 + 1) apart.1)
+    ]))
 
 -- what is stored in a chunk that was made for it
 module _ (value chunks before : List ChunkSeen) (view : chunks ≡ value) (same_bytes : (x : ℕ) → byte_at value x ≡ byte_at before x) (last last_number begin limit : ℕ) (is : IsWritten chunks last last_number begin limit)

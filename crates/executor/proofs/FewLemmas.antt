@@ -1,5 +1,5 @@
 -- Steps that set few registers leave the others as they are.
-use Rattle.std.proofs.Common.{◌≡◌, ◌==◌, ℕ, zero, suc, ◌+◌, ◌<◌, ◌≤◌, nat_lt, Bool, true, false, List, [], ◌∷◌, length, slice_set, replicate, Option, Some, None, refl, ap, ◌∙◌, subst, arith}
+use Rattle.std.proofs.Common.{◌≡◌, ◌==◌, ℕ, zero, suc, ◌+◌, ◌-◌, ◌<◌, ◌≤◌, nat_lt, Bool, true, false, List, [], ◌∷◌, length, slice_set, replicate, Option, Some, None, refl, ap, ◌∙◌, subst, arith}
 use Rattle.std.specs.Prelude.{drop, slice_get, if◌then◌else◌, Result, Ok, Err}
 use Rattle.std.specs.List.{list_all}
 use Rattle.std.proofs.lemmas.Bool.{and_parts}
@@ -151,8 +151,8 @@ first_done x (a ∷ b ∷ c ∷ d ∷ e ∷ f ∷ g ∷ []) long rest = absurd (
 first_done x (a ∷ b ∷ c ∷ d ∷ e ∷ f ∷ g ∷ h ∷ xs) long rest = ap (λ ys. x ∷ x ∷ x ∷ x ∷ x ∷ x ∷ x ∷ x ∷ ys) rest
 
 -- an item that begins anew
-pub begun_anew : (P : Item → ℕ → Type 0) (i : Item) (executed : ℕ) → i ≡ fresh → executed ≡ 0 → P i executed → P fresh 0
-begun_anew P i executed is none holds = subst (λ k. P fresh k) none (subst (λ j. P j executed) is holds)
+pub begun_anew : (P : Item → ℕ → Type 0) (i : Item) (left : ℕ) → i ≡ fresh → left ≡ 65536 → P i (65536 - left) → P fresh 0
+begun_anew P i left is all holds = subst (λ k. P fresh (65536 - k)) all (subst (λ j. P j (65536 - left)) is holds)
 
 pub left_rest : (result : Bool) (steps : List Step) (before after : Registers) → result ≡ true → LeavesRest steps result before after → SetFew steps → RestIsZero before
     → RestIsZero after

@@ -1,5 +1,5 @@
 -- An item that runs until it stops, by how many instructions it has left.
-use Rattle.std.proofs.Common.{◌≡◌, Option, ℕ, ◌+◌, ◌-◌, ◌<◌, ◌≤◌, List, ◌∷◌, ◌++◌, length, slice_index, subst, arith}
+use Rattle.std.proofs.Common.{◌≡◌, Option, ℕ, ◌+◌, ◌-◌, ◌<◌, ◌≤◌, List, ◌∷◌, ◌++◌, length, min, slice_index, subst, arith}
 use Rattle.executor.specs.Group.{Standing, ready, waiting, ended, running, context_of_item, Leads}
 use Rattle.executor.specs.Items.{Contents, Surroundings}
 use Rattle.executor.specs.Meaning.{Act, goes_on, arrives, ends, broke, turn}
@@ -20,11 +20,11 @@ Reached a p n begun before i left m = (earlier rest : List Standing) → AreStop
     → Leads a p (running (earlier ++ begun ∷ rest) before) (running (earlier ++ ready i (65536 - left) ∷ rest) m)
 
 module _ (a : Surroundings) (p : Program) (n : ℕ) where
-  pub reached_first : (i : Item) (executed : ℕ) (m : Contents) → executed ≤ 65536 → Reached a p n (ready i executed) m i (65536 - executed) m
-  reached_first i executed m few = λ earlier rest are many.
-      let same : executed ≡ 65536 - (65536 - executed) = omega (arith, few) in
-      subst (λ k. Leads a p (running (earlier ++ ready i executed ∷ rest) m) (running (earlier ++ ready i k ∷ rest) m)) same
-      (leads_none a p (running (earlier ++ ready i executed ∷ rest) m))
+  pub reached_first : (i : Item) (left few : ℕ) (m : Contents) → few ≡ min left 65536 → Reached a p n (ready i (65536 - left)) m i few m
+  reached_first i left few m is = λ earlier rest are many.
+      let same : 65536 - left ≡ 65536 - few = omega (arith, is) in
+      subst (λ k. Leads a p (running (earlier ++ ready i (65536 - left) ∷ rest) m) (running (earlier ++ ready i k ∷ rest) m)) same
+      (leads_none a p (running (earlier ++ ready i (65536 - left) ∷ rest) m))
 
   module _ (begun : Standing) (before : Contents) (i : Item) (left : ℕ) (m : Contents) (so_far : Reached a p n begun before i left m) where
     pub reached_more : (now : Item) (after : Contents) → left ≤ 65536 → 0 < left → turn (context_of_item a n) p.steps i (65536 - left) m ≡ goes_on now after

@@ -8,7 +8,7 @@ use Rattle.executor.specs.Group.{Standing, ready, ended, Status, running, done, 
 use Rattle.executor.specs.Items.{Contents, Surroundings, fresh}
 use Rattle.executor.specs.Runs.{Fails}
 use Rattle.executor.specs.inner.ItemRuns.{ItemRuns, ItemFails}
-use Rattle.executor.specs.inner.Stops.{after, is_barrier, standing, standing_at, stopped_again, keep_stopped, waits, AreStopped, CanGoOn, CanGoOnFrom}
+use Rattle.executor.specs.inner.Stops.{executed_by, after, is_barrier, standing, standing_at, stopped_again, keep_stopped, waits, AreStopped, CanGoOn, CanGoOnFrom}
 use Rattle.executor.specs.declared.fault.RunFault.{RunFault}
 use Rattle.executor.specs.declared.fault.RunFault.TheVariants as fault
 use Rattle.executor.specs.declared.item.Item.{Item}
@@ -28,7 +28,7 @@ one_stopped stop.End i executed rest are = are
 
 all_stopped : (xs : List StoppedItem) → AreStopped (map standing xs)
 all_stopped [] = tt
-all_stopped (x ∷ xs) = one_stopped x.stop x.item x.executed (map standing xs) (all_stopped xs)
+all_stopped (x ∷ xs) = one_stopped x.stop x.item (executed_by x) (map standing xs) (all_stopped xs)
 
 stopped_after : (n : ℕ) (xs : List Standing) → AreStopped xs → AreStopped (after n xs)
 stopped_after zero xs are = are
@@ -81,13 +81,13 @@ least_behind stop.End i executed n rest is = refl
 pub least_there : (xs : List StoppedItem) (k n : ℕ) (d : StoppedItem) → k < length xs → waits (get_or xs k d) ≡ true
     → least_waiting n (map standing (drop k xs)) ≡ Some (record { number = n; next = (get_or xs k d).item.next })
 least_there [] k n d lt is = absurd (omega arith)
-least_there (x ∷ xs) zero n d lt is = least_here x.stop x.item x.executed n (map standing xs) is
+least_there (x ∷ xs) zero n d lt is = least_here x.stop x.item (executed_by x) n (map standing xs) is
 least_there (x ∷ xs) (suc k) n d lt is = least_there xs k n d (omega arith) is
 
 pub least_past : (xs : List StoppedItem) (k n : ℕ) (d : StoppedItem) → k < length xs → waits (get_or xs k d) ≡ false
     → least_waiting n (map standing (drop k xs)) ≡ least_waiting (n + 1) (map standing (drop (suc k) xs))
 least_past [] k n d lt is = absurd (omega arith)
-least_past (x ∷ xs) zero n d lt is = least_behind x.stop x.item x.executed n (map standing xs) is
+least_past (x ∷ xs) zero n d lt is = least_behind x.stop x.item (executed_by x) n (map standing xs) is
 least_past (x ∷ xs) (suc k) n d lt is = least_past xs k n d (omega arith) is
 
 pub least_none : (xs : List StoppedItem) (k n : ℕ) → length xs ≤ k → least_waiting n (map standing (drop k xs)) ≡ None
@@ -174,7 +174,7 @@ module _ (a : Surroundings) (p : Program) (count : ℕ) (first : Contents) where
           by_list [] empty leads =
               let rest = begun (count - (n + 1)) in
               let place : after n [] ++ standing x ∷ rest ≡ after (n + 1) [] ++ rest =
-              ap (λ s. after n [] ++ s ∷ rest) (is_ended x.stop x.item x.executed is)
+              ap (λ s. after n [] ++ s ∷ rest) (is_ended x.stop x.item (executed_by x) is)
               ∙ after_append n [] (ended ∷ rest) ∙ sym (after_suc n rest) ∙ sym (after_append (suc n) [] rest)
               ∙ (let one : suc n ≡ n + 1 = omega arith in ap (λ k. after k [] ++ rest) one) in
               let less : n + 1 - 0 ≡ n + 1 = omega arith in
@@ -206,7 +206,7 @@ module _ (a : Surroundings) (p : Program) (count : ℕ) (first : Contents) where
 abbrev pub no_item : StoppedItem
 no_item = record {
   item = record { registers = record { control = []; single = []; double = [] }; next = 0 };
-  executed = 0;
+  left = 0;
   stop = stop.Barrier;
 }
 
@@ -281,23 +281,23 @@ module _ (a : Surroundings) (p : Program) (all : List StoppedItem) (first : Cont
     pub may_go : CanGoOn x
     may_go = can_here xs n d lt gone.1.0
 
-    ready_there : Leads a p start (running (prior ++ ready x.item x.executed ∷ rest) m)
+    ready_there : Leads a p start (running (prior ++ ready x.item (executed_by x) ∷ rest) m)
     ready_there =
-        let place : stopped_again n xs ≡ prior ++ ready x.item x.executed ∷ rest =
-        again_split xs n d lt ∙ ap (λ s. prior ++ s ∷ rest) (released_here x.stop x.item x.executed may_go.at_barrier) in
+        let place : stopped_again n xs ≡ prior ++ ready x.item (executed_by x) ∷ rest =
+        again_split xs n d lt ∙ ap (λ s. prior ++ s ∷ rest) (released_here x.stop x.item (executed_by x) may_go.at_barrier) in
         subst (λ zs. Leads a p start (running zs m)) place gone.1.1
 
-    pub next_fails : (e : RunFault) → ItemFails a p n (ready x.item x.executed) m e → Fails a p start e
+    pub next_fails : (e : RunFault) → ItemFails a p n (ready x.item (executed_by x)) m e → Fails a p start e
     next_fails fault.OutOfMemory fails = tt
     next_fails (fault.Fault f) fails =
-        leads_trans a p start (running (prior ++ ready x.item x.executed ∷ rest) m) (faulted f) ready_there
+        leads_trans a p start (running (prior ++ ready x.item (executed_by x) ∷ rest) m) (faulted f) ready_there
         (fails prior rest (all_stopped (take n xs)) (length_taken xs n lt))
 
-    pub next_goes : (y : StoppedItem) (now : Contents) → ItemRuns a p n (ready x.item x.executed) m (standing y) now → HaveGoneOn (n + 1) (slice_set xs n y) now
+    pub next_goes : (y : StoppedItem) (now : Contents) → ItemRuns a p n (ready x.item (executed_by x)) m (standing y) now → HaveGoneOn (n + 1) (slice_set xs n y) now
     next_goes y now runs =
         let one : suc n ≡ n + 1 = omega arith in
         let went : Leads a p start (running (prior ++ standing y ∷ rest) now) =
-        leads_trans a p start (running (prior ++ ready x.item x.executed ∷ rest) m) (running (prior ++ standing y ∷ rest) now) ready_there
+        leads_trans a p start (running (prior ++ ready x.item (executed_by x) ∷ rest) m) (running (prior ++ standing y ∷ rest) now) ready_there
         (runs prior rest (all_stopped (take n xs)) (length_taken xs n lt)) in (
           length_set xs n y ∙ gone.0,
           (
@@ -316,15 +316,15 @@ pub changed_whole : (n : ℕ) (xs ys : List StoppedItem) → n ≡ length ys →
 changed_whole n xs ys same = ap (λ k. take k (ys ++ drop (length ys) xs)) same ∙ take-append_seam ys (drop (length ys) xs)
 
 can_one : (next : ℕ) (s : Stop) (i : Item) (executed : ℕ) (rest : List Standing) → list_all (waits_before next) (standing_at s i executed ∷ rest) ≡ true
-    → Few (standing_at s i executed ∷ rest) → (is_barrier s ≡ true) × ((executed ≤ 65536) × ((list_all (waits_before next) rest ≡ true) × Few rest))
-can_one next stop.Barrier i executed rest is few = (refl, (few.0, ((and_parts _ (list_all (waits_before next) rest) is).1, few.1)))
+    → Few (standing_at s i executed ∷ rest) → (is_barrier s ≡ true) × ((list_all (waits_before next) rest ≡ true) × Few rest)
+can_one next stop.Barrier i executed rest is few = (refl, ((and_parts _ (list_all (waits_before next) rest) is).1, few.1))
 can_one next stop.End i executed rest is few = absurd cc
 
 can_all : (next : ℕ) (xs : List StoppedItem) → list_all (waits_before next) (map standing xs) ≡ true → Few (map standing xs) → CanGoOnFrom 0 xs
 can_all next [] is few = tt
 can_all next (x ∷ xs) is few =
-    let r = can_one next x.stop x.item x.executed (map standing xs) is few in
-    (record { at_barrier = r.0; within = r.1.0 }, can_all next xs r.1.1.0 r.1.1.1)
+    let r = can_one next x.stop x.item (executed_by x) (map standing xs) is few in
+    (record { at_barrier = r.0 }, can_all next xs r.1.0 r.1.1)
 
 none_ended : (n next : ℕ) (xs : List Standing) → list_all (waits_before next) (after n xs) ≡ true → n ≡ 0
 none_ended zero next xs is = refl

@@ -1,18 +1,19 @@
 -- Accesses of a few bytes of a page at once.
-use Rattle.std.proofs.Common.{◌≡◌, ◌≢◌, ℕ, zero, suc, ◌+◌, ◌-◌, ◌*◌, ◌/◌, ◌%◌, ◌^◌, ◌<◌, ◌≤◌, List, [], ◌∷◌, ◌++◌, length, take, drop, refl, sym, ap, ◌∙◌, arith, Option, Some, None, Bool, true, false, bit_or, bit_and, take-append-drop}
+use Rattle.std.proofs.Common.{◌≡◌, ◌≢◌, ℕ, zero, suc, ◌+◌, ◌-◌, ◌*◌, ◌/◌, ◌%◌, ◌^◌, ◌<◌, ◌≤◌, List, [], ◌∷◌, ◌++◌, length, take, drop, refl, sym, ap, subst, inl, inr, ◌∙◌, arith, Option, Some, None, Bool, true, false, bit_or, bit_and, take-append-drop}
 use Rattle.std.specs.Prelude.{slice_get, min, max}
 use Rattle.std.specs.Option.{unwrap_or}
 use Rattle.std.specs.Int.{bit_at, w64, to_le_bytes}
 use Rattle.std.proofs.lemmas.List.{append-nil, drop_all, length-drop, length-take-le, take_all}
 use Rattle.std.proofs.lemmas.Nat.{pow_pos, shl_whole, shr-shr}
-use Rattle.std.proofs.lemmas.Nat.Bits.{bit_at_and, bit_at_or, bit_at_ones, bit_at_ones_above, bit_at-zero, bit_at-lt, bit_at_cat_low, bit_at_cat_high}
+use Rattle.std.proofs.lemmas.Bool.{cases_lt}
+use Rattle.std.proofs.lemmas.Nat.Bits.{bit_at_above, bit_at_and, bit_at_or, bit_at_ones, bit_at_ones_above, bit_at-zero, bit_at-lt, bit_at_cat_low, bit_at_cat_high}
 use borrow.Rule.Slice.PartMut.{mid_of, put_mid}
 use Rattle.byteorder.specs.Endian.{little_number}
 use Rattle.byteorder.specs.Numbers.{little_from-append}
 use Rattle.executor.specs.declared.page.Page.{Page}
 use Rattle.executor.specs.Written.{laid, seen}
 use Rattle.executor.specs.inner.Pages.{page_byte, in_blocks}
-use Rattle.executor.specs.inner.Words.{laid_if, or_below, seen_number}
+use Rattle.executor.specs.inner.Words.{laid_if, or_below, seen_number, IsWhole}
 use Rattle.executor.proofs.Maps.{get_append_left, get_append_right, by_range, laid_below, laid_inside, laid_past, seen_none, IsSize, seen_block, seen_no_block, level_stored, level_kept}
 
 -- ---- bits of a mask
@@ -76,6 +77,11 @@ get_drop (suc n) [] i = refl
 get_drop (suc n) (x ∷ xs) i =
     let e : suc (n + i) ≡ suc n + i = omega arith in
     get_drop n xs i ∙ ap (slice_get (x ∷ xs)) e
+
+some_at : (xs : List ℕ) (i : ℕ) → i < length xs → slice_get xs i ≢ None
+some_at [] i h e = absurd (omega arith)
+some_at (x ∷ xs) zero h e = absurd cc
+some_at (x ∷ xs) (suc i) h e = some_at xs i (omega arith) e
 
 -- bytes put into the middle of others
 pub get_put : (bytes low : List ℕ) (place x : ℕ) → place + length low ≤ length bytes
@@ -141,6 +147,31 @@ read_all page place below e fits =
     ∙ ap (little_number n) (seen_all (page_byte page) place below part long (λ i h.
     set_at page (place + i) (all_set page.mask place n i e h)
     ∙ (sym (get_drop place page.bytes i) ∙ sym (get_take n (drop place page.bytes) i h)))))
+
+-- a part of a mask that is all set lies in it
+pub set_fits : (mask place size : ℕ) → mask < 2 ^ 64 → 1 ≤ size → bit_and (mask / 2 ^ place) (2 ^ size - 1) ≡ 2 ^ size - 1 → place + size ≤ 64
+set_fits mask place size small some set = elim (cases_lt 64 (place + size)) [
+  | inl past ↦
+      let last : bit_at mask (place + (size - 1)) ≡ 1 = all_set mask place size (size - 1) set (omega (arith, some)) in
+      let none : bit_at mask (place + (size - 1)) ≡ 0 = bit_at_above mask 64 (place + (size - 1)) small (omega (arith, some, past)) in
+      absurd (omega (arith, last, none))
+  | inr fits ↦ fits
+]
+
+-- a number whose bits of the mask are all set
+module _ (page : Page) (place size number : ℕ) (some : 1 ≤ size) (fits : place + size ≤ length page.bytes)
+    (set : bit_and (page.mask / 2 ^ place) (2 ^ size - 1) ≡ 2 ^ size - 1) where
+  pub read_whole : number ≡ little_number size (drop place page.bytes) → IsWhole (page_byte page) place size number
+  read_whole is below long =
+      is
+      ∙ (ap (λ n. little_number n (drop place page.bytes)) (sym long)
+      ∙ read_all page place below (subst (λ n. bit_and (page.mask / 2 ^ place) (2 ^ n - 1) ≡ 2 ^ n - 1) (sym long) set) (omega (arith, fits, long)))
+
+  pub whole_written : page_byte page place ≢ None
+  whole_written none =
+      let here : place + 0 ≡ place = omega arith in
+      let one : bit_at page.mask place ≡ 1 = subst (λ k. bit_at page.mask k ≡ 1) here (all_set page.mask place size 0 set (omega (arith, some))) in
+      some_at page.bytes place (omega (arith, fits, some)) (sym (set_at page place one) ∙ none)
 
 -- ---- writes to a page
 -- the bytes from a place on are all those behind it

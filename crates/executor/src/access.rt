@@ -3,8 +3,9 @@ ghost use Rattle.std.specs.Prelude.{◌≡◌, ◌+◌, ◌/◌, ◌==◌, ◌�
 ghost use Rattle.std.specs.Option.{option_copied};
 ghost use Rattle.executor.specs.Accesses.{region_of, broken, lent, loaded, stored};
 ghost use Rattle.executor.specs.Items.{lent_region};
+ghost use Rattle.policy.specs.declared.rights.Right.TheVariants.{Read, Write};
 ghost use Rattle.executor.specs.inner.Outcomes.{StoreFails};
-ghost use Rattle.executor.specs.inner.Whole.{broken_first, whole_in};
+ghost use Rattle.executor.specs.inner.Whole.{allowed_in, broken_first};
 ghost use Rattle.executor.specs.inner.Pages.{byte_at};
 
 use crate::held::HeldRegion;
@@ -30,17 +31,8 @@ pub fn region_of<'v>(view: &'v View<'v>, address: u64) -> Option<&'v HeldRegion<
     view.find(address)
 }
 
-/// The held region that an access of a size lies in as a whole.
-#[inline(always)]
-fn whole_region_of<'v>(view: &'v View<'v>, address: u64, size: usize) -> Option<&'v HeldRegion<'v>>
-    requires some { 1 ≤ size }
-    requires few { size ≤ 8 }
-    ensures { option_map lent_region (option_copied result) ≡ whole_in (region_of (map lent_region view.now) address) address size }
-{
-    view.find_whole(address, size)
-}
-
 /// The rule that an access breaks first, where it breaks one.
+#[cold]
 #[inline(never)]
 fn first_broken(view: &View<'_>, right: Right, address: u64) -> Rule
     ensures { result ≡ broken_first (region_of (map lent_region view.now) address) right }
@@ -57,25 +49,67 @@ fn first_broken(view: &View<'_>, right: Right, address: u64) -> Rule
     }
 }
 
-/// The bytes that are lent for an access of a size, or the rule that it breaks first.
+/// The held region that an access of a size lies in as a whole, if its bytes may be read.
 #[inline(always)]
-fn access<'v>(view: &'v View<'v>, right: Right, address: u64, size: usize) -> Result<&'v [u8], Rule>
+fn readable_region_of<'v>(
+    view: &'v View<'v>,
+    address: u64,
+    size: usize,
+) -> Option<&'v HeldRegion<'v>>
     requires some { 1 ≤ size }
     requires few { size ≤ 8 }
-    ensures allowed { IfOk result (λ bytes. broken (map lent_region view.now) right address size ≡ None) }
+    ensures { option_map lent_region (option_copied result) ≡ allowed_in Read (region_of (map lent_region view.now) address) address size }
+{
+    view.find_readable(address, size)
+}
+
+/// The same, if its bytes may be written.
+#[inline(always)]
+fn writable_region_of<'v>(
+    view: &'v View<'v>,
+    address: u64,
+    size: usize,
+) -> Option<&'v HeldRegion<'v>>
+    requires some { 1 ≤ size }
+    requires few { size ≤ 8 }
+    ensures { option_map lent_region (option_copied result) ≡ allowed_in Write (region_of (map lent_region view.now) address) address size }
+{
+    view.find_writable(address, size)
+}
+
+/// The bytes that are lent for an access of a size that reads, or the rule that it breaks first.
+#[inline(always)]
+fn bytes_read<'v>(view: &'v View<'v>, address: u64, size: usize) -> Result<&'v [u8], Rule>
+    requires some { 1 ≤ size }
+    requires few { size ≤ 8 }
+    ensures allowed { IfOk result (λ bytes. broken (map lent_region view.now) Read address size ≡ None) }
     ensures bytes { IfOk result (λ bytes. bytes.now ≡ lent (map lent_region view.now) address size) }
     ensures size { IfOk result (λ bytes. length bytes.now ≡ size) }
     ensures end { IfOk result (λ bytes. address + size ≤ 2 ^ 64) }
-    ensures refused { IfErr result (λ rule. broken (map lent_region view.now) right address size ≡ Some rule) }
+    ensures refused { IfErr result (λ rule. broken (map lent_region view.now) Read address size ≡ Some rule) }
 {
-    let Some(region) = whole_region_of(view, address, size) else {
-        return Err(first_broken(view, right, address));
-    };
-    if !region.rights.has(right) {
-        return Err(first_broken(view, right, address));
+    match readable_region_of(view, address, size) {
+        None => Err(first_broken(view, Right::Read, address)),
+        Some(region) => {
+            let offset = (address % REGION_SPAN) as usize;
+            Ok(&region.bytes[offset..offset + size])
+        }
     }
-    let offset = (address % REGION_SPAN) as usize;
-    Ok(&region.bytes[offset..offset + size])
+}
+
+/// That an access of a size may write, or the rule that it breaks first.
+#[inline(always)]
+fn may_write(view: &View<'_>, address: u64, size: usize) -> Result<(), Rule>
+    requires some { 1 ≤ size }
+    requires few { size ≤ 8 }
+    ensures allowed { OnOk result (broken (map lent_region view.now) Write address size ≡ None) }
+    ensures end { OnOk result (address + size ≤ 2 ^ 64) }
+    ensures refused { IfErr result (λ rule. broken (map lent_region view.now) Write address size ≡ Some rule) }
+{
+    match writable_region_of(view, address, size) {
+        None => Err(first_broken(view, Right::Write, address)),
+        Some(_) => Ok(()),
+    }
 }
 
 /// A load: what the addresses have, the lowest byte first, or the rule that it breaks first.
@@ -85,7 +119,7 @@ pub fn load(view: &View<'_>, written: &WrittenBytes, address: u64, size: usize) 
     requires few { size ≤ 8 }
     ensures { result ≡ loaded (map lent_region view.now) (byte_at written.now) address size }
 {
-    match access(view, Right::Read, address, size) {
+    match bytes_read(view, address, size) {
         Err(rule) => Err(rule),
         Ok(bytes) => Ok(written.read(address, bytes)),
     }
@@ -106,9 +140,9 @@ pub fn store(
     ensures ok { OnOk result (stored (map lent_region view.now) (byte_at written.old) address size value ≡ Ok (byte_at written.new)) }
     ensures err { IfErr result (StoreFails (stored (map lent_region view.now) (byte_at written.old) address size value)) }
 {
-    match access(view, Right::Write, address, size) {
+    match may_write(view, address, size) {
         Err(rule) => Err(StoreError::Broke(rule)),
-        Ok(_) => match written.write(alloc, address, size, value) {
+        Ok(()) => match written.write(alloc, address, size, value) {
             Ok(()) => Ok(()),
             Err(_) => Err(StoreError::OutOfMemory),
         },

@@ -1,23 +1,27 @@
 //! The places of atomic operations, and the numbers at them.
-ghost use Rattle.std.specs.Prelude.{◌≡◌, ◌+◌, ◌≤◌, ◌^◌, None, Some, IfOk, IfErr, OnOk, length, map, take};
+ghost use Rattle.std.specs.Prelude.{◌≡◌, ◌+◌, ◌%◌, ◌≤◌, ◌^◌, None, Some, Ok, IfSome, IfOk, IfErr, OnOk, length, map, option_map, take};
 ghost use Rattle.std.specs.Int.{w64, to_le_bytes};
 ghost use Rattle.byteorder.specs.Endian.{little_number};
-ghost use Rattle.executor.specs.Accesses.{atomic_broken, lent};
+ghost use Rattle.executor.specs.Accesses.{atomic_broken, lent, region_of};
 ghost use Rattle.executor.specs.Atomics.{place_of, put};
 ghost use Rattle.executor.specs.Written.{seen};
 ghost use Rattle.executor.specs.inner.Found.{global_number, group_number, number_found};
-ghost use Rattle.executor.specs.inner.Pages.{byte_at};
+ghost use Rattle.executor.specs.inner.Pages.{byte_at, IsPage};
 ghost use Rattle.executor.specs.inner.Room.{HasRoom};
+ghost use Rattle.executor.specs.inner.Whole.{allowed_in, atomic_broken_first};
+ghost use Rattle.policy.specs.declared.rights.Right.TheVariants.{Read, Write};
+ghost use Rattle.std.specs.Option.{option_copied};
 ghost use Rattle.executor.specs.inner.Held.{contents};
 ghost use Rattle.executor.specs.Items.{lent_region};
 
 use crate::access::region_of;
 use crate::address::{address_of, group_address_of};
 use crate::group_access;
+use crate::held::HeldRegion;
 use crate::memory::Memory;
 use crate::registers::Registers;
 use crate::view::View;
-use crate::written::WrittenBytes;
+use crate::written::{KnownNumber, WrittenBytes};
 use byteorder::{ByteOrder, LittleEndian};
 use kernel_check::AtomicPointer;
 use policy::Right;
@@ -37,6 +41,38 @@ pub fn place_of(registers: &Registers, pointer: AtomicPointer) -> SegmentAddress
     }
 }
 
+/// The held region that an access of a size lies in as a whole, if its bytes may be read and written.
+#[inline(always)]
+fn changeable_region_of<'v>(
+    view: &'v View<'v>,
+    address: u64,
+    size: usize,
+) -> Option<&'v HeldRegion<'v>>
+    requires some { 1 ≤ size }
+    requires few { size ≤ 8 }
+    ensures { option_map lent_region (option_copied result) ≡ allowed_in Write (allowed_in Read (region_of (map lent_region view.now) address) address size) address size }
+{
+    view.find_changeable(address, size)
+}
+
+/// The rule that an atomic access breaks first whose bytes may not be read and written.
+#[cold]
+#[inline(never)]
+fn first_broken(view: &View<'_>, address: u64) -> Rule
+    ensures { result ≡ atomic_broken_first (region_of (map lent_region view.now) address) }
+{
+    match region_of(view, address) {
+        None => Rule::A1,
+        Some(region) => {
+            if region.rights.has(Right::Read) && region.rights.has(Right::Write) {
+                Rule::A3
+            } else {
+                Rule::A2
+            }
+        }
+    }
+}
+
 /// The bytes that are lent for an atomic access of a size, or the rule that it breaks first.
 #[inline(always)]
 fn atomic_access<'v>(view: &'v View<'v>, address: u64, size: usize) -> Result<&'v [u8], Rule>
@@ -48,20 +84,16 @@ fn atomic_access<'v>(view: &'v View<'v>, address: u64, size: usize) -> Result<&'
     ensures end { IfOk result (λ bytes. address + size ≤ 2 ^ 64) }
     ensures refused { IfErr result (λ rule. atomic_broken (map lent_region view.now) address size ≡ Some rule) }
 {
-    let Some(region) = region_of(view, address) else {
-        return Err(Rule::A1);
-    };
-    if !region.rights.has(Right::Read) || !region.rights.has(Right::Write) {
-        return Err(Rule::A2);
+    match changeable_region_of(view, address, size) {
+        None => Err(first_broken(view, address)),
+        Some(region) => {
+            if address % size as u64 != 0 {
+                return Err(Rule::A4);
+            }
+            let offset = (address % (1 << 32)) as usize;
+            Ok(&region.bytes[offset..offset + size])
+        }
     }
-    let offset = (address % (1 << 32)) as usize;
-    if offset + size > region.bytes.len() {
-        return Err(Rule::A3);
-    }
-    if address % size as u64 != 0 {
-        return Err(Rule::A4);
-    }
-    Ok(&region.bytes[offset..offset + size])
 }
 
 /// The number of 32 bits that an access sees. That what it reads has no more bits is known of bytes in a buffer
@@ -80,6 +112,7 @@ fn read32(written: &WrittenBytes, address: u64, below: &[u8]) -> u32
 }
 
 /// The same from a buffer.
+#[cold]
 #[inline(never)]
 fn read_bytes32(written: &WrittenBytes, address: u64, below: &[u8]) -> u32
     requires size { length below.now ≡ 4 }
@@ -190,6 +223,31 @@ pub fn put(
             let (low, _) = bytes.split_at(size);
             group_access::put(memory.group.as_mut_slice(), address as usize, low);
             Ok(())
+        }
+    }
+}
+
+/// A number of global memory that an operation may change, if all its bytes are written in the chunk at hand.
+#[inline(always)]
+pub fn known_number(
+    view: &View<'_>,
+    written: &WrittenBytes,
+    address: u64,
+    size: usize,
+) -> Option<KnownNumber>
+    requires some { 1 ≤ size }
+    requires few { size ≤ 8 }
+    ensures number { IfSome result (λ known. global_number (map lent_region view.now) (byte_at written.now) address size ≡ Ok known.number) }
+    ensures place { IfSome result (λ known. IsPage written.now address known.chunk known.page) }
+    ensures page { IfSome result (λ known. address % 64 + size ≤ 64) }
+{
+    match changeable_region_of(view, address, size) {
+        None => None,
+        Some(_) => {
+            if address % size as u64 != 0 {
+                return None;
+            }
+            written.read_whole(address, size)
         }
     }
 }

@@ -1,10 +1,10 @@
 //! Chunks of 128 pages.
-ghost use Rattle.std.specs.Prelude.{◌≡◌, ◌+◌, ◌%◌, ◌^◌, ◌<◌, ◌≤◌, ℕ, None, OnOk, OnErr, IfOk, length, get_or, take};
+ghost use Rattle.std.specs.Prelude.{◌≡◌, ◌+◌, ◌/◌, ◌%◌, ◌^◌, ◌<◌, ◌≤◌, ℕ, None, IfSome, OnOk, OnErr, IfOk, length, get_or, take};
 ghost use Rattle.std.specs.Int.{w64, to_le_bytes};
 ghost use Rattle.executor.specs.inner.Pages.{ChunkSeen, chunk_byte};
 ghost use Rattle.executor.specs.Written.{laid, seen};
 ghost use Rattle.executor.specs.inner.Told.{Gathers};
-ghost use Rattle.executor.specs.inner.Words.{laid_if, or_below, seen_number};
+ghost use Rattle.executor.specs.inner.Words.{laid_if, or_below, seen_number, IsWhole};
 
 use crate::page::{Page, next_run};
 use crate::written_range::WrittenRange;
@@ -19,6 +19,13 @@ const PAGES: usize = 128;
 
 /// How many pages there is room for at first.
 const FIRST_PAGES: usize = 4;
+
+/// A number whose bytes are all written, and where the page stands in which it lies.
+#[derive(Clone, Copy)]
+pub struct WholeNumber {
+    pub page: usize,
+    pub number: u64,
+}
 
 /// What is written in 2^13 addresses from a multiple of 2^13 on: the pages that were written to. A contract
 /// sees its fields.
@@ -105,6 +112,38 @@ impl Chunk {
     {
         let page = self.places[place / PAGE] as usize;
         self.pages[page].read(place % PAGE, below)
+    }
+
+    /// The number from a place on, if all its bytes lie in one page and are written.
+    #[inline(always)]
+    pub fn read_whole(&self, place: usize, size: usize) -> Option<WholeNumber>
+        requires place { place < 2 ^ 13 }
+        requires some { 1 ≤ size }
+        requires few { size ≤ 8 }
+        ensures number { IfSome result (λ whole. IsWhole (chunk_byte self.now) place size whole.number) }
+        ensures fits { IfSome result (λ whole. place % 64 + size ≤ 64) }
+        ensures page { IfSome result (λ whole. get_or self.now.places (place / 64) 0 ≡ whole.page) }
+        ensures own { IfSome result (λ whole. 0 < whole.page) }
+    {
+        let page = self.places[place / PAGE] as usize;
+        match self.pages[page].read_whole(place % PAGE, size) {
+            None => None,
+            Some(number) => Some(WholeNumber { page, number }),
+        }
+    }
+
+    /// Writes a number's low bytes from a place on, in one page, which stands at a place of its own.
+    #[inline(always)]
+    pub fn overwrite_at(&mut self, page: usize, place: usize, size: usize, value: u64)
+        requires place { place < 2 ^ 13 }
+        requires few { size ≤ 8 }
+        requires page { place % 64 + size ≤ 64 }
+        requires stands { get_or self.old.places (place / 64) 0 ≡ page }
+        requires own { 0 < page }
+        ensures number { self.new.number ≡ self.old.number }
+        ensures bytes { (x : ℕ) → chunk_byte self.new x ≡ laid (chunk_byte self.old) place (take size (to_le_bytes w64 value)) x }
+    {
+        self.pages[page].write(place % PAGE, size, value);
     }
 
     /// Writes a number's low bytes from a place on, in one page, where that page is there already.

@@ -18,7 +18,7 @@ use crate::item::ItemContext;
 use crate::memory::Memory;
 use crate::registers::Registers;
 use kernel_check::FlatStep;
-use queue_error::{Rule, SegmentAddress};
+use queue_error::Rule;
 use std::alloc::Global;
 
 /// What comes of a flat step.
@@ -31,8 +31,10 @@ pub enum Gone {
     /// It waits at a barrier, behind which its next step stands.
     Arrived,
     Ended,
-    /// It broke a rule by an access to an address.
-    Broke(Rule, SegmentAddress),
+    /// It broke a rule by an access to an address of global memory.
+    BrokeGlobal(Rule, u64),
+    /// It broke a rule by an access to an address of group memory.
+    BrokeGroup(Rule, u32),
     OutOfMemory,
     /// Nothing: the step has no flat form.
     Other,

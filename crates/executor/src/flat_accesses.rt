@@ -24,7 +24,6 @@ use kernel_check::{
     AnyRegister, AnySource, ArgumentStep, Dimension, GroupLoadStep, GroupStoreStep, LoadStep,
     MaybeRegister, NumberType, RegisterNumber, Source, StoreStep,
 };
-use queue_error::SegmentAddress;
 use std::alloc::Global;
 
 /// A store to group memory of a constant, by its type.
@@ -120,7 +119,7 @@ fn load(
             r.set_any(step.target, convert(step.kind, step.kind, value));
             Gone::Onward
         }
-        Err(rule) => Gone::Broke(rule, SegmentAddress::Global(address)),
+        Err(rule) => Gone::BrokeGlobal(rule, address),
     }
 }
 
@@ -149,7 +148,7 @@ pub fn store(
         value,
     ) {
         Ok(()) => Gone::Onward,
-        Err(StoreError::Broke(rule)) => Gone::Broke(rule, SegmentAddress::Global(address)),
+        Err(StoreError::Broke(rule)) => Gone::BrokeGlobal(rule, address),
         Err(StoreError::OutOfMemory) => Gone::OutOfMemory,
     }
 }
@@ -172,7 +171,7 @@ fn group_load(
             r.set_any(step.target, convert(step.kind, step.kind, value));
             Gone::Onward
         }
-        Err(rule) => Gone::Broke(rule, SegmentAddress::Group(address)),
+        Err(rule) => Gone::BrokeGroup(rule, address),
     }
 }
 
@@ -193,7 +192,7 @@ pub fn group_store(
     let size = bytes_of(step.kind);
     match group_access::store(memory.group.as_mut_slice(), address, size, value) {
         Ok(()) => Gone::Onward,
-        Err(rule) => Gone::Broke(rule, SegmentAddress::Group(address)),
+        Err(rule) => Gone::BrokeGroup(rule, address),
     }
 }
 

@@ -1,21 +1,29 @@
 //! Flat steps of atomic operations (PRM, Atomic Memory Operations). Those of `cas` go by the table of instructions.
-ghost use Rattle.std.specs.Prelude.{◌≡◌, ◌<◌, ◌^◌, Some};
+ghost use Rattle.std.specs.Prelude.{◌≡◌, ◌<◌, ◌^◌, Some, IfErr, IfNone, IfOk, IfSome, map};
 ghost use Rattle.std.specs.Int.{w32, w64};
-ghost use Rattle.kernel_check.specs.Flat.{atomic32_step, atomic64_step, changed, maybe, plain, source_of};
+ghost use Rattle.kernel_check.specs.Flat.{changed, maybe, plain};
 ghost use Rattle.kernel_check.specs.declared.flat.FlatStep.TheVariants as flat;
+ghost use Rattle.queue_error.specs.declared.error.SegmentAddress.TheVariants as segment;
 ghost use Rattle.executor.specs.Atomics.{replacing, told32, told64};
+ghost use Rattle.executor.specs.Items.{lent_region};
 ghost use Rattle.executor.specs.inner.Flat.{Goes};
+ghost use Rattle.executor.specs.inner.Found.{number_found, Changes32, Changes64};
 ghost use Rattle.executor.specs.inner.Held.{contents, surroundings};
+ghost use Rattle.executor.specs.inner.Outcomes.{StoreFails};
 
+use crate::access::StoreError;
+use crate::address::{address_of, group_address_of};
 use crate::atomic::{leave32, leave64};
-use crate::atomic_place::{find32, find64, place_of};
+use crate::atomic_place::{find32, find64, known_number};
 use crate::flat::Gone;
 use crate::flat_sources::{group_pointer, register_and, source_of};
 use crate::item::ItemContext;
 use crate::memory::Memory;
 use crate::number::Number;
 use crate::registers::Registers;
-use kernel_check::{AtomicPointer, Change, MaybeRegister, Operand, RegisterNumber};
+use crate::view::View;
+use kernel_check::{Change, MaybeRegister, Operand, RegisterNumber};
+use queue_error::SegmentAddress;
 use std::alloc::Global;
 
 /// What an operation of 32 bits leaves of an old value.
@@ -76,68 +84,156 @@ fn tell64(r: &mut Registers, target: MaybeRegister, old: u64)
     }
 }
 
-/// An operation of 32 bits and one source at a place.
+/// An operation of 32 bits on global memory where its number is written and at hand: the old value. Else nothing
+/// changes.
 #[inline(always)]
-fn change32(
-    alloc: Global,
-    context: &ItemContext<'_>,
-    r: &mut Registers,
-    next: usize,
+fn change_known32(
+    view: &View<'_>,
     memory: &mut Memory,
     change: Change,
-    target: MaybeRegister,
-    pointer: AtomicPointer,
-    source: Operand,
-    constant: u32,
-) -> Gone
-    requires { next < 2 ^ 32 }
-    ensures { Goes (atomic32_step (maybe target) pointer (changed change (source_of source constant))) (surroundings context.now) r.old next (contents memory.old) result r.new (contents memory.new) }
+    address: u64,
+    value: u32,
+) -> Option<u32>
+    ensures some { IfSome result (λ old. Changes32 (map lent_region view.now) (contents memory.old) (contents memory.new) change (segment.Global address) value old) }
+    ensures none { IfNone result (contents memory.new ≡ contents memory.old) }
 {
-    let place = place_of(r, pointer);
-    let value = r.read32(source_of(source, constant));
-    match find32(context.view, memory, place) {
-        Err(rule) => Gone::Broke(rule, place),
-        Ok(old) => {
-            let left = changed32(change, old, value);
-            if let Err(_) = leave32(alloc, memory, place, Some(left)) {
-                return Gone::OutOfMemory;
+    match known_number(view, &memory.written, address, 4) {
+        None => None,
+        Some(known) => {
+            if known.number >= 1 << 32 {
+                return None;
             }
-            tell32(r, target, old);
-            Gone::Onward
+            let old = known.number as u32;
+            let left = changed32(change, old, value) as u64;
+            memory
+                .written
+                .overwrite_at(known.chunk, known.page, address, 4, left);
+            Some(old)
         }
     }
 }
 
-/// An operation of 64 bits and one source at a place.
+/// An operation of 32 bits at a place, whatever is written there: the old value.
+#[inline(always)]
+fn change32(
+    alloc: Global,
+    view: &View<'_>,
+    memory: &mut Memory,
+    change: Change,
+    place: SegmentAddress,
+    value: u32,
+) -> Result<u32, StoreError>
+    ensures ok { IfOk result (λ old. Changes32 (map lent_region view.now) (contents memory.old) (contents memory.new) change place value old) }
+    ensures err { IfErr result (StoreFails (number_found (map lent_region view.now) (contents memory.old) place 4)) }
+{
+    match find32(view, memory, place) {
+        Err(rule) => Err(StoreError::Broke(rule)),
+        Ok(old) => {
+            let left = changed32(change, old, value);
+            if let Err(_) = leave32(alloc, memory, place, Some(left)) {
+                return Err(StoreError::OutOfMemory);
+            }
+            Ok(old)
+        }
+    }
+}
+
+/// The same on global memory, apart from where its number is at hand.
+#[cold]
+#[inline(never)]
+fn change_anew32(
+    alloc: Global,
+    view: &View<'_>,
+    memory: &mut Memory,
+    change: Change,
+    address: u64,
+    value: u32,
+) -> Result<u32, StoreError>
+    ensures ok { IfOk result (λ old. Changes32 (map lent_region view.now) (contents memory.old) (contents memory.new) change (segment.Global address) value old) }
+    ensures err { IfErr result (StoreFails (number_found (map lent_region view.now) (contents memory.old) (segment.Global address) 4)) }
+{
+    change32(
+        alloc,
+        view,
+        memory,
+        change,
+        SegmentAddress::Global(address),
+        value,
+    )
+}
+
+/// An operation of 64 bits on global memory where its number is written and at hand: the old value. Else nothing
+/// changes.
+#[inline(always)]
+fn change_known64(
+    view: &View<'_>,
+    memory: &mut Memory,
+    change: Change,
+    address: u64,
+    value: u64,
+) -> Option<u64>
+    ensures some { IfSome result (λ old. Changes64 (map lent_region view.now) (contents memory.old) (contents memory.new) change (segment.Global address) value old) }
+    ensures none { IfNone result (contents memory.new ≡ contents memory.old) }
+{
+    match known_number(view, &memory.written, address, 8) {
+        None => None,
+        Some(known) => {
+            let left = changed64(change, known.number, value);
+            memory
+                .written
+                .overwrite_at(known.chunk, known.page, address, 8, left);
+            Some(known.number)
+        }
+    }
+}
+
+/// An operation of 64 bits at a place, whatever is written there: the old value.
 #[inline(always)]
 fn change64(
     alloc: Global,
-    context: &ItemContext<'_>,
-    r: &mut Registers,
-    next: usize,
+    view: &View<'_>,
     memory: &mut Memory,
     change: Change,
-    target: MaybeRegister,
-    pointer: AtomicPointer,
-    source: Operand,
-    constant: u64,
-) -> Gone
-    requires { next < 2 ^ 32 }
-    ensures { Goes (atomic64_step (maybe target) pointer (changed change (source_of source constant))) (surroundings context.now) r.old next (contents memory.old) result r.new (contents memory.new) }
+    place: SegmentAddress,
+    value: u64,
+) -> Result<u64, StoreError>
+    ensures ok { IfOk result (λ old. Changes64 (map lent_region view.now) (contents memory.old) (contents memory.new) change place value old) }
+    ensures err { IfErr result (StoreFails (number_found (map lent_region view.now) (contents memory.old) place 8)) }
 {
-    let place = place_of(r, pointer);
-    let value = r.read64(source_of(source, constant));
-    match find64(context.view, memory, place) {
-        Err(rule) => Gone::Broke(rule, place),
+    match find64(view, memory, place) {
+        Err(rule) => Err(StoreError::Broke(rule)),
         Ok(old) => {
             let left = changed64(change, old, value);
             if let Err(_) = leave64(alloc, memory, place, Some(left)) {
-                return Gone::OutOfMemory;
+                return Err(StoreError::OutOfMemory);
             }
-            tell64(r, target, old);
-            Gone::Onward
+            Ok(old)
         }
     }
+}
+
+/// The same on global memory, apart from where its number is at hand.
+#[cold]
+#[inline(never)]
+fn change_anew64(
+    alloc: Global,
+    view: &View<'_>,
+    memory: &mut Memory,
+    change: Change,
+    address: u64,
+    value: u64,
+) -> Result<u64, StoreError>
+    ensures ok { IfOk result (λ old. Changes64 (map lent_region view.now) (contents memory.old) (contents memory.new) change (segment.Global address) value old) }
+    ensures err { IfErr result (StoreFails (number_found (map lent_region view.now) (contents memory.old) (segment.Global address) 8)) }
+{
+    change64(
+        alloc,
+        view,
+        memory,
+        change,
+        SegmentAddress::Global(address),
+        value,
+    )
 }
 
 /// An operation of 32 bits and one source on global memory.
@@ -158,10 +254,22 @@ pub fn atomic_global32(
     requires { next < 2 ^ 32 }
     ensures { Goes (plain (flat.AtomicGlobal32 change target base source offset constant)) (surroundings context.now) r.old next (contents memory.old) result r.new (contents memory.new) }
 {
-    let pointer = AtomicPointer::Global(register_and(base, offset as u64));
-    change32(
-        alloc, context, r, next, memory, change, target, pointer, source, constant,
-    )
+    let address = address_of(r, register_and(base, offset as u64));
+    let value = r.read32(source_of(source, constant));
+    match change_known32(context.view, memory, change, address, value) {
+        Some(old) => {
+            tell32(r, target, old);
+            Gone::Onward
+        }
+        None => match change_anew32(alloc, context.view, memory, change, address, value) {
+            Ok(old) => {
+                tell32(r, target, old);
+                Gone::Onward
+            }
+            Err(StoreError::Broke(rule)) => Gone::BrokeGlobal(rule, address),
+            Err(StoreError::OutOfMemory) => Gone::OutOfMemory,
+        },
+    }
 }
 
 /// An operation of 64 bits and one source on global memory.
@@ -182,19 +290,22 @@ pub fn atomic_global64(
     requires { next < 2 ^ 32 }
     ensures { Goes (plain (flat.AtomicGlobal64 change target base source offset constant)) (surroundings context.now) r.old next (contents memory.old) result r.new (contents memory.new) }
 {
-    let pointer = AtomicPointer::Global(register_and(base, offset as u64));
-    change64(
-        alloc,
-        context,
-        r,
-        next,
-        memory,
-        change,
-        target,
-        pointer,
-        source,
-        constant as u64,
-    )
+    let address = address_of(r, register_and(base, offset as u64));
+    let value = r.read64(source_of(source, constant as u64));
+    match change_known64(context.view, memory, change, address, value) {
+        Some(old) => {
+            tell64(r, target, old);
+            Gone::Onward
+        }
+        None => match change_anew64(alloc, context.view, memory, change, address, value) {
+            Ok(old) => {
+                tell64(r, target, old);
+                Gone::Onward
+            }
+            Err(StoreError::Broke(rule)) => Gone::BrokeGlobal(rule, address),
+            Err(StoreError::OutOfMemory) => Gone::OutOfMemory,
+        },
+    }
 }
 
 /// An operation of 32 bits and one source on group memory.
@@ -215,10 +326,17 @@ pub fn atomic_group32(
     requires { next < 2 ^ 32 }
     ensures { Goes (plain (flat.AtomicGroup32 change target base source offset constant)) (surroundings context.now) r.old next (contents memory.old) result r.new (contents memory.new) }
 {
-    let pointer = AtomicPointer::Group(group_pointer(base, offset));
-    change32(
-        alloc, context, r, next, memory, change, target, pointer, source, constant,
-    )
+    let address = group_address_of(r, group_pointer(base, offset));
+    let place = SegmentAddress::Group(address);
+    let value = r.read32(source_of(source, constant));
+    match change32(alloc, context.view, memory, change, place, value) {
+        Ok(old) => {
+            tell32(r, target, old);
+            Gone::Onward
+        }
+        Err(StoreError::Broke(rule)) => Gone::BrokeGroup(rule, address),
+        Err(StoreError::OutOfMemory) => Gone::OutOfMemory,
+    }
 }
 
 /// An operation of 64 bits and one source on group memory.
@@ -239,17 +357,15 @@ pub fn atomic_group64(
     requires { next < 2 ^ 32 }
     ensures { Goes (plain (flat.AtomicGroup64 change target base source offset constant)) (surroundings context.now) r.old next (contents memory.old) result r.new (contents memory.new) }
 {
-    let pointer = AtomicPointer::Group(group_pointer(base, offset));
-    change64(
-        alloc,
-        context,
-        r,
-        next,
-        memory,
-        change,
-        target,
-        pointer,
-        source,
-        constant as u64,
-    )
+    let address = group_address_of(r, group_pointer(base, offset));
+    let place = SegmentAddress::Group(address);
+    let value = r.read64(source_of(source, constant as u64));
+    match change64(alloc, context.view, memory, change, place, value) {
+        Ok(old) => {
+            tell64(r, target, old);
+            Gone::Onward
+        }
+        Err(StoreError::Broke(rule)) => Gone::BrokeGroup(rule, address),
+        Err(StoreError::OutOfMemory) => Gone::OutOfMemory,
+    }
 }

@@ -4,7 +4,9 @@ ghost use Rattle.executor.specs.Items.{fresh};
 ghost use Rattle.executor.specs.inner.Few.{RestIsZero};
 ghost use Rattle.executor.specs.inner.Stops.{waits};
 ghost use Rattle.executor.specs.declared.item.Stop.TheVariants as stop_arm;
+ghost use Rattle.executor.specs.declared.limits.TheConstants.{BUDGET};
 
+use crate::limits::BUDGET;
 use crate::location::Place;
 use crate::registers::Registers;
 use crate::view::View;
@@ -42,19 +44,19 @@ pub enum Stop {
 #[derive(Clone, Copy)]
 pub struct StoppedItem {
     pub item: Item,
-    /// How many instructions it executed.
-    pub executed: u32,
+    /// How many instructions it may still execute.
+    pub left: u32,
     pub stop: Stop,
 }
 
 impl StoppedItem {
     /// A work-item that begins, which is one that goes on at its first step.
     pub fn fresh() -> StoppedItem
-        ensures { result ≡ record { item = fresh; executed = 0; stop = stop_arm.Barrier } }
+        ensures { result ≡ record { item = fresh; left = BUDGET; stop = stop_arm.Barrier } }
     {
         StoppedItem {
             item: Item::fresh(),
-            executed: 0,
+            left: BUDGET,
             stop: Stop::Barrier,
         }
     }
@@ -64,11 +66,11 @@ impl StoppedItem {
     pub fn begin_anew(&mut self, few: bool)
         requires { few ≡ true → RestIsZero self.old.item.registers }
         ensures item { self.new.item ≡ fresh }
-        ensures executed { self.new.executed ≡ 0 }
+        ensures left { self.new.left ≡ BUDGET }
     {
         self.item.registers.clear(few);
         self.item.next = 0;
-        self.executed = 0;
+        self.left = BUDGET;
     }
 
     /// Whether it waits at a barrier.

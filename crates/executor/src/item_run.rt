@@ -9,7 +9,7 @@ ghost use Rattle.executor.specs.Locations.{id_of};
 ghost use Rattle.executor.specs.Meaning.{turn};
 ghost use Rattle.executor.specs.inner.Few.{LeavesRest};
 ghost use Rattle.executor.specs.inner.ItemRuns.{ItemComes};
-ghost use Rattle.executor.specs.inner.Stops.{standing};
+ghost use Rattle.executor.specs.inner.Stops.{executed_by, standing};
 ghost use Rattle.executor.specs.inner.Turns.{Acts};
 ghost use Rattle.executor.specs.declared.limits.TheConstants.{BUDGET};
 
@@ -106,13 +106,12 @@ pub fn run_item(
 ) -> bool
     requires arguments { length context.now.arguments.now ≡ program.now.argument_bytes }
     requires item { context.now.location.item ≡ id_of context.now.location.current_size number }
-    requires within { stopped.old.executed ≤ BUDGET }
     ensures comes { ItemComes (surroundings context.now) program.now number
-        (ready stopped.old.item stopped.old.executed) (contents memory.old) result (standing stopped.new) (contents memory.new) broken.new }
+        (ready stopped.old.item (executed_by stopped.old)) (contents memory.old) result (standing stopped.new) (contents memory.new) broken.new }
     ensures rest { LeavesRest program.now.steps result stopped.old.item.registers stopped.new.item.registers }
 {
     let flat_steps = program.flat_steps();
-    let mut left = BUDGET - stopped.executed;
+    let mut left = stopped.left.min(BUDGET);
     let mut next = stopped.item.next;
     'turns: while left > 0 {
         let Some(flat) = flat_steps.get(next) else {
@@ -132,7 +131,7 @@ pub fn run_item(
             Gone::Next(after) => next = after,
             Gone::Arrived => {
                 stopped.item.next = next + 1;
-                stopped.executed = BUDGET - left;
+                stopped.left = left;
                 stopped.stop = Stop::Barrier;
                 return true;
             }
@@ -140,8 +139,12 @@ pub fn run_item(
                 stopped.stop = Stop::End;
                 return true;
             }
-            Gone::Broke(rule, address) => {
-                tell(broken, program, number, next, rule, address);
+            Gone::BrokeGlobal(rule, address) => {
+                tell_global(broken, program, number, next, rule, address);
+                return false;
+            }
+            Gone::BrokeGroup(rule, address) => {
+                tell_group(broken, program, number, next, rule, address);
                 return false;
             }
             Gone::OutOfMemory => {
@@ -153,7 +156,7 @@ pub fn run_item(
                 match turn(alloc, context, program, &mut stopped.item, memory) {
                     Outcome::GoesOn => next = stopped.item.next,
                     Outcome::Arrived => {
-                        stopped.executed = BUDGET - left;
+                        stopped.left = left;
                         stopped.stop = Stop::Barrier;
                         return true;
                     }
@@ -201,6 +204,7 @@ fn tell(
 }
 
 /// Tells that of an access to global memory. What runs items makes no value for it, and so has no room to clear.
+#[cold]
 #[inline(never)]
 fn tell_global(
     broken: &mut RunFault,
@@ -217,6 +221,7 @@ fn tell_global(
 }
 
 /// Tells that of an access to group memory.
+#[cold]
 #[inline(never)]
 fn tell_group(
     broken: &mut RunFault,
@@ -233,6 +238,7 @@ fn tell_group(
 }
 
 /// Tells that an item has spent its budget at a step.
+#[cold]
 #[inline(never)]
 fn tell_spent(broken: &mut RunFault, program: &Program, item: u32, step: usize)
     ensures { broken.new ≡ fault_arm.Fault (record { item = item; line = slice_index program.now.lines step; rule = A5; address = None }) }
@@ -241,6 +247,7 @@ fn tell_spent(broken: &mut RunFault, program: &Program, item: u32, step: usize)
 }
 
 /// Tells want of memory.
+#[cold]
 #[inline(never)]
 fn tell_want(broken: &mut RunFault)
     ensures { broken.new ≡ fault_arm.OutOfMemory }

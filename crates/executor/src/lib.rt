@@ -10,6 +10,7 @@ mod atomic_place;
 mod chunk;
 mod conversion;
 mod dispatch;
+mod entry;
 mod fault;
 mod flat;
 mod flat_accesses;

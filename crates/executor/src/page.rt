@@ -1,10 +1,10 @@
 //! Pages of 64 bytes.
-ghost use Rattle.std.specs.Prelude.{◌≡◌, ◌+◌, ◌-◌, ◌^◌, ◌<◌, ◌≤◌, ℕ, Option, None, OnOk, length, take, ◌==◌};
+ghost use Rattle.std.specs.Prelude.{◌≡◌, ◌≢◌, ◌+◌, ◌-◌, ◌^◌, ◌<◌, ◌≤◌, ℕ, Option, None, IfSome, OnOk, length, take, ◌==◌};
 ghost use Rattle.std.specs.Int.{w64, to_le_bytes};
 ghost use Rattle.executor.specs.inner.Pages.{page_byte};
 ghost use Rattle.executor.specs.Written.{laid, seen};
 ghost use Rattle.executor.specs.inner.Told.{Gathers, NextRun};
-ghost use Rattle.executor.specs.inner.Words.{or_below, seen_number};
+ghost use Rattle.executor.specs.inner.Words.{or_below, seen_number, IsWhole};
 
 use crate::word;
 use crate::written_range::{WrittenRange, note_all};
@@ -94,7 +94,27 @@ impl Page {
         }
     }
 
+    /// The number from a place on, if all its bytes lie in the page and are written.
+    #[inline(always)]
+    pub fn read_whole(&self, place: usize, size: usize) -> Option<u64>
+        requires place { place < 64 }
+        requires some { 1 ≤ size }
+        requires few { size ≤ 8 }
+        ensures number { IfSome result (IsWhole (page_byte self.now) place size) }
+        ensures page { IfSome result (λ number. place + size ≤ 64) }
+        ensures written { IfSome result (λ number. page_byte self.now place ≢ None) }
+    {
+        let all = ones(size);
+        let set = (self.mask >> place) & all;
+        if set == all {
+            Some(word::read(&self.bytes[place..], size))
+        } else {
+            None
+        }
+    }
+
     /// The number that an access from a place on sees, byte by byte.
+    #[cold]
     #[inline(never)]
     fn read_mixed(&self, place: usize, below: &[u8]) -> u64
         requires some { 1 ≤ length below.now }

@@ -2,33 +2,34 @@
 ghost use Rattle.std.specs.Prelude.{◌≡◌, ◌%◌, ◌<◌, ◌≤◌, ◌++◌, ◌∷◌, [], All, OnErr, OnOk, find};
 ghost use Rattle.std.specs.Option.{option_copied};
 ghost use Rattle.aql_packet.specs.Memory.{most_regions, region_span};
-ghost use Rattle.executor.specs.inner.Places.{if_whole};
+ghost use Rattle.policy.specs.declared.rights.Right.TheVariants.{Read, Write};
+ghost use Rattle.executor.specs.inner.Places.{if_reached};
 ghost use Rattle.executor.specs.Views.{has_byte_at};
 
+use crate::entry::Entry;
 use crate::held::HeldRegion;
-use aql_packet::{MOST_REGIONS, REGION_SPAN};
+use aql_packet::REGION_SPAN;
 use std::alloc::{AllocError, Global};
 use std::marker::Model;
 
 /// The regions that a packet holds, in the order of their numbers. However many there are, the one that an
-/// address lies in is found by two look-ups. A contract sees the list of regions.
+/// address lies in is found by one look-up. A contract sees the list of regions.
 #[derive(Drop)]
 pub struct View<'a> {
-    regions: Vec<HeldRegion<'a>>,
-    // Where the region of a number stands among these, counted from 1, or 0 where it isn't held.
-    places: [u8; MOST_REGIONS + 1],
+    // By number.
+    entries: Vec<Entry<'a>>,
 }
 
 impl<'a> Model for View<'a> {
     ghost use Rattle.std.specs.Prelude.{List};
-    ghost use Rattle.executor.specs.inner.Places.{Finds};
+    ghost use Rattle.executor.specs.inner.Places.{held, IsView};
     ghost use Rattle.executor.specs.declared.held.HeldRegion.{HeldRegion};
 
     ghost Value = { List HeldRegion };
 
-    ghost view = { λ x. x.regions.items };
+    ghost view = { λ x. held x.entries.items };
 
-    ghost invariant = { λ x. Finds x.places x.regions.items };
+    ghost invariant = { λ x. IsView x.entries.items };
 }
 
 impl<'a> View<'a> {
@@ -37,8 +38,7 @@ impl<'a> View<'a> {
         ensures { result ≡ [] }
     {
         View {
-            regions: Vec::new(alloc),
-            places: [0; MOST_REGIONS + 1],
+            entries: Vec::new(alloc),
         }
     }
 
@@ -50,54 +50,92 @@ impl<'a> View<'a> {
         ensures ok { OnOk result (self.new ≡ self.old ++ region.entry ∷ []) }
         ensures err { OnErr result (self.new ≡ self.old) }
     {
-        self.regions.push(region)?;
-        self.places[region.handle.0 as usize] = self.regions.len() as u8;
+        let number = region.handle.0 as usize;
+        self.entries.resize(number + 1, Entry::none())?;
+        self.entries[number] = Entry::of(region);
         Ok(())
     }
 
     /// The region that an address lies in.
-    #[inline(always)]
     pub fn find(&self, address: u64) -> Option<&HeldRegion<'a>>
         ensures { option_copied result ≡ find (λ region. has_byte_at region address) self.now }
     {
-        let places = &self.places;
         let number = (address / REGION_SPAN) as usize;
-        if number >= places.len() {
-            return None;
-        }
-        let place = places[number] as usize;
-        if place == 0 {
-            return None;
-        }
-        let region = &self.regions[place - 1];
-        if address % REGION_SPAN < region.bytes.len() as u64 {
-            Some(region)
-        } else {
-            None
+        match self.entries.get(number) {
+            None => None,
+            Some(entry) => {
+                if address % REGION_SPAN < entry.region.bytes.len() as u64 {
+                    Some(&entry.region)
+                } else {
+                    None
+                }
+            }
         }
     }
 
-    /// The region that an access begins in, if it ends in there too. One look at the region's end tells both.
+    /// The region that an access begins in, if it ends in there too and its bytes may be read.
     #[inline(always)]
-    pub fn find_whole(&self, address: u64, size: usize) -> Option<&HeldRegion<'a>>
+    pub fn find_readable(&self, address: u64, size: usize) -> Option<&HeldRegion<'a>>
         requires some { 1 ≤ size }
         requires few { size ≤ 8 }
-        ensures { option_copied result ≡ if_whole (address % region_span) size (find (λ region. has_byte_at region address) self.now) }
+        ensures { option_copied result ≡ if_reached Read (address % region_span) size (find (λ region. has_byte_at region address) self.now) }
     {
-        let places = &self.places;
         let number = (address / REGION_SPAN) as usize;
-        if number >= places.len() {
-            return None;
+        match self.entries.get(number) {
+            None => None,
+            Some(entry) => {
+                let end = (address % REGION_SPAN) as usize + size;
+                if end <= entry.readable {
+                    Some(&entry.region)
+                } else {
+                    None
+                }
+            }
         }
-        let place = places[number] as usize;
-        if place == 0 {
-            return None;
+    }
+
+    /// The region that an access begins in, if it ends in there too and its bytes may be written.
+    #[inline(always)]
+    pub fn find_writable(&self, address: u64, size: usize) -> Option<&HeldRegion<'a>>
+        requires some { 1 ≤ size }
+        requires few { size ≤ 8 }
+        ensures { option_copied result ≡ if_reached Write (address % region_span) size (find (λ region. has_byte_at region address) self.now) }
+    {
+        let number = (address / REGION_SPAN) as usize;
+        match self.entries.get(number) {
+            None => None,
+            Some(entry) => {
+                let end = (address % REGION_SPAN) as usize + size;
+                if end <= entry.writable {
+                    Some(&entry.region)
+                } else {
+                    None
+                }
+            }
         }
-        let region = &self.regions[place - 1];
-        if (address % REGION_SPAN) as usize + size <= region.bytes.len() {
-            Some(region)
-        } else {
-            None
+    }
+
+    /// The region that an access begins in, if it ends in there too and its bytes may be read and written.
+    #[inline(always)]
+    pub fn find_changeable(&self, address: u64, size: usize) -> Option<&HeldRegion<'a>>
+        requires some { 1 ≤ size }
+        requires few { size ≤ 8 }
+        ensures { option_copied result ≡ if_reached Write (address % region_span) size (if_reached Read (address % region_span) size (find (λ region. has_byte_at region address) self.now)) }
+    {
+        let number = (address / REGION_SPAN) as usize;
+        match self.entries.get(number) {
+            None => None,
+            Some(entry) => {
+                let end = (address % REGION_SPAN) as usize + size;
+                if end > entry.readable {
+                    return None;
+                }
+                if end <= entry.writable {
+                    Some(&entry.region)
+                } else {
+                    None
+                }
+            }
         }
     }
 }

@@ -1,10 +1,10 @@
 //! What a work-group has written.
-ghost use Rattle.std.specs.Prelude.{◌≡◌, ◌+◌, ◌%◌, ◌^◌, ◌<◌, ◌≤◌, ℕ, List, None, OnOk, OnErr, IfOk, length, nat_lt, take, true};
+ghost use Rattle.std.specs.Prelude.{◌≡◌, ◌+◌, ◌/◌, ◌%◌, ◌^◌, ◌<◌, ◌≤◌, ℕ, List, None, IfSome, OnOk, OnErr, IfOk, length, nat_lt, take, true};
 ghost use Rattle.std.specs.Int.{w64, to_le_bytes};
-ghost use Rattle.executor.specs.inner.Pages.{byte_at, BreaksOff, Parts, PlaceOf, StandsAt};
+ghost use Rattle.executor.specs.inner.Pages.{byte_at, BreaksOff, IsApart, IsPage, Parts, PlaceOf, StandsAt};
 ghost use Rattle.executor.specs.Written.{laid, seen, AreRuns};
 ghost use Rattle.executor.specs.Told.{runs_of};
-ghost use Rattle.executor.specs.inner.Words.{laid_if, or_below, seen_number};
+ghost use Rattle.executor.specs.inner.Words.{laid_if, or_below, seen_number, IsWhole};
 
 use crate::chunk::Chunk;
 use crate::word;
@@ -25,6 +25,14 @@ const HINTS: usize = 16;
 
 /// No chunk's number.
 const NO_CHUNK: u64 = u64::MAX;
+
+/// A number whose bytes are all written, and where the chunk and the page stand in which it lies.
+#[derive(Clone, Copy)]
+pub struct KnownNumber {
+    pub chunk: usize,
+    pub page: usize,
+    pub number: u64,
+}
 
 /// What a work-group has written so far, over memory that stays as it is: a finite map from address to
 /// byte, which a contract sees by `byte_at`. It takes memory for the pages that were written to. A store or a
@@ -113,13 +121,47 @@ impl WrittenBytes {
         requires end { address + length below.now ≤ 2 ^ 64 }
         ensures { result ≡ seen_number (byte_at self.now) address below.now }
     {
-        if (address % PAGE as u64) as usize + below.len() > PAGE {
-            return self.read_across(address, below);
+        let number = address / CHUNK;
+        if let Some(chunk) = self.at_hand(number) {
+            return self.read_written(chunk, address, below);
         }
-        match self.read_in_page(address, below) {
-            Some(number) => number,
-            None => word::read(below, below.len()),
+        if self.is_apart(number) {
+            return word::read(below, below.len());
         }
+        self.read_beside(address, below)
+    }
+
+    /// The number from an address on, if all its bytes lie in one page of the chunk at hand and are written.
+    #[inline(always)]
+    pub fn read_whole(&self, address: u64, size: usize) -> Option<KnownNumber>
+        requires some { 1 ≤ size }
+        requires few { size ≤ 8 }
+        ensures number { IfSome result (λ known. IsWhole (byte_at self.now) address size known.number) }
+        ensures place { IfSome result (λ known. IsPage self.now address known.chunk known.page) }
+        ensures page { IfSome result (λ known. address % 64 + size ≤ 64) }
+    {
+        match self.at_hand(address / CHUNK) {
+            None => None,
+            Some(chunk) => match self.chunks[chunk].read_whole((address % CHUNK) as usize, size) {
+                None => None,
+                Some(whole) => Some(KnownNumber {
+                    chunk,
+                    page: whole.page,
+                    number: whole.number,
+                }),
+            },
+        }
+    }
+
+    /// Writes a number's low bytes from an address on, in one page, where chunk and page stand.
+    #[inline(always)]
+    pub fn overwrite_at(&mut self, chunk: usize, page: usize, address: u64, size: usize, value: u64)
+        requires few { size ≤ 8 }
+        requires page { address % 64 + size ≤ 64 }
+        requires place { IsPage self.old address chunk page }
+        ensures { (x : ℕ) → byte_at self.new x ≡ laid (byte_at self.old) address (take size (to_le_bytes w64 value)) x }
+    {
+        self.chunks[chunk].overwrite_at(page, (address % CHUNK) as usize, size, value);
     }
 
     /// Writes a number's low bytes from an address on. Without memory all is as before; but of an access
@@ -140,10 +182,10 @@ impl WrittenBytes {
         if (address % PAGE as u64) as usize + size > PAGE {
             return self.write_anew(alloc, address, size, value);
         }
-        if self.overwrite(address, size, value) {
+        if self.overwrite_at_hand(address, size, value) {
             Ok(())
         } else {
-            self.write_anew(alloc, address, size, value)
+            self.write_beside(alloc, address, size, value)
         }
     }
 
@@ -173,21 +215,60 @@ impl WrittenBytes {
         Ok(())
     }
 
-    /// The number that an access in one page sees, or none where all bytes are those below.
-    #[inline(always)]
-    fn read_in_page(&self, address: u64, below: &[u8]) -> Option<u64>
+    /// The number that an access sees which begins in any chunk, or in none.
+    #[inline(never)]
+    fn read_beside(&self, address: u64, below: &[u8]) -> u64
         requires some { 1 ≤ length below.now }
         requires few { length below.now ≤ 8 }
-        requires page { address % 64 + length below.now ≤ 64 }
-        ensures { or_below result below.now ≡ seen_number (byte_at self.now) address below.now }
+        requires end { address + length below.now ≤ 2 ^ 64 }
+        ensures { result ≡ seen_number (byte_at self.now) address below.now }
     {
         match self.place_of(address / CHUNK) {
-            Some(chunk) => self.chunks[chunk].read((address % CHUNK) as usize, below),
-            None => None,
+            None => self.read_unwritten(address, below),
+            Some(chunk) => self.read_written(chunk, address, below),
+        }
+    }
+
+    /// The number that an access sees which begins where there is no chunk.
+    #[inline(always)]
+    fn read_unwritten(&self, address: u64, below: &[u8]) -> u64
+        requires some { 1 ≤ length below.now }
+        requires few { length below.now ≤ 8 }
+        requires end { address + length below.now ≤ 2 ^ 64 }
+        requires none { PlaceOf self.now (address / 2 ^ 13) None }
+        ensures { result ≡ seen_number (byte_at self.now) address below.now }
+    {
+        if (address % PAGE as u64) as usize + below.len() > PAGE {
+            return self.read_across(address, below);
+        }
+        word::read(below, below.len())
+    }
+
+    /// The number that an access sees which begins in a chunk.
+    #[inline(always)]
+    fn read_written(&self, chunk: usize, address: u64, below: &[u8]) -> u64
+        requires some { 1 ≤ length below.now }
+        requires few { length below.now ≤ 8 }
+        requires end { address + length below.now ≤ 2 ^ 64 }
+        requires stands { StandsAt self.now chunk (address / 2 ^ 13) }
+        ensures { result ≡ seen_number (byte_at self.now) address below.now }
+    {
+        let place = (address % CHUNK) as usize;
+        let found = &self.chunks[chunk];
+        if let Some(whole) = found.read_whole(place, below.len()) {
+            return whole.number;
+        }
+        if (address % PAGE as u64) as usize + below.len() > PAGE {
+            return self.read_across(address, below);
+        }
+        match found.read(place, below) {
+            Some(number) => number,
+            None => word::read(below, below.len()),
         }
     }
 
     /// The number that an access sees, byte by byte.
+    #[cold]
     #[inline(never)]
     fn read_across(&self, address: u64, below: &[u8]) -> u64
         requires some { 1 ≤ length below.now }
@@ -200,6 +281,41 @@ impl WrittenBytes {
         part.copy_from_slice(below);
         self.load(address, part);
         LittleEndian::read_uint(part, below.len())
+    }
+
+    /// Writes a number's low bytes in one page of any chunk. Without memory all is as before.
+    #[inline(never)]
+    fn write_beside(
+        &mut self,
+        alloc: Global,
+        address: u64,
+        size: usize,
+        value: u64,
+    ) -> Result<(), AllocError>
+        requires few { size ≤ 8 }
+        requires page { address % 64 + size ≤ 64 }
+        requires end { address + size ≤ 2 ^ 64 }
+        ensures ok { OnOk result ((x : ℕ) → byte_at self.new x ≡ laid (byte_at self.old) address (take size (to_le_bytes w64 value)) x) }
+        ensures err { OnErr result (BreaksOff (byte_at self.old) (byte_at self.new) address (take size (to_le_bytes w64 value))) }
+    {
+        if self.overwrite(address, size, value) {
+            Ok(())
+        } else {
+            self.write_anew(alloc, address, size, value)
+        }
+    }
+
+    /// Writes a number's low bytes in one page of the chunk at hand, where that page is there already. Whether it is.
+    #[inline(always)]
+    fn overwrite_at_hand(&mut self, address: u64, size: usize, value: u64) -> bool
+        requires few { size ≤ 8 }
+        requires page { address % 64 + size ≤ 64 }
+        ensures { (x : ℕ) → byte_at self.new x ≡ laid_if result (byte_at self.old) address (take size (to_le_bytes w64 value)) x }
+    {
+        match self.at_hand(address / CHUNK) {
+            Some(chunk) => self.chunks[chunk].overwrite((address % CHUNK) as usize, size, value),
+            None => false,
+        }
     }
 
     /// Writes a number's low bytes in one page, where that page is there already. Whether it is.
@@ -216,6 +332,7 @@ impl WrittenBytes {
     }
 
     /// Writes a number's low bytes, and makes the pages that they lie in.
+    #[cold]
     #[inline(never)]
     fn write_anew(
         &mut self,
@@ -242,6 +359,34 @@ impl WrittenBytes {
     {
         if let Some(chunk) = self.place_of(address / CHUNK) {
             self.chunks[chunk].load((address % CHUNK) as usize, buffer);
+        }
+    }
+
+    /// Whether chunks of a number and of the next lie apart from all that there are.
+    #[inline(always)]
+    fn is_apart(&self, number: u64) -> bool
+        requires { number < 2 ^ 51 }
+        ensures { result ≡ true → IsApart self.now number }
+    {
+        if number + 1 < self.begin {
+            return true;
+        }
+        if number >= self.end {
+            return true;
+        }
+        false
+    }
+
+    /// Where the chunk of a number stands, if it is the one at hand.
+    #[inline(always)]
+    fn at_hand(&self, number: u64) -> Option<usize>
+        requires { number < 2 ^ 51 }
+        ensures { IfSome result (λ place. StandsAt self.now place number) }
+    {
+        if number == self.last_number {
+            Some(self.last)
+        } else {
+            None
         }
     }
 

@@ -33,11 +33,7 @@ laid_out effect = bytes_of (words_of (effect_told effect)) ++ bytes_written effe
 abbrev pub all_laid_out : List Effect → List ℕ
 all_laid_out effects = flat_map laid_out effects
 
--- a size as it is counted in 128 bits
-abbrev pub size_counted : ℕ → ℕ
-size_counted size = min size (2 ^ 128 - 1)
-
--- a size as 64 bits tell it
+-- a size as 64 bits count and tell it
 abbrev pub size_told : ℕ → ℕ
 size_told size = min size (2 ^ 64 - 1)
 

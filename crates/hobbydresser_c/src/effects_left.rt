@@ -3,7 +3,7 @@
 ghost use Rattle.std.specs.Prelude.{◌≡◌, ◌+◌, ◌≤◌, ◌++◌, drop, false, length, true};
 ghost use Rattle.aql_packet.specs.Words.{bytes_of};
 ghost use Rattle.hobbydresser_c.specs.Calls.{IsSame, is_open, session_of};
-ghost use Rattle.hobbydresser_c.specs.Effects.{FillsAll, all_laid_out, bytes_written, effects_left, laid_out, leaves_entry, number_left, size_counted, size_told, words_of};
+ghost use Rattle.hobbydresser_c.specs.Effects.{FillsAll, all_laid_out, bytes_written, effects_left, laid_out, leaves_entry, number_left, size_told, words_of};
 ghost use Rattle.hobbydresser_c.specs.Statuses.{closed};
 ghost use Rattle.hobbydresser_c.specs.Told.{effect_told};
 ghost use Rattle.regions.specs.Memory.{overlaid};
@@ -77,31 +77,21 @@ fn record_of(effect: &Effect) -> [u8; 64]
 }
 
 // How many bytes a change takes.
-fn size_of(effect: &Effect) -> u128
+fn size_of(effect: &Effect) -> u64
     ensures { result ≡ length (laid_out effect.now) }
 {
-    bytes_written(effect).len() as u128 + RECORD as u128
+    bytes_written(effect).len() as u64 + RECORD as u64
 }
 
 // How many bytes changes take, more than any buffer where they are as many.
-fn size_of_all(effects: &[Effect]) -> u128
-    ensures { result ≡ size_counted (length (all_laid_out effects.now)) }
+fn size_of_all(effects: &[Effect]) -> u64
+    ensures { result ≡ size_told (length (all_laid_out effects.now)) }
 {
-    let mut size: u128 = 0;
+    let mut size: u64 = 0;
     'effects: for place in 0..effects.len() {
         size = size.saturating_add(size_of(&effects[place]));
     }
     size
-}
-
-// A size that was counted, as it is told.
-fn size_told(size: u128) -> u64
-    ensures { result ≡ size_told size }
-{
-    if size > u64::MAX as u128 {
-        return u64::MAX;
-    }
-    size as u64
 }
 
 // Lays bytes over a buffer from a place on.
@@ -112,6 +102,17 @@ fn put(out: &mut [u8], at: usize, bytes: &[u8])
     out[at..at + bytes.len()].copy_from_slice(bytes);
 }
 
+// Lays bytes over a buffer from a place on, if there are any: most changes wrote none.
+fn put_any(out: &mut [u8], at: usize, bytes: &[u8])
+    requires { at + length bytes.now ≤ length out.old }
+    ensures { out.new ≡ overlaid out.old at bytes.now }
+{
+    if bytes.is_empty() {
+        return;
+    }
+    put(out, at, bytes);
+}
+
 // Lays a change over a buffer from a place on: its record, and its bytes.
 fn put_effect(out: &mut [u8], at: usize, effect: &Effect) -> usize
     requires { at + length (laid_out effect.now) ≤ length out.old }
@@ -120,7 +121,7 @@ fn put_effect(out: &mut [u8], at: usize, effect: &Effect) -> usize
 {
     let bytes = bytes_written(effect);
     put(out, at, &record_of(effect));
-    put(out, at + RECORD, bytes);
+    put_any(out, at + RECORD, bytes);
     at + RECORD + bytes.len()
 }
 
@@ -140,8 +141,8 @@ fn fill_all(effects: &[Effect], out: &mut [u8], needed: &mut u64) -> u32
     ensures { FillsAll (all_laid_out effects.now) result out.old out.new needed.new }
 {
     let size = size_of_all(effects);
-    *needed = size_told(size);
-    if size > out.len() as u128 {
+    *needed = size;
+    if size > out.len() as u64 {
         return status::TOO_SHORT;
     }
     put_all(out, effects);
@@ -165,6 +166,8 @@ pub extern "C" fn hd_effects(
         return status::CLOSED;
     }
     let session = broker.pointer.session_mut();
-    *entry = session.number_left();
-    fill_all(session.effects_left(), out, needed)
+    let number = session.number_left();
+    let status = fill_all(session.effects_left(), out, needed);
+    *entry = number;
+    status
 }

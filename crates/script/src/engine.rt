@@ -62,6 +62,7 @@ fn empty(alloc: Global, reply: &mut String)
 }
 
 // Puts a reply, made in a text that is kept for its room, behind the others; for want of memory nothing is put there.
+#[inline(always)]
 fn put_reply(
     alloc: Global,
     world: &World,

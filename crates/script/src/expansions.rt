@@ -209,6 +209,7 @@ fn reload(alloc: Global, world: &mut World, later: &[Policy], number: u64) -> Li
 /// Does what a line asks, and tells what it came to: a request, or a call of the world that makes some in turn, up to the
 /// first that is refused. These are the further policies.
 #[tactic(auto, unfolding(crate::specs::Expansions::does))]
+#[inline(always)]
 pub fn perform(alloc: Global, world: &mut World, later: &[Policy], command: Command) -> LineReply
     ensures { does later.now command world.old result world.new }
 {

@@ -1,0 +1,9 @@
+pub mod Lists
+pub mod Looking
+pub mod Putting
+pub mod Keeping
+pub mod Untouched
+pub mod Absent
+pub mod Sound
+pub mod Walks
+pub mod Steady

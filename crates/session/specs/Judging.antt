@@ -3,7 +3,7 @@ use Rattle.std.specs.Prelude.{ℕ, zero, suc, ◌==◌, nat_lt, Bool, true, fals
 use Rattle.session.specs.declared.judging.OpenQueue.{OpenQueue}
 use Rattle.session.specs.declared.judging.Asker.{Asker}
 use Rattle.session.specs.declared.judging.Verdict.{Verdict}
-use Rattle.session.specs.declared.judging.Verdict.TheVariants.{Make, NotNow, Quota, NotYours}
+use Rattle.session.specs.declared.judging.Verdict.TheVariants.{Make, NotNow, Quota, NotYours, TooOften, TooLate, Unknown, NoRoom}
 use Rattle.session.specs.declared.requests.Request.{Request}
 use Rattle.session.specs.declared.requests.Request.TheVariants as asked
 
@@ -27,6 +27,17 @@ own is_own = if is_own then Make else NotYours
 
 abbrev pub within : Bool → Verdict
 within is_within = if is_within then Make else Quota
+
+-- what was asked is made
+abbrev pub is_make : Verdict → Bool
+is_make Make = true
+is_make NotNow = false
+is_make Quota = false
+is_make NotYours = false
+is_make TooOften = false
+is_make TooLate = false
+is_make Unknown = false
+is_make NoRoom = false
 
 -- what comes of what a session asks that was greeted, where a client may have so many queues open: of a queue only who opened it asks;
 -- nobody is greeted twice; all else is made, and its answer is the core's

@@ -3,3 +3,11 @@ pub mod Requests
 pub mod Commands
 pub mod Pace
 pub mod Judging
+pub mod Limits
+pub mod Rows
+pub mod Positions
+pub mod Tables
+pub mod Seen
+pub mod Laws
+pub mod Lines
+pub mod Who

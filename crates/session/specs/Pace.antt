@@ -1,4 +1,4 @@
--- How often something may come (own): at most so many times in a window of time. Times are in nanoseconds.
+-- How often something may come (own): at most so many times in a window of time.
 use Rattle.std.specs.Prelude.{ℕ, suc, ◌-◌, ◌^◌, nat_lt, nat_le, Bool, if◌then◌else◌}
 use Rattle.session.specs.declared.pace.Pace.{Pace}
 

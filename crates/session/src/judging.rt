@@ -1,7 +1,7 @@
 //! What is refused before the core is asked.
 
 ghost use Rattle.std.specs.Prelude.{◌≡◌, nat_lt};
-ghost use Rattle.session.specs.Judging.{owner_in, queues_of, is_own, own, within, judged};
+ghost use Rattle.session.specs.Judging.{owner_in, queues_of, is_own, own, within, is_make, judged};
 
 use crate::requests::Request;
 
@@ -9,14 +9,14 @@ use crate::requests::Request;
 #[derive(Clone, Copy, Debug, PartialEq, Eq)]
 pub struct OpenQueue {
     pub queue: u64,
-    pub session: u32,
+    pub session: u64,
     pub client: u32,
 }
 
 /// A session that was greeted, and its client.
 #[derive(Clone, Copy, Debug, PartialEq, Eq)]
 pub struct Asker {
-    pub session: u32,
+    pub session: u64,
     pub client: u32,
 }
 
@@ -31,11 +31,37 @@ pub enum Verdict {
     Quota,
     /// The queue isn't one that the session opened.
     NotYours,
+    /// It comes more often than it may.
+    TooOften,
+    /// It comes after its time.
+    TooLate,
+    /// There is no such session, or the user isn't one that may come.
+    Unknown,
+    /// There is no room for one more.
+    NoRoom,
+}
+
+impl Verdict {
+    // Whether what was asked is made.
+    pub(crate) fn is_make(self) -> bool
+        ensures { result ≡ is_make self }
+    {
+        match self {
+            Verdict::Make => true,
+            Verdict::NotNow => false,
+            Verdict::Quota => false,
+            Verdict::NotYours => false,
+            Verdict::TooOften => false,
+            Verdict::TooLate => false,
+            Verdict::Unknown => false,
+            Verdict::NoRoom => false,
+        }
+    }
 }
 
 /// The session that opened a queue, if one did and the queue is open.
 #[tactic(auto, unfolding(crate::specs::Judging::owner_in))]
-pub fn owner_of(open: &[OpenQueue], queue: u64) -> Option<u32>
+pub fn owner_of(open: &[OpenQueue], queue: u64) -> Option<u64>
     ensures { result ≡ owner_in open.now queue }
 {
     match open {
@@ -52,7 +78,7 @@ pub fn owner_of(open: &[OpenQueue], queue: u64) -> Option<u32>
 
 /// Whether a client has fewer queues open than so many, in all its sessions.
 #[tactic(auto, unfolding(crate::specs::Judging::queues_of))]
-pub fn has_fewer(open: &[OpenQueue], client: u32, most: usize) -> bool
+pub fn has_fewer(open: &[OpenQueue], client: u32, most: u64) -> bool
     ensures { result ≡ nat_lt (queues_of open.now client) most }
 {
     match open {
@@ -70,7 +96,7 @@ pub fn has_fewer(open: &[OpenQueue], client: u32, most: usize) -> bool
 }
 
 // Whether a session opened a queue, which is open.
-fn is_own(open: &[OpenQueue], asker: &Asker, queue: u64) -> bool
+pub(crate) fn is_own(open: &[OpenQueue], asker: &Asker, queue: u64) -> bool
     ensures { result ≡ is_own open.now asker.now queue }
 {
     match owner_of(open, queue) {
@@ -91,7 +117,7 @@ fn own(is_own: bool) -> Verdict
 }
 
 // What comes of a request for a queue.
-fn within(is_within: bool) -> Verdict
+pub(crate) fn within(is_within: bool) -> Verdict
     ensures { result ≡ within is_within }
 {
     if is_within {
@@ -103,7 +129,7 @@ fn within(is_within: bool) -> Verdict
 
 /// Judges what a session asks that was greeted, where a client may have so many queues open: a queue is closed, and its errors
 /// are told, only where the asker opened it; nobody is greeted twice; all else is made.
-pub fn judge(open: &[OpenQueue], most: usize, asker: &Asker, request: &Request) -> Verdict
+pub fn judge(open: &[OpenQueue], most: u64, asker: &Asker, request: &Request) -> Verdict
     ensures { result ≡ judged open.now most asker.now request.now }
 {
     match request {

@@ -6,7 +6,7 @@ ghost use Rattle.session.specs.Pace.{pace_after, keeps_pace};
 /// A window of time (own), and how many came in it.
 #[derive(Clone, Copy, Debug, PartialEq, Eq)]
 pub struct Pace {
-    /// When the window began, in nanoseconds.
+    /// When the window began.
     pub begun: u64,
     /// How many came in it, at most 2^64 - 1.
     pub count: u64,

@@ -42,28 +42,29 @@ use Rattle.threads_load.specs.Grantings.{AddsGrants, AllGrant, HasAllAllowed, Ha
 pub none_adds : (h : History) → AddsGrants h h
 none_adds h = record { more = []; grants = tt; history = none_more h }
 
-all_grant : (one more : List Entry) → AllGrant one → AllGrant more → AllGrant (one ++ more)
-all_grant [] more a b = b
-all_grant (e ∷ es) more a b = (a.0, all_grant es more a.1 b)
+all_grant : (policy : Declared) (one more : List Entry) → AllGrant policy one → AllGrant policy more → AllGrant policy (one ++ more)
+all_grant policy [] more a b = b
+all_grant policy (e ∷ es) more a b = (a.0, all_grant policy es more a.1 b)
 
 pub more_adds : (a b c : History) → AddsGrants a b → AddsGrants b c → AddsGrants a c
 more_adds a b c p q = record {
   more = p.more ++ q.more;
-  grants = all_grant p.more q.more p.grants q.grants;
+  grants = all_grant a.origin.policy p.more q.more p.grants (subst (λ (d : Declared). AllGrant d q.more) (ap (λ (h : History). h.origin.policy) p.history) q.grants);
   history = q.history ∙ ap (λ (h : History). record h { entries = h.entries ++ q.more }) p.history ∙ ap (λ (es : List Entry). record a { entries = es }) (append_assoc a.entries p.more q.more);
 }
 
 pub adds_follow : (a b : History) → AddsGrants a b → Follows a b
 adds_follow a b p = appends_follow a b (record { more = p.more; history = p.history })
 
-adds_by : (old : History) (event : Event) → IsGrant event → (owing : Owed) → AddsGrants old (history_after old event owing)
+adds_by : (old : History) (event : Event) → IsGrant old.origin.policy event → (owing : Owed) → AddsGrants old (history_after old event owing)
 adds_by old event is (refuses why) = none_adds old
 adds_by old event is (answers told) = none_adds old
 adds_by old event is (enters told effects) = record { more = entry_of event told effects ∷ []; grants = (is, tt); history = refl }
 
-pub grant_adds : (client : ClientId) (on : Object) (rights : Rights) (old new : History) (reply : Result Outcome Refusal) → Meets (Call (Grant client on rights)) old new reply → AddsGrants old new
-grant_adds client on rights old new reply m =
-    subst (AddsGrants old) (sym m.history_is) (adds_by old (Call (Grant client on rights)) tt (due old (Call (Grant client on rights))))
+pub grant_adds : (client : ClientId) (on : Object) (rights : Rights) (old new : History) (reply : Result Outcome Refusal) → Meets (Call (Grant client on rights)) old new reply
+    → ((one : Right) → has rights one ≡ rows_allow old.origin.policy.rows client on one) → AddsGrants old new
+grant_adds client on rights old new reply m are =
+    subst (AddsGrants old) (sym m.history_is) (adds_by old (Call (Grant client on rights)) are (due old (Call (Grant client on rights))))
 
 -- ---- what is in force
 
@@ -71,32 +72,32 @@ same_policy : (a b : History) → AddsGrants a b → b.origin.policy ≡ a.origi
 same_policy a b p = ap (λ (h : History). h.origin.policy) p.history
 
 -- an entry of a grant leaves in force what was
-kept_by : (client : ClientId) (on : Object) (one : Right) (before : Bool) (event : Event) → IsGrant event → before ≡ true → in_force_after client on one before event ≡ true
-kept_by client on one before (Call (Grant c o rights)) is so = ap (λ (b : Bool). b || is_one_of client on one c o rights) so
-kept_by client on one before (Call (Revoke c o rights)) is so = absurd is
-kept_by client on one before (Call (Stop q)) is so = absurd is
-kept_by client on one before (Call (Close q)) is so = absurd is
-kept_by client on one before (Call (RunNext q id)) is so = absurd is
-kept_by client on one before (Call (Poll q id)) is so = absurd is
-kept_by client on one before (Call (Finish q id)) is so = absurd is
-kept_by client on one before (Call (HostWrite c a bs)) is so = absurd is
-kept_by client on one before (Call (ChangeSignal c s o)) is so = absurd is
-kept_by client on one before (Open c a s) is so = absurd is
-kept_by client on one before (Take q id bytes) is so = absurd is
-kept_by client on one before (Reload rows) is so = absurd is
+kept_by : (policy : Declared) (client : ClientId) (on : Object) (one : Right) (before : Bool) (event : Event) → IsGrant policy event → before ≡ true → in_force_after client on one before event ≡ true
+kept_by policy client on one before (Call (Grant c o rights)) is so = ap (λ (b : Bool). b || is_one_of client on one c o rights) so
+kept_by policy client on one before (Call (Revoke c o rights)) is so = absurd is
+kept_by policy client on one before (Call (Stop q)) is so = absurd is
+kept_by policy client on one before (Call (Close q)) is so = absurd is
+kept_by policy client on one before (Call (RunNext q id)) is so = absurd is
+kept_by policy client on one before (Call (Poll q id)) is so = absurd is
+kept_by policy client on one before (Call (Finish q id)) is so = absurd is
+kept_by policy client on one before (Call (HostWrite c a bs)) is so = absurd is
+kept_by policy client on one before (Call (ChangeSignal c s o)) is so = absurd is
+kept_by policy client on one before (Open c a s) is so = absurd is
+kept_by policy client on one before (Take q id bytes) is so = absurd is
+kept_by policy client on one before (Reload rows) is so = absurd is
 
-kept : (start : Start) (es more : List Entry) (client : ClientId) (on : Object) (one : Right) → AllGrant more → in_force start es client on one ≡ true → in_force start (es ++ more) client on one ≡ true
-kept start es [] client on one all so = subst (λ (now : List Entry). in_force start now client on one ≡ true) (sym (append-nil es)) so
-kept start es (e ∷ more) client on one all so =
+kept : (policy : Declared) (start : Start) (es more : List Entry) (client : ClientId) (on : Object) (one : Right) → AllGrant policy more → in_force start es client on one ≡ true → in_force start (es ++ more) client on one ≡ true
+kept policy start es [] client on one all so = subst (λ (now : List Entry). in_force start now client on one ≡ true) (sym (append-nil es)) so
+kept policy start es (e ∷ more) client on one all so =
     subst (λ (now : List Entry). in_force start now client on one ≡ true) (append_assoc es (e ∷ []) more)
-    (kept start (es ++ e ∷ []) more client on one all.1
-    (in_force-more start es e client on one ∙ kept_by client on one (in_force start es client on one) e.event all.0 so))
+    (kept policy start (es ++ e ∷ []) more client on one all.1
+    (in_force-more start es e client on one ∙ kept_by policy client on one (in_force start es client on one) e.event all.0 so))
 
 -- what is in force stays so
 pub has_still : (a b : History) (client : ClientId) (on : Object) → AddsGrants a b → HasAllowed a client on → HasAllowed b client on
 has_still a b client on p has_it one allowed =
     subst (λ (h : History). in_force (beginning h) h.entries client on one ≡ true) (sym p.history)
-    (kept (beginning a) a.entries p.more client on one p.grants
+    (kept a.origin.policy (beginning a) a.entries p.more client on one p.grants
     (has_it one (ap (λ (d : Declared). rows_allow d.rows client on one) (sym (same_policy a b p)) ∙ allowed)))
 
 -- ---- a grant
@@ -160,7 +161,7 @@ module _ (old : History) (client : ClientId) (on : Object) (rights : Rights) whe
   pub grant_has : (new : History) (result : Result (Unit {0}) Refusal) → Meets event old new (as_accepted result)
       → ((one : Right) → has rights one ≡ rows_allow old.origin.policy.rows client on one) → OnOk result (HasAllowed new client on)
   grant_has new (Ok done) m are = λ one allowed.
-      made_has new m one (are one ∙ (ap (λ (d : Declared). rows_allow d.rows client on one) (sym (same_policy old new (grant_adds client on rights old new (Ok outcome.Accepted) m))) ∙ allowed))
+      made_has new m one (are one ∙ (ap (λ (d : Declared). rows_allow d.rows client on one) (sym (same_policy old new (grant_adds client on rights old new (Ok outcome.Accepted) m are))) ∙ allowed))
   grant_has new (Err why) m are = tt
 
   refused_by : (why : Refusal) (owing : Owed) → IsEither owing → Err why ≡ reply_of owing → (new : History) → new ≡ history_after old event owing → new ≡ old

@@ -14,6 +14,7 @@ use Rattle.core_model.specs.declared.refusal.Refusal.TheVariants as refusal
 use Rattle.core_model.proofs.States.{rotated-start}
 use Rattle.access_core.specs.Cores.{Core}
 use Rattle.client_threads.specs.HandedOver.{handed_over}
+use Rattle.client_threads.specs.Boards.{FrontSeen}
 use Rattle.client_threads.specs.Lanes.{LaneSeen}
 use Rattle.client_threads.proofs.HandingOver.{entries_append}
 use Rattle.client_threads.specs.Sections.{Follows, IsSection, last_of}
@@ -38,7 +39,7 @@ legal_by kernels own (Ok part) same legal = subst (λ (ks : List Program). IsLeg
 legal_by kernels own (Err why) same legal = tt
 
 -- a part that is handed out in a section is legal for the kernels of the core that was opened
-pub handed_legal : (opened : Core) (seen new : List Core) (result : Result Part Refusal)
+pub handed_legal : (opened : Core) (seen new : FrontSeen) (result : Result Part Refusal)
     → IsSection opened seen new (λ before after. Rotates before.history result after.history × IfOk result (λ part. IsLegalPart before.history.kernels part)) → IfOk result (IsLegalPart opened.history.kernels)
 handed_legal opened seen new result s = legal_by opened.history.kernels (last_of opened s.before).history.kernels result (same_kernels opened s.before s.all) s.did.1
 

@@ -6,3 +6,7 @@ pub mod Sums
 pub mod Counted
 pub mod Granted
 pub mod Handing
+pub mod Shares
+pub mod Produced
+pub mod Publishing
+pub mod Told

@@ -7,6 +7,7 @@ use mathlib.Core.List.{IsPrefix}
 use Rattle.atomic_table.specs.Seated.{TableId}
 use Rattle.aql_packet.specs.declared.ids.QueueId.{QueueId}
 use Rattle.access_core.specs.Cores.{Core}
+use Rattle.client_threads.specs.Boards.{FrontSeen}
 use Rattle.client_threads.specs.Lanes.{LaneSeen}
 use Rattle.client_threads.specs.Rings.{QueueRing}
 use Rattle.client_threads.specs.Running.{EachGoesOn}
@@ -37,17 +38,17 @@ next_too P xs i d lt h = subst P (sym (take_more xs i d lt)) h
 
 -- ---- what sections leave
 
-pub section_begins : {Did : Core → Core → Type 0} (opened : Core) (seen new : List Core) → IsSection opened seen new Did → IsPrefix seen new
-section_begins {Did} opened seen new s = prefix_trans seen s.before new s.begins (s.core ∷ [], sym s.new_is)
+pub section_begins : {Did : Core → Core → Type 0} (opened : Core) (seen new : FrontSeen) → IsSection opened seen new Did → IsPrefix seen.left new.left
+section_begins {Did} opened seen new s = prefix_trans seen.left s.before new.left s.begins (s.core ∷ [], sym (ap (λ (f : FrontSeen). f.left) s.new_is))
 
 -- what was left was left still when more was seen
 pub left_still : {Is : Core → Type 0} (seen more : List Core) → IsPrefix seen more → WasLeft seen Is → WasLeft more Is
 left_still {Is} seen more p w = record { before = w.before; core = w.core; begins = prefix_trans (w.before ++ w.core ∷ []) seen more w.begins p; is = w.is }
 
 -- the state that a section left was left
-section_left : {Did : Core → Core → Type 0} {Is : Core → Type 0} (opened : Core) (seen new : List Core) (s : IsSection opened seen new Did) → Is s.core → WasLeft new Is
+section_left : {Did : Core → Core → Type 0} {Is : Core → Type 0} (opened : Core) (seen new : FrontSeen) (s : IsSection opened seen new Did) → Is s.core → WasLeft new.left Is
 section_left {Did} {Is} opened seen new s is =
-    record { before = s.before; core = s.core; begins = subst (λ (left : List Core). IsPrefix (s.before ++ s.core ∷ []) left) (sym s.new_is) (prefix_self (s.before ++ s.core ∷ [])); is = is }
+    record { before = s.before; core = s.core; begins = subst (λ (left : List Core). IsPrefix (s.before ++ s.core ∷ []) left) (sym (ap (λ (f : FrontSeen). f.left) s.new_is)) (prefix_self (s.before ++ s.core ∷ [])); is = is }
 
 -- ---- queues
 
@@ -76,8 +77,8 @@ opened_next planned queue before lanes more lane number own is are =
     (one_lane_of (length before) lanes lane are (ap (λ (q : QueueId). q.0) own ∙ number)))
 
 -- lanes that ran are those of their queues still
-pub lanes_stay : (board : TableId) (rings : List QueueRing) (old new : List LaneSeen) (queues : ℕ) → length new ≡ length old → EachGoesOn board rings old new → AreOf queues old → AreOf queues new
-lanes_stay board rings old new queues count each are = record {
+pub lanes_stay : (opened : Core) (board : TableId) (rings : List QueueRing) (old new : List LaneSeen) (queues : ℕ) → length new ≡ length old → EachGoesOn opened board rings old new → AreOf queues old → AreOf queues new
+lanes_stay opened board rings old new queues count each are = record {
   count = count ∙ are.count;
   numbers = λ place d lt.
       let low : place < length old = omega (arith, lt, count) in
@@ -90,7 +91,7 @@ pub no_lanes : AreOf 0 []
 no_lanes = record { count = refl; numbers = λ place d lt. absurd (omega (arith, lt)) }
 
 -- in the section in which all was granted it was left so
-pub granted_left : (opened : Core) (seen new : List Core) → IsSection opened seen new (λ old core. HasAllAllowed core.history) → WasLeft new (λ left. HasAllAllowed left.history)
+pub granted_left : (opened : Core) (seen new : FrontSeen) → IsSection opened seen new (λ old core. HasAllAllowed core.history) → WasLeft new.left (λ left. HasAllAllowed left.history)
 granted_left opened seen new s = section_left opened seen new s s.did
 
 -- a stage that is ready is so when more was seen, and its lanes stay
@@ -102,14 +103,14 @@ ready_still plan old new r p lanes = record {
 }
 
 -- in the section in which the queues of a plan were found it was left so
-found_left : (opened : Core) (plan : List PlannedQueue) (seen new : List Core) → IsSection opened seen new (λ old core. HasQueues core plan) → WasLeft new (λ left. HasQueues left plan)
+found_left : (opened : Core) (plan : List PlannedQueue) (seen new : FrontSeen) → IsSection opened seen new (λ old core. HasQueues core plan) → WasLeft new.left (λ left. HasQueues left plan)
 found_left opened plan seen new s = section_left opened seen new s s.did
 
 -- a stage is ready once the queues of its plan were opened behind the grants, and were found
-pub is_ready : {B : Type 0} (opened : Core) (plan : List PlannedQueue) (seen mid : List Core) (stage : Stage B) → WasLeft seen (λ left. HasAllAllowed left.history) → IsPrefix seen mid
-    → IsSection opened mid stage.front.left (λ old core. HasQueues core plan) → (none : List LaneSeen) → none ≡ [] → (AreOf 0 none → AreOf (length plan) stage.lanes.items) → IsReady plan stage
+pub is_ready : {B : Type 0} (opened : Core) (plan : List PlannedQueue) (seen : List Core) (mid : FrontSeen) (stage : Stage B) → WasLeft seen (λ left. HasAllAllowed left.history) → IsPrefix seen mid.left
+    → IsSection opened mid stage.front (λ old core. HasQueues core plan) → (none : List LaneSeen) → none ≡ [] → (AreOf 0 none → AreOf (length plan) stage.lanes.items) → IsReady plan stage
 is_ready opened plan seen mid stage granted p found none is are = record {
-  granted = left_still seen stage.front.left (prefix_trans seen mid stage.front.left p (section_begins opened mid stage.front.left found)) granted;
-  queues = found_left opened plan mid stage.front.left found;
+  granted = left_still seen stage.front.left (prefix_trans seen mid.left stage.front.left p (section_begins opened mid stage.front found)) granted;
+  queues = found_left opened plan mid stage.front found;
   lanes = are (subst (λ (ls : List LaneSeen). AreOf 0 ls) (sym is) no_lanes);
 }

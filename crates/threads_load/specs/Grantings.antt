@@ -6,7 +6,7 @@ use Rattle.policy.specs.declared.object.Object.{Object}
 use Rattle.policy.specs.declared.rights.Right.{Right}
 use Rattle.policy.specs.declared.rights.Rights.{Rights}
 use Rattle.policy.specs.Object.{object_of}
-use Rattle.policy.specs.Policy.{rules_of}
+use Rattle.policy.specs.Policy.{Declared, rules_of}
 use Rattle.policy.specs.Rights.{has}
 use Rattle.policy.specs.Rules.{count, knows_client, knows_object, rows_allow}
 use Rattle.core_model.specs.declared.call.Call.TheVariants.{Grant}
@@ -18,20 +18,20 @@ use Rattle.core_model.specs.Grants.{in_force}
 use Rattle.core_model.specs.History.{History, beginning}
 use Rattle.core_model.specs.Legal.{Meets}
 
--- an event that grants (own)
-abbrev pub IsGrant : Event → Type 0
-IsGrant (Call (Grant client on rights)) = ⊤
-IsGrant _ = ⊥
+-- an event grants a client on an object just what a policy's rows allow it there (own)
+abbrev pub IsGrant : Declared → Event → Type 0
+IsGrant policy (Call (Grant client on rights)) = (right : Right) → has rights right ≡ rows_allow policy.rows client on right
+IsGrant policy _ = ⊥
 
--- each of these entries tells of a grant (own)
-abbrev pub AllGrant : List Entry → Type 0
-AllGrant [] = ⊤
-AllGrant (entry ∷ entries) = IsGrant entry.event × AllGrant entries
+-- each of these entries tells of such a grant (own)
+abbrev pub AllGrant : Declared → List Entry → Type 0
+AllGrant policy [] = ⊤
+AllGrant policy (entry ∷ entries) = IsGrant policy entry.event × AllGrant policy entries
 
--- grants were entered, and all else stays (own)
+-- grants of just what the declared policy allows were entered, and all else stays (own)
 pub record AddsGrants (old new : History) : Type 0 where
   pub more : List Entry
-  pub grants : AllGrant more
+  pub grants : AllGrant old.origin.policy more
   pub history : new ≡ record old { entries = old.entries ++ more }
 
 -- each right that the declared policy allows a client on an object is in force (own)

@@ -1,8 +1,11 @@
+pub mod Limits
 pub mod Plans
 pub mod Counts
 pub mod Additions
+pub mod Publications
 pub mod Grantings
 pub mod Stages
 pub mod Rounds
 pub mod Reports
 pub mod Loads
+pub mod Faults

@@ -10,13 +10,13 @@ use Rattle.policy.specs.declared.row.Takes.{Takes}
 use Rattle.policy.specs.Policy.{Declared, row_of, rules_of}
 use Rattle.policy.specs.Rules.{are_allowed}
 use Rattle.core_model.specs.Limits.{most_queues}
-use Rattle.threads_load.specs.declared.plan.TheConstants.{COUNTED_BYTES}
+use Rattle.threads_load.specs.Limits.{number_bytes}
 use Rattle.threads_load.specs.declared.plan.PlannedQueue.{PlannedQueue}
 
 -- a region of this length, if it is one, has room for the number (own)
 abbrev pub is_counted_in : Option ℕ → Bool
 is_counted_in None = false
-is_counted_in (Some bytes) = nat_le COUNTED_BYTES bytes
+is_counted_in (Some bytes) = nat_le number_bytes bytes
 
 -- a client can count in a region: it has room, and READ and WRITE are allowed (own)
 abbrev pub can_count_in : Declared → ClientId → RegionHandle → Bool

@@ -13,7 +13,7 @@ use Rattle.core_model.specs.Memory.{memory_from}
 use Rattle.core_model.specs.declared.entry.Entry.{Entry}
 use Rattle.threads_load.specs.declared.counting.PacketCounts.{PacketCounts}
 use Rattle.threads_load.specs.declared.plan.PlannedQueue.{PlannedQueue}
-use Rattle.threads_load.specs.declared.plan.TheConstants.{COUNTED_BYTES}
+use Rattle.threads_load.specs.Limits.{number_bytes}
 use Rattle.threads_load.specs.declared.report.Ending.{Ending}
 use Rattle.threads_load.specs.declared.report.Ending.TheVariants as ending
 use Rattle.threads_load.specs.Counts.{counts_at, packet_counts}
@@ -45,7 +45,7 @@ text_of_lines policy counts place (planned ∷ plan) =
 
 -- the bytes of a region that the load counts in, after these entries (own)
 abbrev pub counted_bytes : Start → List Entry → ℕ → List ℕ
-counted_bytes start entries region = memory_from start entries (region * region_span) COUNTED_BYTES
+counted_bytes start entries region = memory_from start entries (region * region_span) number_bytes
 
 -- a region's line, with these bytes (own)
 abbrev pub text_of_region : Declared → ℕ → List ℕ → List ℕ

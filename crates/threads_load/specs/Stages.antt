@@ -1,30 +1,52 @@
 -- A broker with the ends and the lanes of its queues (own).
-use Rattle.std.specs.Prelude.{◌≡◌, ℕ, ◌<◌, ◌+◌, List, [], ◌∷◌, ◌++◌, All, Some, length, slice_index_or}
+use Rattle.std.specs.Prelude.{◌≡◌, ℕ, ◌<◌, ◌≤◌, ◌+◌, List, [], ◌∷◌, ◌++◌, All, Some, length, slice_index_or}
+use Rattle.std.specs.List.{sum_by}
 use mathlib.Core.List.{IsPrefix}
 use Rattle.atomic_table.specs.Seated.{TableId}
 use Rattle.access_core.specs.Cores.{Core}
 use Rattle.core_model.specs.History.{Part, beginning}
+use Rattle.core_model.specs.Limits.{most_queues}
 use Rattle.core_model.specs.Queues.{owner}
 use Rattle.core_model.specs.declared.origin.Opening.{Opening}
 use Rattle.client_threads.specs.HandedOver.{AreSettledWith}
-use Rattle.client_threads.specs.Lanes.{LaneSeen}
+use Rattle.client_threads.specs.Boards.{FrontSeen, all_shares}
+use Rattle.client_threads.specs.Lanes.{LaneSeen, share_of}
 use Rattle.client_threads.specs.declared.client_end.ClientEnd.{ClientEnd}
 use Rattle.client_threads.specs.Rings.{QueueRing}
 use Rattle.client_threads.specs.Running.{IsEndOf, IsLaneOf}
 use Rattle.threads_load.specs.Grantings.{HasAllAllowed}
+use Rattle.threads_load.specs.Limits.{load_slots}
 use Rattle.threads_load.specs.declared.opening.Stage.{Stage}
 use Rattle.threads_load.specs.declared.plan.PlannedQueue.{PlannedQueue}
 
--- of a broker with this board are the front, each end and each lane of a stage, and its lanes handed over what these parts took (own)
+-- a front and those of lanes, one share each, have all shares of the right to make sections (own)
+pub record HaveShares (front : FrontSeen) (lanes : List LaneSeen) : Type 0 where
+  pub few : length lanes ≤ most_queues
+  pub each : sum_by share_of lanes ≡ length lanes
+  pub all : front.share + length lanes ≡ all_shares
+
+-- there are as many lanes, with as many shares (own)
+pub record KeepShares (old new : List LaneSeen) : Type 0 where
+  pub count : length new ≡ length old
+  pub shares : sum_by share_of new ≡ sum_by share_of old
+
+-- of a broker with this board are the front, each end and each lane of a stage, which have all shares, and its lanes handed over what these
+-- parts took (own)
 pub record IsStageWith {B : Type 0} (board : TableId) (parts : List Part) (stage : Stage B) : Type 0 where
   pub front : stage.front.board ≡ board
   pub ends : All (λ end. IsEndOf stage.broker end) stage.ends.items
   pub lanes : All (λ lane. IsLaneOf board stage.broker lane) stage.lanes.items
   pub settled : AreSettledWith parts stage.lanes.items
+  pub shares : HaveShares stage.front stage.lanes.items
 
 -- the same, where nothing was handed out (own)
 abbrev pub IsStage : {B : Type 0} → TableId → Stage B → Type 0
 IsStage board stage = IsStageWith board [] stage
+
+-- the ring of a load's queue has 16 slots, and so many producers (own)
+pub record IsLoadRing (producers : ℕ) (r : QueueRing) : Type 0 where
+  pub size_is : r.ring.size ≡ load_slots
+  pub producers_is : r.ring.producers ≡ producers
 
 -- an end became one that is of the broker's ring for its queue (own)
 pub record StaysOf (rings : List QueueRing) (old new : ClientEnd) : Type 0 where

@@ -4,12 +4,9 @@ use access_core::OpenFault;
 use core_model::Refusal;
 use std::alloc::{AllocError, AllocFailed};
 
-/// Why a load isn't run to its report (own).
+/// Why a load isn't run to its report (own): in the order in which it meets them, want of memory at any.
 #[derive(Clone, Copy, Debug, PartialEq, Eq, thiserror::Error)]
 pub enum LoadFault {
-    /// Memory was wanted and not to be had.
-    #[error("out of memory")]
-    OutOfMemory,
     /// No core is opened over the policy and its kernels.
     #[error("{0}")]
     Opening(OpenFault),
@@ -28,9 +25,17 @@ pub enum LoadFault {
     /// The part that was handed out doesn't lead to the audit.
     #[error("the part that was handed out does not lead to the audit")]
     NotNext,
+    /// Memory was wanted and not to be had.
+    #[error("out of memory")]
+    OutOfMemory,
 }
 
 impl From<AllocError> for LoadFault {
+    ghost use Rattle.std.specs.Prelude.{◌≡◌};
+    ghost use Rattle.threads_load.specs.declared.fault.LoadFault.TheVariants as fault;
+
+    ghost from_gives = { λ _ why. why ≡ fault.OutOfMemory };
+
     fn from(_want: AllocError) -> LoadFault {
         LoadFault::OutOfMemory
     }
@@ -52,6 +57,11 @@ impl From<Refusal> for LoadFault {
 }
 
 impl From<OpenFault> for LoadFault {
+    ghost use Rattle.std.specs.Prelude.{◌≡◌};
+    ghost use Rattle.threads_load.specs.Faults.{told_of_opening};
+
+    ghost from_gives = { λ why told. told ≡ told_of_opening why };
+
     fn from(why: OpenFault) -> LoadFault {
         match why {
             OpenFault::OutOfMemory => LoadFault::OutOfMemory,

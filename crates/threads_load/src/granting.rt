@@ -49,8 +49,8 @@ fn grant_client(core: &mut AccessCore, client: ClientId) -> Result<(), Refusal>
     grant_kind(core, client, Kind::Kernel)
 }
 
-/// Grants each client all rights that the core's policy allows it, with one grant an object: each of them is in force
-/// then. It stops at the first grant that the core refuses.
+/// Grants each client all rights that the core's policy allows it, with one grant an object, and no other: each of them is
+/// in force then. It stops at the first grant that the core refuses.
 pub fn grant_all(core: &mut AccessCore) -> Result<(), Refusal>
     ensures adds { AddsGrants core.old.history core.new.history }
     ensures has { OnOk result (HasAllAllowed core.new.history) }

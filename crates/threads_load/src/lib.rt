@@ -9,6 +9,7 @@ mod counting;
 mod fault;
 mod gate;
 mod granting;
+mod laws;
 mod limits;
 mod load;
 mod looking;
@@ -23,6 +24,7 @@ pub use counting::{PacketCounts, are_finished, count_none, count_on, count_packe
 pub use fault::LoadFault;
 pub use gate::LoadGate;
 pub use granting::grant_all;
+pub use laws::law_numbers_are_those_of_the_rules;
 pub use limits::{LoadLimits, LoadTerms, PACKETS};
 pub use load::{
     Load, PLACES, name_broker, open_broker, run_load, run_load_watched, run_load_within,

@@ -1,5 +1,8 @@
 //! How far a load goes.
 
+ghost use Rattle.std.specs.Prelude.{◌≡◌, false, true};
+ghost use Rattle.threads_load.specs.Limits.{most_tries, most_turns, terms_for};
+
 /// How many packets a producer of the load publishes, if nothing else is asked for.
 pub const PACKETS: u64 = 8;
 
@@ -22,7 +25,9 @@ pub struct LoadLimits {
 
 impl LoadLimits {
     /// 10,000,000 turns of each lane, and as many tries of each producer, over all of its packets.
-    pub fn in_all() -> LoadLimits {
+    pub fn in_all() -> LoadLimits
+        ensures { result ≡ record { turns = most_turns; tries = most_tries; are_renewed = false } }
+    {
         LoadLimits {
             turns: MOST_TURNS,
             tries: MOST_TRIES,
@@ -31,7 +36,9 @@ impl LoadLimits {
     }
 
     /// As many for each packet.
-    pub fn for_each_packet() -> LoadLimits {
+    pub fn for_each_packet() -> LoadLimits
+        ensures { result ≡ record { turns = most_turns; tries = most_tries; are_renewed = true } }
+    {
         LoadLimits {
             turns: MOST_TURNS,
             tries: MOST_TRIES,
@@ -49,4 +56,25 @@ pub struct LoadTerms {
     pub packets: u64,
     /// How far lanes and producers go at the most.
     pub limits: LoadLimits,
+}
+
+impl LoadTerms {
+    /// The terms of a load with so many producers a queue. Each publishes 8 packets, with turns and tries over all of them;
+    /// or so many, and both count anew behind each.
+    pub fn of(producers: u64, packets: Option<u64>) -> LoadTerms
+        ensures { result ≡ terms_for producers packets }
+    {
+        match packets {
+            None => LoadTerms {
+                producers,
+                packets: PACKETS,
+                limits: LoadLimits::in_all(),
+            },
+            Some(packets) => LoadTerms {
+                producers,
+                packets,
+                limits: LoadLimits::for_each_packet(),
+            },
+        }
+    }
 }

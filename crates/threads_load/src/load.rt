@@ -1,21 +1,25 @@
 //! The load, from a policy to its report.
 
-ghost use Rattle.std.specs.Prelude.{◌≡◌, ℕ, [], ◌++◌, All, IfOk, List, Ok, OnOk, length, map};
+ghost use Rattle.std.specs.Prelude.{◌≡◌, ◌≢◌, ℕ, [], ◌++◌, All, IfErr, IfOk, List, Ok, OnOk, length, map, true};
 ghost use Rattle.core_model.specs.History.{Part};
 ghost use Rattle.core_model.specs.declared.entry.Entry.{Entry};
 ghost use Rattle.core_model.specs.Legal.{IsLegalPart, IsOpening};
 ghost use Rattle.core_model.specs.Rotation.{entries_in};
 ghost use Rattle.access_core.specs.Cores.{Core};
-ghost use Rattle.access_core.specs.Opening.{program_of};
+ghost use Rattle.access_core.specs.Opening.{open_fault, program_of};
 ghost use Rattle.client_threads.specs.Sections.{IsSection};
-ghost use Rattle.client_threads.specs.Settling.{IsEnd, IsSettlement, core_of};
+ghost use Rattle.client_threads.specs.Boards.{all_shares};
+ghost use Rattle.client_threads.specs.Settling.{IsClosed, IsSettlement, core_of, has_all_passes};
+ghost use Rattle.client_threads.specs.declared.settling.SettleAllFault.{SettleAllFault};
 ghost use Rattle.threads_load.specs.Counts.{AreCounts};
+ghost use Rattle.threads_load.specs.Faults.{IsToldFor, TellsOpening};
 ghost use Rattle.threads_load.specs.Grantings.{HasAllAllowed};
 ghost use Rattle.threads_load.specs.Loads.{EndsBy, EndsLoad, TellsLoad, TellsPlan, ending_if, parts_in, wanted_of};
+ghost use Rattle.threads_load.specs.Limits.{load_packets, load_places};
+ghost use Rattle.threads_load.specs.Publications.{IsPlannedEnd, IsUnused};
 ghost use Rattle.threads_load.specs.Rounds.{parts_of};
-ghost use Rattle.threads_load.specs.Stages.{IsReady, IsStage, IsStageWith, WasLeft};
+ghost use Rattle.threads_load.specs.Stages.{IsLoadRing, IsReady, IsStage, IsStageWith, WasLeft};
 ghost use Rattle.threads_load.specs.declared.plan.PlannedQueue.{PlannedQueue};
-ghost use Rattle.threads_load.specs.declared.limits.TheConstants.{PACKETS};
 
 use crate::counting::{PacketCounts, are_finished, count_none, count_on};
 use crate::fault::LoadFault;
@@ -147,12 +151,16 @@ fn ended_by(settlement: Settlement, out: HandedOut, wanted: u64) -> Result<Ended
     }
 }
 
-// Why a broker was not settled.
-fn fault_of<B: Room>(back: UnsettledBroker<B>) -> LoadFault {
+// Why a broker was not settled, all of whose fronts are there.
+fn fault_of<B: Room>(back: UnsettledBroker<B>) -> LoadFault
+    requires { back.fault ≢ SettleAllFault.MissingFront }
+    ensures { IsToldFor back.fault result }
+{
     match back.fault {
         SettleAllFault::OutOfMemory => LoadFault::OutOfMemory,
         SettleAllFault::MissingPass => LoadFault::MissingPass,
         SettleAllFault::NotNext => LoadFault::NotNext,
+        SettleAllFault::MissingFront => unreachable!(),
     }
 }
 
@@ -164,7 +172,9 @@ fn settle<B: Room>(
 ) -> Result<Settlement, UnsettledBroker<B>>
     requires { IsStageWith B.board out.now.settled stage }
     ensures settled { IfOk result (IsSettlement stage.broker (parts_of out.now) stage.ends.items stage.lanes.items) }
-    ensures end { IfOk result (λ settlement. IsEnd B.opened stage.front.left stage.lanes.items (core_of settlement)) }
+    ensures closed { IfOk result (λ settlement. IsClosed B.opened stage.front stage.lanes.items (core_of settlement)) }
+    ensures passes { IfOk result (λ _. has_all_passes stage.broker stage.ends.items stage.lanes.items ≡ true) }
+    ensures refused { IfErr result (λ back. back.fault ≢ SettleAllFault.MissingFront) }
 {
     let Stage {
         broker,
@@ -172,16 +182,7 @@ fn settle<B: Room>(
         ends,
         lanes,
     } = stage;
-    let mut front = front;
-    settle_all(
-        alloc,
-        broker,
-        &mut front,
-        &out.settled,
-        out.left(),
-        ends,
-        lanes,
-    )
+    settle_all(alloc, broker, front, &out.settled, out.left(), ends, lanes)
 }
 
 // Settles it, looks whether the queues of the plan are open still, and tells how the load ended.
@@ -196,7 +197,7 @@ fn finish<B: Room>(
     requires ready { IsReady plan.now stage }
     requires parts { All (IsLegalPart B.opened.history.kernels) (parts_of out) }
     requires counts { AreCounts (entries_in (parts_of out)) (length plan.now) out.counts.items }
-    ensures { IfOk result (EndsLoad B.opened plan.now wanted) }
+    ensures { (producers packets : ℕ) → All (IsLoadRing producers) stage.broker → All (IsPlannedEnd plan.now packets) stage.ends.items → IfOk result (EndsLoad B.opened plan.now producers packets wanted) }
 {
     match settle(alloc, stage, &out) {
         Ok(settlement) => {
@@ -207,14 +208,17 @@ fn finish<B: Room>(
     }
 }
 
-/// Opens a broker over a policy and its kernels, with places for so many entries in its audit. It has no name yet.
+/// Opens a broker over a policy and its kernels, with places for so many entries in its audit. It has no name yet. Where no
+/// core is opened, that is told.
+#[tactic(auto, using(crate::proofs::Told::opened_tells))]
 pub fn open_broker(
     alloc: Global,
     policy: Policy,
     kernels: Vec<Kernel>,
     places: usize,
 ) -> Result<UnnamedBroker, LoadFault>
-    ensures { IfOk result (λ broker. IsOpening broker.core.history policy (map program_of kernels.items) places) }
+    ensures opened { IfOk result (λ broker. IsOpening broker.core.history policy (map program_of kernels.items) places) }
+    ensures refused { TellsOpening (open_fault policy kernels.items places) result }
 {
     match UnnamedBroker::open(alloc, policy, kernels, places) {
         Ok(broker) => Ok(broker),
@@ -227,17 +231,18 @@ pub fn open_broker(
 fn grant_alone<B: Room>(broker: &mut Broker<B>, front: &mut Front) -> Result<(), Refusal>
     requires { front.old.board ≡ B.board }
     ensures front { front.new.board ≡ B.board }
-    ensures section { IsSection B.opened front.old.left front.new.left (λ before after. OnOk result (HasAllAllowed after.history)) }
+    ensures section { IsSection B.opened front.old front.new (λ before after. OnOk result (HasAllAllowed after.history)) }
     ensures rings { broker.new ≡ broker.old }
 {
     broker.with_core_alone(front, |core| grant_all(core))
 }
 
-/// Gives a broker its name, and grants all that its policy allows. The front has seen that.
+/// Gives a broker its name, and grants all that its policy allows, in a section. The front has seen that, and has all
+/// shares.
 pub fn name_broker<B: Room>(unnamed: UnnamedBroker) -> Result<(Broker<B>, Front), LoadFault>
     requires { (unnamed.board ≡ B.board) × (unnamed.core ≡ B.opened) }
     ensures rings { IfOk result (λ named. named.0 ≡ []) }
-    ensures front { IfOk result (λ named. named.1.board ≡ B.board) }
+    ensures front { IfOk result (λ named. (named.1.board ≡ B.board) × (named.1.share ≡ all_shares)) }
     ensures granted { IfOk result (λ named. WasLeft named.1.left (λ left. HasAllAllowed left.history)) }
 {
     let (mut broker, mut front) = unnamed.named::<B>();
@@ -260,7 +265,7 @@ fn finish_rotated<B: Room>(
     requires ready { IsReady plan.now stage }
     requires parts { All (IsLegalPart B.opened.history.kernels) (parts_of out) }
     requires counts { IfOk run (λ _. AreCounts (entries_in (parts_of out)) (length plan.now) out.counts.items) }
-    ensures { IfOk result (EndsLoad B.opened plan.now wanted) }
+    ensures { (producers packets : ℕ) → All (IsLoadRing producers) stage.broker → All (IsPlannedEnd plan.now packets) stage.ends.items → IfOk result (EndsLoad B.opened plan.now producers packets wanted) }
 {
     match run {
         Ok(()) => finish(alloc, stage, out, plan, wanted),
@@ -283,13 +288,14 @@ fn run_over<B: Room + Send + Sync, R: Threads + Wait + Sync, W: Watch>(
     requires stage { IsStage B.board stage }
     requires ready { IsReady plan.now stage }
     requires counts { AreCounts [] (length plan.now) counts.items }
-    ensures { IfOk result (EndsLoad B.opened plan.now wanted) }
+    ensures { (producers : ℕ) → All (IsLoadRing producers) stage.broker → All IsUnused stage.ends.items → IfOk result (EndsLoad B.opened plan.now producers share.packets wanted) }
 {
     let (stage, out, run) = run_rotated(rt, alloc, stage, plan, share, gate, counts, watch);
     finish_rotated(alloc, stage, out, run, plan, wanted)
 }
 
 // Names a broker, opens the queues of a plan, and runs its load.
+#[tactic(auto, using(crate::proofs::Belonging::no_rings))]
 fn run_named<B: Room + Send + Sync, R: Threads + Wait + Sync, W: Watch>(
     rt: &R,
     alloc: Global,
@@ -301,7 +307,7 @@ fn run_named<B: Room + Send + Sync, R: Threads + Wait + Sync, W: Watch>(
     watch: &mut W,
 ) -> Result<Ended, LoadFault>
     requires { (unnamed.board ≡ B.board) × (unnamed.core ≡ B.opened) }
-    ensures { IfOk result (EndsLoad unnamed.core plan.now wanted) }
+    ensures { IfOk result (EndsLoad unnamed.core plan.now terms.producers terms.packets wanted) }
 {
     let share = Share {
         packets: terms.packets,
@@ -326,7 +332,7 @@ fn load_of(report: Result<String, Refusal>, ending: Ending) -> Result<Load, Load
 
 // The report of a load that ended.
 fn tell(alloc: Global, ended: Ended, plan: &[PlannedQueue]) -> Result<Load, LoadFault>
-    ensures { (opened : Core) (wanted : ℕ) → EndsLoad opened plan.now wanted ended → IfOk result (TellsPlan opened plan.now wanted) }
+    ensures { (opened : Core) (producers packets wanted : ℕ) → EndsLoad opened plan.now producers packets wanted ended → IfOk result (TellsPlan opened plan.now producers packets wanted) }
 {
     let counts = ended.counts.as_slice();
     let report = report_load(alloc, counts, &ended.core, plan, ended.ending);
@@ -340,7 +346,7 @@ fn show_and_tell<W: Watch>(
     plan: &[PlannedQueue],
     watch: &mut W,
 ) -> Result<Load, LoadFault>
-    ensures { (opened : Core) (wanted : ℕ) → EndsLoad opened plan.now wanted ended → IfOk result (TellsPlan opened plan.now wanted) }
+    ensures { (opened : Core) (producers packets wanted : ℕ) → EndsLoad opened plan.now producers packets wanted ended → IfOk result (TellsPlan opened plan.now producers packets wanted) }
 {
     match watch.take(ended.core.audit()) {
         Ok(()) => tell(alloc, ended, plan),
@@ -349,6 +355,7 @@ fn show_and_tell<W: Watch>(
 }
 
 // Runs the load of a plan over a policy: the broker gets its name here.
+#[tactic(auto, using(crate::proofs::Told::then_tells))]
 fn run_plan<R: Threads + Wait + Sync, W: Watch>(
     rt: &R,
     alloc: Global,
@@ -358,7 +365,8 @@ fn run_plan<R: Threads + Wait + Sync, W: Watch>(
     terms: LoadTerms,
     watch: &mut W,
 ) -> Result<Ended, LoadFault>
-    ensures { IfOk result (λ ended. (opened : Core) × IsOpening opened.history policy (map program_of kernels.items) PLACES × EndsLoad opened plan.now (wanted_of terms.packets terms.producers) ended) }
+    ensures refused { TellsOpening (open_fault policy kernels.items load_places) result }
+    ensures ended { IfOk result (λ ended. (opened : Core) × IsOpening opened.history policy (map program_of kernels.items) load_places × EndsLoad opened plan.now terms.producers terms.packets (wanted_of terms.packets terms.producers) ended) }
 {
     let wanted = terms.packets.saturating_mul(terms.producers);
     let gate = LoadGate::within(alloc, plan.len(), wanted, terms.limits)?;
@@ -381,9 +389,11 @@ pub fn run_load<R: Threads + Wait + Sync>(
     kernels: Vec<Kernel>,
     producers: u64,
 ) -> Result<Load, LoadFault>
-    ensures { IfOk result (TellsLoad policy kernels.items PACKETS producers) }
+    ensures load { IfOk result (TellsLoad policy kernels.items load_packets producers) }
+    ensures refused { TellsOpening (open_fault policy kernels.items load_places) result }
 {
-    run_load_within(rt, alloc, policy, kernels, producers, LoadLimits::in_all())
+    let terms = LoadTerms::of(producers, None);
+    run_load_watched(rt, alloc, policy, kernels, terms, &mut Unwatched)
 }
 
 /// Runs the load just so, with other limits than 10,000,000 turns of each lane and as many tries of each producer.
@@ -395,7 +405,8 @@ pub fn run_load_within<R: Threads + Wait + Sync>(
     producers: u64,
     limits: LoadLimits,
 ) -> Result<Load, LoadFault>
-    ensures { IfOk result (TellsLoad policy kernels.items PACKETS producers) }
+    ensures load { IfOk result (TellsLoad policy kernels.items load_packets producers) }
+    ensures refused { TellsOpening (open_fault policy kernels.items load_places) result }
 {
     let terms = LoadTerms {
         producers,
@@ -405,7 +416,9 @@ pub fn run_load_within<R: Threads + Wait + Sync>(
     run_load_watched(rt, alloc, policy, kernels, terms, &mut Unwatched)
 }
 
-/// Runs the load on these terms, and shows the entries of its history as they come.
+/// Runs the load on these terms, and shows the entries of its history as they come. Where no core is opened over the policy
+/// and its kernels, that is told before all else, but for want of memory.
+#[tactic(auto, using(crate::proofs::Told::then_tells))]
 pub fn run_load_watched<R: Threads + Wait + Sync, W: Watch>(
     rt: &R,
     alloc: Global,
@@ -414,7 +427,8 @@ pub fn run_load_watched<R: Threads + Wait + Sync, W: Watch>(
     terms: LoadTerms,
     watch: &mut W,
 ) -> Result<Load, LoadFault>
-    ensures { IfOk result (TellsLoad policy kernels.items terms.packets terms.producers) }
+    ensures load { IfOk result (TellsLoad policy kernels.items terms.packets terms.producers) }
+    ensures refused { TellsOpening (open_fault policy kernels.items load_places) result }
 {
     let plan = plan_load(alloc, &policy)?;
     let ended = run_plan(rt, alloc, policy, kernels, plan.as_slice(), terms, watch)?;

@@ -1,15 +1,18 @@
 //! The queues of a plan are opened.
 
-ghost use Rattle.std.specs.Prelude.{◌≡◌, ◌∷◌, ◌++◌, [], All, IfErr, IfOk, List, OnOk, length};
+ghost use Rattle.std.specs.Prelude.{◌≡◌, ◌<◌, ◌∷◌, ◌++◌, [], All, IfErr, IfOk, List, OnOk, length};
 ghost use mathlib.Core.List.{IsPrefix};
 ghost use Rattle.client_threads.specs.HandedOver.{KeepsAll};
-ghost use Rattle.client_threads.specs.Opening.{IsOpened, OpensQueue, opening_event};
+ghost use Rattle.client_threads.specs.Boards.{all_shares, fresh_of};
+ghost use Rattle.client_threads.specs.Opening.{IsOpened, OpensQueue, before_lane, opening_event};
 ghost use Rattle.client_threads.specs.Running.{IsEndOf, IsLaneOf};
 ghost use Rattle.client_threads.specs.Sections.{IsSection};
 ghost use Rattle.core_model.specs.declared.outcome.Outcome.{Outcome};
 ghost use Rattle.policy.specs.Results.{map_ok};
 ghost use Rattle.threads_load.specs.Grantings.{HasAllAllowed};
-ghost use Rattle.threads_load.specs.Stages.{AreOf, HasQueues, IsReady, IsStage, WasLeft};
+ghost use Rattle.threads_load.specs.Limits.{load_slots};
+ghost use Rattle.threads_load.specs.Publications.{IsUnused};
+ghost use Rattle.threads_load.specs.Stages.{AreOf, HasQueues, HaveShares, IsLoadRing, IsReady, IsStage, WasLeft};
 ghost use Rattle.threads_load.specs.declared.plan.PlannedQueue.{PlannedQueue};
 
 use crate::fault::LoadFault;
@@ -32,6 +35,7 @@ pub struct Stage<B: Room> {
 }
 
 // Opens a planned queue for so many producers: the client's, on the agent, as the plan says.
+#[tactic(auto, using(crate::proofs::Shares::opened_begins))]
 fn open_queue<B: Room>(
     alloc: Global,
     broker: &mut Broker<B>,
@@ -39,11 +43,12 @@ fn open_queue<B: Room>(
     planned: PlannedQueue,
     producers: u64,
 ) -> Result<Opened, Refusal>
-    requires front { front.old.board ≡ B.board }
+    requires front { (front.old.board ≡ B.board) × (1 < front.old.share) }
     ensures front { front.new.board ≡ B.board }
-    ensures section { IsSection B.opened front.old.left front.new.left (λ before after.
-        OpensQueue (opening_event planned.client planned.agent MOST_IN_FLIGHT producers) before.history (map_ok (λ o. Outcome.Opened o.0) result) after.history) }
-    ensures opened { IfOk result (λ o. IsOpened broker.old MOST_IN_FLIGHT producers front.new o.0 o.1.items o.2 broker.new) }
+    ensures section { IsSection B.opened front.old (before_lane result front.new) (λ before after.
+        OpensQueue (opening_event planned.client planned.agent load_slots producers) before.history (map_ok (λ o. Outcome.Opened o.0) result) after.history) }
+    ensures begins { IsPrefix front.old.left front.new.left }
+    ensures opened { IfOk result (λ o. IsOpened broker.old load_slots producers (fresh_of front.new) o.0 o.1.items o.2 broker.new) }
     ensures refused { IfErr result (λ _. broker.new ≡ broker.old) }
 {
     broker.open_queue(
@@ -64,7 +69,8 @@ fn put_ends<B: Room>(
 ) -> Result<(), AllocError>
     requires more { All (λ end. IsEndOf broker.now end) more.items }
     requires ends { All (λ end. IsEndOf broker.now end) ends.old.items }
-    ensures { All (λ end. IsEndOf broker.now end) ends.new.items }
+    ensures ends { All (λ end. IsEndOf broker.now end) ends.new.items }
+    ensures put { OnOk result (ends.new.items ≡ ends.old.items ++ more.items) }
 {
     let mut more = more;
     ends.append(&mut more)
@@ -98,6 +104,7 @@ fn put_queue<B: Room>(
     requires lanes { All (λ lane. IsLaneOf B.board broker.now lane) lanes.old.items }
     ensures ends { All (λ end. IsEndOf broker.now end) ends.new.items }
     ensures lanes { All (λ lane. IsLaneOf B.board broker.now lane) lanes.new.items }
+    ensures put_ends { OnOk result (ends.new.items ≡ ends.old.items ++ opened.1.items) }
     ensures put { OnOk result (lanes.new.items ≡ lanes.old.items ++ opened.2 ∷ []) }
 {
     let (_, more, lane) = opened;
@@ -122,11 +129,15 @@ fn open_next<B: Room>(
     requires front { front.old.board ≡ B.board }
     requires ends { All (λ end. IsEndOf broker.old end) ends.old.items }
     requires lanes { All (λ lane. IsLaneOf B.board broker.old lane) lanes.old.items }
+    requires shares { HaveShares front.old lanes.old.items }
     ensures front { front.new.board ≡ B.board }
     ensures begins { IsPrefix front.old.left front.new.left }
     ensures ends { OnOk result (All (λ end. IsEndOf broker.new end) ends.new.items) }
     ensures lanes { OnOk result (All (λ lane. IsLaneOf B.board broker.new lane) lanes.new.items) }
+    ensures shares { OnOk result (HaveShares front.new lanes.new.items) }
     ensures keeps { All KeepsAll lanes.old.items → OnOk result (All KeepsAll lanes.new.items) }
+    ensures rings { All (IsLoadRing producers) broker.old → OnOk result (All (IsLoadRing producers) broker.new) }
+    ensures unused { All IsUnused ends.old.items → OnOk result (All IsUnused ends.new.items) }
     ensures queues { (before : List PlannedQueue) → AreOf (length before) lanes.old.items → OnOk result (AreOf (length (before ++ planned ∷ [])) lanes.new.items) }
 {
     let number = lanes.len() as u64 + 1;
@@ -157,11 +168,15 @@ fn open_queues<B: Room>(
     requires front { front.old.board ≡ B.board }
     requires ends { All (λ end. IsEndOf broker.old end) ends.old.items }
     requires lanes { All (λ lane. IsLaneOf B.board broker.old lane) lanes.old.items }
+    requires shares { HaveShares front.old lanes.old.items }
     ensures front { front.new.board ≡ B.board }
     ensures begins { IsPrefix front.old.left front.new.left }
     ensures ends { OnOk result (All (λ end. IsEndOf broker.new end) ends.new.items) }
     ensures lanes { OnOk result (All (λ lane. IsLaneOf B.board broker.new lane) lanes.new.items) }
+    ensures shares { OnOk result (HaveShares front.new lanes.new.items) }
     ensures keeps { All KeepsAll lanes.old.items → OnOk result (All KeepsAll lanes.new.items) }
+    ensures rings { All (IsLoadRing producers) broker.old → OnOk result (All (IsLoadRing producers) broker.new) }
+    ensures unused { All IsUnused ends.old.items → OnOk result (All IsUnused ends.new.items) }
     ensures queues { AreOf 0 lanes.old.items → OnOk result (AreOf (length plan.now) lanes.new.items) }
 {
     for planned in plan {
@@ -178,15 +193,15 @@ fn look_alone<B: Room>(
 ) -> Result<(), LoadFault>
     requires { front.old.board ≡ B.board }
     ensures front { front.new.board ≡ B.board }
-    ensures section { IsSection B.opened front.old.left front.new.left (λ before after. OnOk result (HasQueues after plan.now)) }
+    ensures section { IsSection B.opened front.old front.new (λ before after. OnOk result (HasQueues after plan.now)) }
     ensures rings { broker.new ≡ broker.old }
 {
     broker.with_core_alone(front, |core| look_for_queues(core, plan))
 }
 
-/// Opens the queues of a plan over a broker, of whose core a front has seen some, each for so many producers. Where all
+/// Opens the queues of a plan over a broker, each for so many producers, through the front that has all shares. Where all
 /// that is allowed was granted, the stage is ready: its lanes are just those of the plan's queues, each opened by its
-/// client on its agent, in order.
+/// client on its agent, in order. Each ring has 16 slots, and as many producers as are asked for.
 pub fn open_stage<B: Room>(
     alloc: Global,
     broker: Broker<B>,
@@ -194,9 +209,11 @@ pub fn open_stage<B: Room>(
     plan: &[PlannedQueue],
     producers: u64,
 ) -> Result<Stage<B>, LoadFault>
-    requires { front.board ≡ B.board }
+    requires { (front.board ≡ B.board) × (front.share ≡ all_shares) }
     ensures stage { IfOk result (IsStage B.board) }
     ensures ready { WasLeft front.left (λ left. HasAllAllowed left.history) → IfOk result (IsReady plan.now) }
+    ensures rings { All (IsLoadRing producers) broker → IfOk result (λ stage. All (IsLoadRing producers) stage.broker) }
+    ensures unused { IfOk result (λ stage. All IsUnused stage.ends.items) }
 {
     let mut broker = broker;
     let mut front = front;

@@ -3,9 +3,11 @@
 ghost use Rattle.std.specs.Prelude.{◌≡◌, Some};
 ghost use Rattle.aql_packet.specs.Layout.{PacketOf};
 ghost use Rattle.aql_packet.specs.Reading.{decoded};
+ghost use Rattle.ring.specs.Bytes.{words_of};
 ghost use Rattle.ring.specs.Publishing.{IsOpen};
 ghost use Rattle.client_threads.specs.Running.{IsEndOf};
 ghost use Rattle.threads_load.specs.Additions.{addition};
+ghost use Rattle.threads_load.specs.Publications.{PublishesOnly, PublishesPlanned, planned_at};
 ghost use Rattle.threads_load.specs.Stages.{StaysOf};
 
 use crate::bells::ring;
@@ -65,6 +67,7 @@ fn tries_again(gate: &LoadGate, tries_left: &mut u64) -> bool {
 
 // Publishes a packet under a ticket, trying again while its slot is busy and tries are left. Answers whether it was
 // published.
+#[tactic(auto, using(crate::proofs::Publishing::only_none, crate::proofs::Publishing::only_published, crate::proofs::Publishing::only_both))]
 fn publish_under<B: Room>(
     broker: &Broker<B>,
     end: &mut ClientEnd,
@@ -75,7 +78,9 @@ fn publish_under<B: Room>(
 ) -> bool
     requires end { IsEndOf broker.now end.old }
     requires opened { IsOpen ticket.id.0 end.old.pass }
-    ensures { IsEndOf broker.now end.new }
+    ensures end { IsEndOf broker.now end.new }
+    ensures queue { end.new.queue ≡ end.old.queue }
+    ensures only { PublishesOnly (words_of bytes.now) 0 end.old.pass end.new.pass }
 {
     let mut ticket = ticket;
     for _again in 0..u64::MAX {
@@ -92,6 +97,7 @@ fn publish_under<B: Room>(
 }
 
 // Reserves an id and publishes a packet under it. Answers whether it was published.
+#[tactic(auto, using(crate::proofs::Publishing::only_reserved, crate::proofs::Publishing::only_same, crate::proofs::Publishing::only_both))]
 fn publish_one<B: Room>(
     broker: &Broker<B>,
     end: &mut ClientEnd,
@@ -100,7 +106,9 @@ fn publish_one<B: Room>(
     tries_left: &mut u64,
 ) -> bool
     requires { IsEndOf broker.now end.old }
-    ensures { IsEndOf broker.now end.new }
+    ensures end { IsEndOf broker.now end.new }
+    ensures queue { end.new.queue ≡ end.old.queue }
+    ensures only { PublishesOnly (words_of bytes.now) 1 end.old.pass end.new.pass }
 {
     match end.reserve(broker) {
         Ok(ticket) => publish_under(broker, end, ticket, bytes, gate, tries_left),
@@ -109,6 +117,7 @@ fn publish_one<B: Room>(
 }
 
 // Publishes a producer's packets, until it gives up.
+#[tactic(auto, using(crate::proofs::Publishing::only_none, crate::proofs::Publishing::only_both, crate::proofs::Publishing::only_fewer))]
 fn publish_all<B: Room>(
     broker: &Broker<B>,
     end: &mut ClientEnd,
@@ -117,11 +126,13 @@ fn publish_all<B: Room>(
     gate: &LoadGate,
 )
     requires { IsEndOf broker.now end.old }
-    ensures { IsEndOf broker.now end.new }
+    ensures end { IsEndOf broker.now end.new }
+    ensures queue { end.new.queue ≡ end.old.queue }
+    ensures only { PublishesOnly (words_of bytes.now) share.packets end.old.pass end.new.pass }
 {
-    let mut tries_left = share.tries;
-    for _packet in 0..share.packets {
-        if share.are_renewed {
+    let mut tries_left = 0;
+    for before in 0..share.packets {
+        if before == 0 || share.are_renewed {
             tries_left = share.tries;
         }
         if !publish_one(broker, end, bytes, gate, &mut tries_left) {
@@ -131,13 +142,15 @@ fn publish_all<B: Room>(
 }
 
 // What is planned of the queue of a number, if it is one of the plan.
-fn planned_of(plan: &[PlannedQueue], queue: QueueId) -> Option<PlannedQueue> {
+fn planned_of(plan: &[PlannedQueue], queue: QueueId) -> Option<PlannedQueue>
+    ensures { result ≡ planned_at plan.now queue.0 }
+{
     let before = (queue.0 as usize).checked_sub(1)?;
     plan.get(before).copied()
 }
 
-/// Publishes a producer's packets on the queue of its end, until it gives up, or its gate is stopped. Its queue's doorbell
-/// rings then, as for each packet.
+/// Publishes a producer's packets on the queue of its end, until it gives up, or its gate is stopped: none but those that add
+/// 1 in the region that is planned for the queue, and at most so many. Its queue's doorbell rings then, as for each packet.
 pub fn produce<B: Room>(
     broker: &Broker<B>,
     plan: &[PlannedQueue],
@@ -146,7 +159,8 @@ pub fn produce<B: Room>(
     end: &mut ClientEnd,
 )
     requires { IsEndOf broker.now end.old }
-    ensures { StaysOf broker.now end.old end.new }
+    ensures stays { StaysOf broker.now end.old end.new }
+    ensures published { PublishesPlanned (planned_at plan.now end.old.queue.0) share.packets end.old end.new }
 {
     let queue = end.queue();
     if let Some(planned) = planned_of(plan, queue) {

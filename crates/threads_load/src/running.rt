@@ -13,8 +13,9 @@ ghost use Rattle.core_model.specs.History.{Part};
 ghost use Rattle.core_model.specs.Rotation.{Rotates, entries_in};
 ghost use Rattle.core_model.specs.declared.entry.Entry.{Entry};
 ghost use Rattle.threads_load.specs.Counts.{AreCounts};
+ghost use Rattle.threads_load.specs.Publications.{EachProduces, IsPlannedEnd, IsUnused};
 ghost use Rattle.threads_load.specs.Rounds.{IsHandedOut, parts_of};
-ghost use Rattle.threads_load.specs.Stages.{AreOf, EachStaysOf, IsReady, IsStage, IsStageWith};
+ghost use Rattle.threads_load.specs.Stages.{AreOf, IsReady, IsStage, IsStageWith, KeepShares};
 ghost use Rattle.threads_load.specs.declared.plan.PlannedQueue.{PlannedQueue};
 
 use crate::bells::BellGate;
@@ -64,7 +65,7 @@ fn produce_each<B: Room + Send + Sync, R: Threads + Sync>(
 )
     requires some { 0 < length ends.old }
     requires ends { All (λ end. IsEndOf broker.now end) ends.old }
-    ensures { EachStaysOf broker.now ends.old ends.new }
+    ensures { EachProduces broker.now plan.now share.packets ends.old ends.new }
 {
     let threads = ends.len();
     thread::for_each_mut(
@@ -86,7 +87,7 @@ fn produce_any<B: Room + Send + Sync, R: Threads + Sync>(
 ) -> Vec<ClientEnd>
     requires { All (λ end. IsEndOf broker.now end) ends.items }
     ensures count { length result.items ≡ length ends.items }
-    ensures each { EachStaysOf broker.now ends.items result.items }
+    ensures each { EachProduces broker.now plan.now share.packets ends.items result.items }
 {
     let mut ends = ends;
     if ends.len() > 0 {
@@ -105,13 +106,14 @@ fn produce_all<B: Room + Send + Sync, R: Threads + Sync>(
     ends: Vec<ClientEnd>,
 ) -> Vec<ClientEnd>
     requires { All (λ end. IsEndOf broker.now end) ends.items }
-    ensures { All (λ end. IsEndOf broker.now end) result.items }
+    ensures ends { All (λ end. IsEndOf broker.now end) result.items }
+    ensures planned { All IsUnused ends.items → All (IsPlannedEnd plan.now share.packets) result.items }
 {
     produce_any(rt, broker, plan, share, gate, ends)
 }
 
 // Lanes run. Each stays that of its queue.
-#[tactic(auto, using(crate::proofs::Planned::lanes_stay))]
+#[tactic(auto, using(crate::proofs::Planned::lanes_stay, crate::proofs::Shares::ran_keep))]
 fn run_all<B: Room + Send + Sync, R: Threads + Wait + Sync>(
     rt: &R,
     alloc: Global,
@@ -123,6 +125,7 @@ fn run_all<B: Room + Send + Sync, R: Threads + Wait + Sync>(
     ensures lanes { All (λ lane. IsLaneOf B.board broker.now lane) result.items }
     ensures queues { (queues : ℕ) → AreOf queues lanes.items → AreOf queues result.items }
     ensures settled { (parts : List Part) → AreSettledWith parts lanes.items → AreSettledWith parts result.items }
+    ensures shares { KeepShares lanes.items result.items }
 {
     let bells = BellGate { rt, broker, gate };
     run_lanes(rt, alloc, broker, lanes, &bells)
@@ -144,6 +147,7 @@ fn run_both<B: Room + Send + Sync, R: Threads + Wait + Sync>(
     ensures ends { All (λ end. IsEndOf broker.now end) result.0.items }
     ensures lanes { All (λ lane. IsLaneOf B.board broker.now lane) result.1.items }
     ensures settled { (parts : List Part) → AreSettledWith parts lanes.items → AreSettledWith parts result.1.items }
+    ensures shares { KeepShares lanes.items result.1.items }
 {
     thread::join(
         rt,
@@ -153,7 +157,7 @@ fn run_both<B: Room + Send + Sync, R: Threads + Wait + Sync>(
         { produce_all(rt, broker, plan, share, gate, ends) },
         move || -> Vec<Lane>
             requires { IsSend B.row × IsSync B.row × IsSync R.row × All (λ lane. IsLaneOf B.board broker.now lane) lanes.items }
-            ensures { All (λ lane. IsLaneOf B.board broker.entry.now lane) result.items × ((parts : List Part) → AreSettledWith parts lanes.items → AreSettledWith parts result.items) }
+            ensures { All (λ lane. IsLaneOf B.board broker.entry.now lane) result.items × ((parts : List Part) → AreSettledWith parts lanes.items → AreSettledWith parts result.items) × KeepShares lanes.items result.items }
         { run_all(rt, alloc, broker, lanes, gate) },
     )
 }
@@ -168,14 +172,14 @@ fn rotate<B: Room, R: Wait>(
 ) -> Result<Part, Refusal>
     requires { front.old.board ≡ B.board }
     ensures front { front.new.board ≡ B.board }
-    ensures section { IsSection B.opened front.old.left front.new.left (λ before after.
+    ensures section { IsSection B.opened front.old front.new (λ before after.
         Rotates before.history result after.history × IfOk result (λ part. IsLegalPart before.history.kernels part)) }
 {
     broker.with_core(rt, front, |core| core.rotate(alloc))
 }
 
 // Hands out the next part. It is a legal one.
-#[tactic(auto, using(crate::proofs::Handing::handed_legal, crate::proofs::Planned::section_begins))]
+#[tactic(auto, using(crate::proofs::Handing::handed_legal, crate::proofs::Planned::section_begins, crate::proofs::Shares::section_share))]
 fn rotate_next<B: Room, R: Wait>(
     rt: &R,
     alloc: Global,
@@ -185,6 +189,7 @@ fn rotate_next<B: Room, R: Wait>(
     requires { front.old.board ≡ B.board }
     ensures front { front.new.board ≡ B.board }
     ensures begins { IsPrefix front.old.left front.new.left }
+    ensures share { front.new.share ≡ front.old.share }
     ensures part { IfOk result (IsLegalPart B.opened.history.kernels) }
 {
     rotate(rt, alloc, broker, front)
@@ -212,6 +217,7 @@ fn settle_part(part: Part, settled: &mut SettledParts, lanes: &mut Vec<Lane>) ->
     ensures parts { settled.new ++ option_to_list result ≡ settled.old ++ part ∷ [] }
     ensures of { (board : TableId) (rings : List QueueRing) → All (λ lane. IsLaneOf board rings lane) lanes.old.items → All (λ lane. IsLaneOf board rings lane) lanes.new.items }
     ensures queues { (queues : ℕ) → AreOf queues lanes.old.items → AreOf queues lanes.new.items }
+    ensures shares { KeepShares lanes.old.items lanes.new.items }
 {
     match settled.settle(part, lanes) {
         Ok(()) => None,
@@ -232,6 +238,7 @@ fn take_part<B: Room, W: Watch>(
     requires parts { All (IsLegalPart B.opened.history.kernels) settled.old }
     ensures of { (board : TableId) (rings : List QueueRing) → All (λ lane. IsLaneOf board rings lane) lanes.old.items → All (λ lane. IsLaneOf board rings lane) lanes.new.items }
     ensures queues { (queues : ℕ) → AreOf queues lanes.old.items → AreOf queues lanes.new.items }
+    ensures shares { KeepShares lanes.old.items lanes.new.items }
     ensures settled { AreSettledWith settled.new lanes.new.items }
     ensures parts { All (IsLegalPart B.opened.history.kernels) settled.new }
     ensures left { IfOk result (λ left. All (IsLegalPart B.opened.history.kernels) (settled.new ++ option_to_list left)) }
@@ -261,8 +268,10 @@ fn hand_out<B: Room, R: Wait, W: Watch>(
     requires parts { All (IsLegalPart B.opened.history.kernels) settled.old }
     ensures front { front.new.board ≡ B.board }
     ensures begins { IsPrefix front.old.left front.new.left }
+    ensures share { front.new.share ≡ front.old.share }
     ensures lanes { All (λ lane. IsLaneOf B.board broker.now lane) lanes.new.items }
     ensures queues { (queues : ℕ) → AreOf queues lanes.old.items → AreOf queues lanes.new.items }
+    ensures shares { KeepShares lanes.old.items lanes.new.items }
     ensures settled { AreSettledWith settled.new lanes.new.items }
     ensures parts { All (IsLegalPart B.opened.history.kernels) settled.new }
     ensures left { IfOk result (λ left. All (IsLegalPart B.opened.history.kernels) (settled.new ++ option_to_list left)) }
@@ -304,8 +313,10 @@ fn run_rounds<B: Room + Send + Sync, R: Threads + Wait + Sync, W: Watch>(
     requires parts { All (IsLegalPart B.opened.history.kernels) settled.old }
     ensures front { front.new.board ≡ B.board }
     ensures begins { IsPrefix front.old.left front.new.left }
+    ensures share { front.new.share ≡ front.old.share }
     ensures lanes { All (λ lane. IsLaneOf B.board broker.now lane) result.0.items }
     ensures queues { (queues : ℕ) → AreOf queues lanes.items → AreOf queues result.0.items }
+    ensures shares { KeepShares lanes.items result.0.items }
     ensures settled { AreSettledWith settled.new result.0.items }
     ensures parts { All (IsLegalPart B.opened.history.kernels) settled.new }
     ensures left { IfOk result.1 (λ left. All (IsLegalPart B.opened.history.kernels) (settled.new ++ option_to_list left)) }
@@ -378,9 +389,10 @@ fn run_along<B: Room + Send + Sync, R: Threads + Wait + Sync, W: Watch>(
     requires front { front.board ≡ B.board }
     requires lanes { All (λ lane. IsLaneOf B.board broker.now lane) lanes.items }
     requires settled { AreSettledWith [] lanes.items }
-    ensures front { (result.0.board ≡ B.board) × IsPrefix front.left result.0.left }
+    ensures front { (result.0.board ≡ B.board) × IsPrefix front.left result.0.left × (result.0.share ≡ front.share) }
     ensures lanes { All (λ lane. IsLaneOf B.board broker.now lane) result.1.items }
     ensures queues { (queues : ℕ) → AreOf queues lanes.items → AreOf queues result.1.items }
+    ensures shares { KeepShares lanes.items result.1.items }
     ensures out { IsHandedOut B.opened.history.kernels result.1.items result.2 }
     ensures counts { (queues : ℕ) → AreCounts [] queues counts.items → IfOk result.3 (λ _. AreCounts (entries_in (parts_of result.2)) queues result.2.counts.items) }
 {
@@ -424,9 +436,11 @@ fn run_beside<B: Room + Send + Sync, R: Threads + Wait + Sync, W: Watch>(
     requires lanes { All (λ lane. IsLaneOf B.board broker.now lane) lanes.items }
     requires settled { AreSettledWith [] lanes.items }
     ensures ends { All (λ end. IsEndOf broker.now end) result.0.items }
-    ensures front { (result.1.0.board ≡ B.board) × IsPrefix front.left result.1.0.left }
+    ensures planned { All IsUnused ends.items → All (IsPlannedEnd plan.now share.packets) result.0.items }
+    ensures front { (result.1.0.board ≡ B.board) × IsPrefix front.left result.1.0.left × (result.1.0.share ≡ front.share) }
     ensures lanes { All (λ lane. IsLaneOf B.board broker.now lane) result.1.1.items }
     ensures queues { (queues : ℕ) → AreOf queues lanes.items → AreOf queues result.1.1.items }
+    ensures shares { KeepShares lanes.items result.1.1.items }
     ensures out { IsHandedOut B.opened.history.kernels result.1.1.items result.1.2 }
     ensures counts { (queues : ℕ) → AreCounts [] queues counts.items → IfOk result.1.3 (λ _. AreCounts (entries_in (parts_of result.1.2)) queues result.1.2.counts.items) }
 {
@@ -434,12 +448,12 @@ fn run_beside<B: Room + Send + Sync, R: Threads + Wait + Sync, W: Watch>(
         rt,
         move || -> Vec<ClientEnd>
             requires { IsSend B.row × IsSync B.row × IsSync R.row × All (λ end. IsEndOf broker.now end) ends.items }
-            ensures { All (λ end. IsEndOf broker.entry.now end) result.items }
+            ensures { All (λ end. IsEndOf broker.entry.now end) result.items × (All IsUnused ends.items → All (IsPlannedEnd plan.entry.now share.packets) result.items) }
         { produce_all(rt, broker, plan, share, gate, ends) },
         move || -> (Front, Vec<Lane>, HandedOut, Result<(), LoadFault>)
             requires { IsSend B.row × IsSync B.row × IsSync R.row × (front.board ≡ B.board) × All (λ lane. IsLaneOf B.board broker.now lane) lanes.items × AreSettledWith [] lanes.items }
-            ensures { ((result.0.board ≡ B.board) × IsPrefix front.left result.0.left) × All (λ lane. IsLaneOf B.board broker.entry.now lane) result.1.items
-                × ((queues : ℕ) → AreOf queues lanes.items → AreOf queues result.1.items) × IsHandedOut B.opened.history.kernels result.1.items result.2
+            ensures { ((result.0.board ≡ B.board) × IsPrefix front.left result.0.left × (result.0.share ≡ front.share)) × All (λ lane. IsLaneOf B.board broker.entry.now lane) result.1.items
+                × ((queues : ℕ) → AreOf queues lanes.items → AreOf queues result.1.items) × KeepShares lanes.items result.1.items × IsHandedOut B.opened.history.kernels result.1.items result.2
                 × ((queues : ℕ) → AreCounts [] queues counts.items → IfOk result.3 (λ _. AreCounts (entries_in (parts_of result.2)) queues result.2.counts.items)) }
         { run_along(rt, alloc, broker, front, lanes, counts, gate, watch) },
     )
@@ -497,6 +511,8 @@ pub fn run_rotated<B: Room + Send + Sync, R: Threads + Wait + Sync, W: Watch>(
 ) -> (Stage<B>, HandedOut, Result<(), LoadFault>)
     requires { IsStage B.board stage }
     ensures stage { IsStageWith B.board result.1.settled result.0 }
+    ensures rings { result.0.broker ≡ stage.broker }
+    ensures planned { All IsUnused stage.ends.items → All (IsPlannedEnd plan.now share.packets) result.0.ends.items }
     ensures ready { (plan : List PlannedQueue) → IsReady plan stage → IsReady plan result.0 }
     ensures parts { All (IsLegalPart B.opened.history.kernels) (parts_of result.1) }
     ensures counts { (queues : ℕ) → AreCounts [] queues counts.items → IfOk result.2 (λ _. AreCounts (entries_in (parts_of result.1)) queues result.1.counts.items) }

@@ -171,11 +171,10 @@ fn unsettled<B: Room>(alloc: Global, stage: Stage<B>) -> Option<(SettleAllFault,
         ends,
         lanes,
     } = stage;
-    let mut front = front;
     match settle_all(
         alloc,
         broker,
-        &mut front,
+        front,
         &SettledParts::none(),
         &[],
         ends,
@@ -184,8 +183,8 @@ fn unsettled<B: Room>(alloc: Global, stage: Stage<B>) -> Option<(SettleAllFault,
         Err(back) => Some((
             back.fault,
             Stage {
-                broker: back.broker,
-                front,
+                broker: back.broker.again(),
+                front: back.front,
                 ends: back.ends,
                 lanes: back.lanes,
             },
@@ -214,6 +213,50 @@ fn named_settles_at_last<B: Room>(alloc: Global, unnamed: UnnamedBroker) -> Opti
 // The same, of a broker that is opened for it.
 fn settles_at_last(alloc: Global) -> Option<bool> {
     named_settles_at_last::<Brand>(alloc, unnamed(alloc)?)
+}
+
+// Why a broker is not settled with a front that has one share alone, if it isn't.
+#[tactic(auto, using(threads_load::proofs::Shares::some_share))]
+fn fault_of_one_share<B: Room>(alloc: Global, stage: Stage<B>) -> Option<SettleAllFault>
+    requires { IsStage B.board stage }
+{
+    let Stage {
+        broker,
+        front,
+        ends,
+        lanes,
+    } = stage;
+    let mut whole = front;
+    let front = broker.again(&mut whole);
+    match settle_all(
+        alloc,
+        broker,
+        front,
+        &SettledParts::none(),
+        &[],
+        ends,
+        lanes,
+    ) {
+        Err(back) => Some(back.fault),
+        Ok(_) => None,
+    }
+}
+
+// The same, of a broker that gets its name.
+fn named_fault<B: Room>(alloc: Global, unnamed: UnnamedBroker) -> Option<SettleAllFault>
+    requires { (unnamed.board ≡ B.board) × (unnamed.core ≡ B.opened) }
+{
+    fault_of_one_share(alloc, stage::<B>(alloc, unnamed, 1, 1)?)
+}
+
+// The same, of a broker that is opened for it.
+fn fault(alloc: Global) -> Option<SettleAllFault> {
+    named_fault::<Brand>(alloc, unnamed(alloc)?)
+}
+
+#[test]
+fn a_missing_front_is_told(rt: HostRuntime) {
+    assert!(rt; fault(rt.alloc()) == Some(SettleAllFault::MissingFront));
 }
 
 #[test]

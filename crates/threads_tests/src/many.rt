@@ -5,7 +5,7 @@ ghost use Rattle.std.specs.Thread.{IsSend, IsSync};
 ghost use Rattle.core_model.specs.History.{Part};
 ghost use Rattle.client_threads.specs.HandedOver.{AreSettledWith};
 ghost use Rattle.client_threads.specs.Running.{IsEndOf, IsLaneOf};
-ghost use Rattle.threads_load.specs.Stages.{EachStaysOf, IsStage};
+ghost use Rattle.threads_load.specs.Stages.{EachStaysOf, IsStage, KeepShares};
 
 use crate::stages::{packet, settle, stage, unnamed};
 use crate::waking::{EACH, PRODUCERS, WakingGate, publish_turns};
@@ -67,6 +67,7 @@ fn publish_from_all<B: Room + Send + Sync, R: Threads + Wait + Sync>(
 }
 
 // Lanes run.
+#[tactic(auto, using(threads_load::proofs::Shares::ran_keep))]
 fn run_all<B: Room + Send + Sync, R: Threads + Wait + Sync>(
     rt: &R,
     alloc: Global,
@@ -77,6 +78,7 @@ fn run_all<B: Room + Send + Sync, R: Threads + Wait + Sync>(
     requires { All (λ lane. IsLaneOf B.board broker.now lane) lanes.items }
     ensures lanes { All (λ lane. IsLaneOf B.board broker.now lane) result.items }
     ensures settled { (parts : List Part) → AreSettledWith parts lanes.items → AreSettledWith parts result.items }
+    ensures shares { KeepShares lanes.items result.items }
 {
     run_lanes(rt, alloc, broker, lanes, gate)
 }
@@ -95,6 +97,7 @@ fn run_both<B: Room + Send + Sync, R: Threads + Wait + Sync>(
     ensures ends { All (λ end. IsEndOf broker.now end) result.0.items }
     ensures lanes { All (λ lane. IsLaneOf B.board broker.now lane) result.1.items }
     ensures settled { (parts : List Part) → AreSettledWith parts lanes.items → AreSettledWith parts result.1.items }
+    ensures shares { KeepShares lanes.items result.1.items }
 {
     thread::join(
         rt,
@@ -104,7 +107,7 @@ fn run_both<B: Room + Send + Sync, R: Threads + Wait + Sync>(
         { publish_from_all(rt, broker, gate, ends) },
         move || -> Vec<Lane>
             requires { IsSend B.row × IsSync B.row × IsSync R.row × All (λ lane. IsLaneOf B.board broker.now lane) lanes.items }
-            ensures { All (λ lane. IsLaneOf B.board broker.entry.now lane) result.items × ((parts : List Part) → AreSettledWith parts lanes.items → AreSettledWith parts result.items) }
+            ensures { All (λ lane. IsLaneOf B.board broker.entry.now lane) result.items × ((parts : List Part) → AreSettledWith parts lanes.items → AreSettledWith parts result.items) × KeepShares lanes.items result.items }
         { run_all(rt, alloc, broker, gate, lanes) },
     )
 }

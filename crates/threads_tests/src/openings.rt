@@ -1,6 +1,7 @@
 //! How many queues open, and which of them the load opens.
 
-ghost use Rattle.std.specs.Prelude.{◌≡◌};
+ghost use Rattle.std.specs.Prelude.{◌≡◌, ◌<◌, ◌≤◌, ◌+◌};
+ghost use Rattle.client_threads.specs.Boards.{all_shares};
 ghost use Rattle.client_threads.specs.Sections.{Follows};
 
 use crate::stages::read;
@@ -52,13 +53,15 @@ fn broker(alloc: Global) -> Option<UnnamedBroker> {
 }
 
 // Opens a queue of the most slots for the most producers.
+#[tactic(auto, using(threads_load::proofs::Shares::one_at_most))]
 fn open<B: Room>(
     alloc: Global,
     broker: &mut Broker<B>,
     front: &mut Front,
 ) -> Result<Opened, Refusal>
-    requires { front.old.board ≡ B.board }
-    ensures { front.new.board ≡ B.board }
+    requires { (front.old.board ≡ B.board) × (1 < front.old.share) }
+    ensures front { front.new.board ≡ B.board }
+    ensures share { front.old.share ≤ front.new.share + 1 }
 {
     broker.open_queue(
         alloc,
@@ -97,16 +100,17 @@ fn is_answered<B: Room>(
     answer: Result<QueueId, Refusal>,
     doorbells: u64,
 ) -> bool
-    requires { front.old.board ≡ B.board }
-    ensures { front.new.board ≡ B.board }
+    requires { (front.old.board ≡ B.board) × (1 < front.old.share) }
+    ensures front { front.new.board ≡ B.board }
+    ensures share { front.old.share ≤ front.new.share + 1 }
 {
     number_of(open(alloc, broker, front)) == answer && count_doorbells(broker) == doorbells
 }
 
 // Whether as many queues open as may be.
 fn opens_all<B: Room>(alloc: Global, broker: &mut Broker<B>, front: &mut Front) -> bool
-    requires { front.old.board ≡ B.board }
-    ensures { front.new.board ≡ B.board }
+    requires { (front.old.board ≡ B.board) × (front.old.share ≡ all_shares) }
+    ensures { (front.new.board ≡ B.board) × (1 < front.new.share) }
 {
     for before in 0..MOST_QUEUES {
         let number = before + 1;
@@ -190,7 +194,9 @@ fn named_opens_planned<B: Room>(
     requires { (unnamed.board ≡ B.board) × (unnamed.core ≡ B.opened) }
 {
     let (broker, front) = name_broker::<B>(unnamed).ok()?;
-    let stage = open_stage(alloc, broker, front, plan, 3).ok()?;
+    let Ok(stage) = open_stage(alloc, broker, front, plan, 3) else {
+        return None;
+    };
     let Stage { broker, front, .. } = stage;
     let mut broker = broker;
     let mut front = front;

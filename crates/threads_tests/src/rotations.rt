@@ -67,9 +67,8 @@ fn core_settled_with<B: Room>(alloc: Global, stage: Stage<B>, out: &HandedOut) -
         ends,
         lanes,
     } = stage;
-    let mut front = front;
     let left = out.left.as_slice();
-    match settle_all(alloc, broker, &mut front, &out.settled, left, ends, lanes) {
+    match settle_all(alloc, broker, front, &out.settled, left, ends, lanes) {
         Ok(Settlement::Settled { core, .. }) => Some(core),
         _ => None,
     }

@@ -1,6 +1,6 @@
 //! What happens while a thread is inside the core, and what one section leaves to the next.
 
-ghost use Rattle.std.specs.Prelude.{◌≡◌};
+ghost use Rattle.std.specs.Prelude.{◌≡◌, ◌<◌};
 ghost use Rattle.client_threads.specs.Running.{IsEndOf};
 ghost use Rattle.client_threads.specs.Sections.{Follows};
 
@@ -120,10 +120,7 @@ fn reads(alloc: Global, core: &mut AccessCore) -> bool
 }
 
 // Whether the last entry is that of a client's write.
-#[tactic(auto, using(client_threads::proofs::Sections::follows_self))]
-fn ends_with_write(core: &mut AccessCore) -> bool
-    ensures { Follows core.old.history core.new.history }
-{
+fn ends_with_write(core: &AccessCore) -> bool {
     match core.audit().last() {
         Some(entry) => match &entry.event {
             Event::Call(Call::HostWrite { .. }) => true,
@@ -148,7 +145,7 @@ fn sees_sections<B: Room + Send + Sync, R: Threads + Wait + Sync>(
     broker: &Broker<B>,
     front: Front,
 ) -> bool
-    requires { front.board ≡ B.board }
+    requires { (front.board ≡ B.board) × (1 < front.share) }
 {
     let mut front = front;
     let other = broker.again(&mut front);
@@ -156,7 +153,7 @@ fn sees_sections<B: Room + Send + Sync, R: Threads + Wait + Sync>(
         .with_core(rt, &mut front, |core| write(alloc, core))
         .is_ok();
     let (read, _) = thread::join(rt, || reads_after(rt, alloc, broker, other), || ());
-    written && read && broker.with_core(rt, &mut front, |core| ends_with_write(core))
+    written && read && broker.look_at_core(rt, |core| ends_with_write(core))
 }
 
 // Whether one does, of a broker that gets its name.

@@ -18,6 +18,7 @@ use std::sync::Wait;
 use std::sync::atomic::{AtomicU64, Ordering};
 use std::thread;
 use std::thread::Threads;
+use std::time::{Clock, Instant};
 use threads_load::{PlannedQueue, Stage, name_broker, open_broker, open_stage, plan_load};
 
 /// How often a thread looks for something before it gives up.
@@ -106,6 +107,31 @@ pub fn reaches(word: &AtomicU64, wanted: u64) -> bool {
         thread::yield_now();
     }
     false
+}
+
+/// Whether a word comes to a number within so many seconds.
+pub fn comes_to<C: Clock>(clock: &C, word: &AtomicU64, wanted: u64, seconds: u64) -> bool {
+    let Ok(start) = Instant::now(clock) else {
+        return false;
+    };
+    for _look in 0..u64::MAX {
+        if wanted <= word.load(Ordering::SeqCst) {
+            return true;
+        }
+        if !is_within(clock, start, seconds) {
+            return false;
+        }
+        thread::yield_now();
+    }
+    false
+}
+
+// Whether fewer seconds have passed since a time.
+fn is_within<C: Clock>(clock: &C, start: Instant, seconds: u64) -> bool {
+    match start.elapsed(clock) {
+        Ok(passed) => passed.as_secs() < seconds,
+        Err(_) => false,
+    }
 }
 
 /// Reserves an id and publishes a packet under it, whose slot has to be free. Answers whether it was published.
@@ -240,11 +266,10 @@ pub fn settle<B: Room>(alloc: Global, stage: Stage<B>, parts: &[Part]) -> Option
         ends,
         lanes,
     } = stage;
-    let mut front = front;
     match settle_all(
         alloc,
         broker,
-        &mut front,
+        front,
         &SettledParts::none(),
         parts,
         ends,

@@ -1,15 +1,15 @@
--- The 64 bytes of a packet, one pair of digits more, and the eight of a word; and a packet that is a line's only word.
-use Rattle.std.proofs.Common.{◌≡◌, ℕ, ◌+◌, ◌*◌, ◌<◌, ◌≤◌, Bool, true, cond, List, [], ◌∷◌, ◌++◌, length, get_or, set, take, drop, Option, Some, None, refl, sym, ap, ◌∙◌, arith, append_assoc, append-nil}
+-- The 64 bytes of a packet, and the eight of a word; and a packet that is a line's only word.
+use Rattle.std.proofs.Common.{◌≡◌, ℕ, ◌+◌, ◌*◌, ◌<◌, Bool, true, cond, List, [], ◌∷◌, ◌++◌, length, take, drop, Option, Some, None, refl, sym, ap, ◌∙◌, arith, append_assoc, append-nil}
 use Rattle.std.specs.Prelude.{option_map, option_and_then, unwrap_or, ◌==◌, ◌&&◌, ◌||◌, false, if◌then◌else◌}
 use Rattle.std.specs.Option.{is_some}
 use Rattle.std.proofs.lemmas.Bool.Decides.{nat_tests}
-use Rattle.std.proofs.lemmas.List.{take_more_set, take_all, drop_all}
+use Rattle.std.proofs.lemmas.List.{take_all, drop_all}
 use Rattle.words.specs.Lines.{Word, is_blank, one_word, words, words_from}
 use Rattle.words.specs.Bytes.{byte_of, bytes_word}
 use Rattle.words.specs.Numbers.{digit_of}
 use Rattle.words.specs.Packets.{eight_bytes, word_at, words_of, packet_bytes, packet_word}
-use Rattle.words.proofs.Pairing.{bytes_end, bytes_odd, bytes_step, bytes_bad, bytes_more}
-use Rattle.words.proofs.Splitting.{kept_begun, left_at, words_from_end, words_from_other}
+use Rattle.words.proofs.Pairing.{bytes_end, bytes_odd, bytes_step}
+use Rattle.words.proofs.Splitting.{kept_begun, words_from_end, words_from_other}
 
 -- bytes are half as many as their digits
 half_of : (byte : Option ℕ) (last : Option (List ℕ)) (digits : ℕ) (bytes : List ℕ) → ((further : List ℕ) → last ≡ Some further → digits ≡ 2 * length further) →
@@ -44,18 +44,7 @@ packet_of word (Some bytes) e other =
 pub packet_other : (word : Word) → (length word ≡ 128 → ⊥) → packet_bytes word ≡ None
 packet_other word other = packet_of word (bytes_word word) refl other
 
--- the digits of a pair, and those behind it
-pub pair_at : (word : Word) (place : ℕ) → 2 * place + 2 ≤ length word →
-    drop (2 * place) word ≡ get_or word (2 * place) 0 ∷ get_or word (2 * place + 1) 0 ∷ drop (2 * (place + 1)) word
-pair_at word place h =
-    let further : (2 * place + 1) + 1 ≡ 2 * (place + 1) = omega arith in
-    left_at word (2 * place) (omega (arith, h))
-    ∙ ap (λ rest. get_or word (2 * place) 0 ∷ rest) (left_at word (2 * place + 1) (omega (arith, h)) ∙ ap (λ i. get_or word (2 * place + 1) 0 ∷ drop i word) further)
-
-packet_bad : (word filled rest : List ℕ) (place : ℕ) → bytes_word word ≡ option_map (λ bytes. take place filled ++ bytes) (bytes_word rest) →
-    bytes_word rest ≡ None → packet_bytes word ≡ None
-packet_bad word filled rest place so none = rw (so, none) refl
-
+-- all digits
 pub packet_whole : (word filled : List ℕ) (place : ℕ) → place ≡ 64 → length word ≡ 128 →
     bytes_word word ≡ option_map (λ bytes. take place filled ++ bytes) (bytes_word (drop (2 * place) word)) → length filled ≡ 64 → packet_bytes word ≡ Some filled
 packet_whole word filled place done long so full =
@@ -63,22 +52,6 @@ packet_whole word filled place done long so full =
     let whole : take place filled ++ [] ≡ filled = append-nil (take place filled) ∙ take_all place filled (omega (arith, done, full)) in
     let fits : (length filled == 64) ≡ true = grind (arith, nat_tests, full) in
     rw (so, none, bytes_end) (rw whole (rw fits refl))
-
--- a pair of digits more
-pub packet_more : (word filled fuller : List ℕ) (place byte : ℕ) → bytes_word word ≡ option_map (λ bytes. take place filled ++ bytes) (bytes_word (drop (2 * place) word)) →
-    2 * place + 2 ≤ length word → byte_of (get_or word (2 * place) 0) (get_or word (2 * place + 1) 0) ≡ Some byte → fuller ≡ set filled place byte → place < length filled →
-    bytes_word word ≡ option_map (λ bytes. take (place + 1) fuller ++ bytes) (bytes_word (drop (2 * (place + 1)) word))
-packet_more word filled fuller place byte so h some is_set less =
-    bytes_more (bytes_word word) (take place filled) (take (place + 1) fuller) (drop (2 * place) word) (get_or word (2 * place) 0) (get_or word (2 * place + 1) 0) byte
-    (get_or word (2 * place + 1) 0 ∷ drop (2 * (place + 1)) word) (drop (2 * (place + 1)) word) so (pair_at word place h) refl some
-    (ap (take (place + 1)) is_set ∙ take_more_set filled place byte less)
-
-pub packet_pair : (word filled : List ℕ) (place : ℕ) → bytes_word word ≡ option_map (λ bytes. take place filled ++ bytes) (bytes_word (drop (2 * place) word)) →
-    2 * place + 2 ≤ length word → byte_of (get_or word (2 * place) 0) (get_or word (2 * place + 1) 0) ≡ None → packet_bytes word ≡ None
-packet_pair word filled place so h none =
-    packet_bad word filled (drop (2 * place) word) place so
-    (bytes_bad (drop (2 * place) word) (get_or word (2 * place) 0) (get_or word (2 * place + 1) 0) (get_or word (2 * place + 1) 0 ∷ drop (2 * (place + 1)) word)
-    (drop (2 * (place + 1)) word) (pair_at word place h) refl none)
 
 -- ---- digits alone are one word
 

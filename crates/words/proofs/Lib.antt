@@ -7,4 +7,5 @@ pub mod Filling
 pub mod Writing
 pub mod Summing
 pub mod Leading
+pub mod Valuing
 pub mod Checking

@@ -6,16 +6,16 @@ use Rattle.words.specs.Bytes.{byte_of}
 use Rattle.words.specs.Numbers.{digit_of}
 
 -- what an entry of the table tells
-abbrev told : ℕ → Option ℕ
+abbrev pub told : ℕ → Option ℕ
 told value = if nat_lt value 16 then Some value else None
 
-abbrev same : Option ℕ → Option ℕ → Bool
+abbrev pub same : Option ℕ → Option ℕ → Bool
 same None None = true
 same (Some a) (Some b) = a == b
 same None (Some b) = false
 same (Some a) None = false
 
-same_is : (a b : Option ℕ) → same a b ≡ true → a ≡ b
+pub same_is : (a b : Option ℕ) → same a b ≡ true → a ≡ b
 same_is None None e = refl
 same_is (Some a) (Some b) e = let is : a ≡ b = grind (arith, nat_tests, e) in ap Some is
 same_is None (Some b) e = cc
@@ -30,7 +30,7 @@ abbrev pub is_table : ℕ → List ℕ → Bool
 is_table byte [] = true
 is_table byte (value ∷ values) = (same (told value) (digit_of byte) && is_value value) && is_table (byte + 1) values
 
-both : (a b : Bool) → (a && b) ≡ true → (a ≡ true) × (b ≡ true)
+pub both : (a b : Bool) → (a && b) ≡ true → (a ≡ true) × (b ≡ true)
 both true true e = (refl, refl)
 both true false e = cc
 both false b e = cc

@@ -5,3 +5,4 @@ pub mod Packets
 pub mod Items
 pub mod Names
 pub mod Errors
+pub mod inner

@@ -9,6 +9,7 @@ mod digits;
 mod errors;
 mod hexadecimal;
 mod items;
+mod lanes;
 mod laws;
 mod lines;
 mod names;

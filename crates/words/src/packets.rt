@@ -5,8 +5,8 @@ ghost use Rattle.std.specs.Option.{is_some};
 ghost use Rattle.words.specs.Lines.{one_word, words};
 ghost use Rattle.words.specs.Packets.{word_at, eight_bytes, words_of, packet_bytes, packet_word, text_of_word};
 
-use crate::digits::digit_value;
 use crate::hexadecimal::{are_bytes, bytes, write_bytes};
+use crate::lanes::{lay_sixteen, sixteen_bytes};
 use crate::lines::{one_word, skip_blanks};
 use byteorder::{ByteOrder, LittleEndian};
 use std::alloc::{AllocError, Global};
@@ -56,7 +56,7 @@ pub fn is_packet_word(word: &[u8]) -> bool
     are_bytes(word) & (word.len() == 16)
 }
 
-// A packet's bytes: just 64. Whether all digits are digits is looked at once, behind them.
+// A packet's bytes: just 64. Thirty-two digits are read at a time.
 fn packet_bytes(word: &[u8]) -> Option<[u8; 64]>
     ensures { result ≡ packet_bytes word.now }
 {
@@ -64,13 +64,13 @@ fn packet_bytes(word: &[u8]) -> Option<[u8; 64]>
         return None;
     }
     let mut bytes = [0; 64];
-    let mut all: u16 = 0;
-    for place in 0..64 {
-        let both = digit_value(word[2 * place]) * 16 + digit_value(word[2 * place + 1]);
-        all |= both;
-        bytes[place] = (both % 256) as u8;
+    for part in 0..4 {
+        let Some(read) = sixteen_bytes(&word[32 * part..32 * part + 32]) else {
+            return None;
+        };
+        lay_sixteen(&mut bytes, 16 * part, read);
     }
-    if all < 256 { Some(bytes) } else { None }
+    Some(bytes)
 }
 
 /// A packet: its eight words, of 64 bytes.

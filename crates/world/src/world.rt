@@ -130,6 +130,7 @@ impl World {
     }
 
     /// Serves a request: one step, or a query. The headline holds after it (`headline`).
+    #[inline(always)]
     pub fn serve(&mut self, alloc: Global, request: Request) -> Reply
         ensures served { IsServed self.old request result self.new }
         ensures joined { IsJoined self.new }

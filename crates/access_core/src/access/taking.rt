@@ -279,7 +279,10 @@ impl AccessCore {
         ensures places { self.new.places ≡ self.old.places }
     {
         let rights = self.empty_list(alloc);
-        self.launch_with(alloc, queue, packet, bytes, launching, rights)
+        match self.launch_with(alloc, queue, packet, bytes, launching, rights) {
+            Ok(()) => Ok(Taken::Launched),
+            Err(why) => Err(why),
+        }
     }
 
     // Launches it with its rights in this list, which is empty yet.
@@ -291,10 +294,10 @@ impl AccessCore {
         bytes: &[u8; 64],
         launching: &Launching,
         mut rights: Sequence<(Object, Rights)>,
-    ) -> Result<Taken, Refusal>
+    ) -> Result<(), Refusal>
         requires decided { Decides self.old.history queue packet bytes.now (Decision.Launch launching.now) }
         requires empty { rights ≡ [] }
-        ensures met { MeetsOrLacks (Event.Take queue packet bytes.now) self.old.history self.new.history (map_ok Outcome.Taken result) }
+        ensures met { MeetsOrLacks (Event.Take queue packet bytes.now) self.old.history self.new.history (map_ok (λ done. Outcome.Taken Taken.Launched) result) }
         ensures places { self.new.places ≡ self.old.places }
     {
         let block = self.argument_block(alloc, launching.asked.packet())?;
@@ -320,6 +323,6 @@ impl AccessCore {
             Outcome::Taken(Taken::Launched),
             Effects::none(),
         );
-        Ok(Taken::Launched)
+        Ok(())
     }
 }

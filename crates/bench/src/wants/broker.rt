@@ -1,6 +1,6 @@
 //! Queues of a broker open, a lane serves, and the broker is settled.
 
-ghost use Rattle.std.specs.Prelude.{◌≡◌, IfErr, IfOk};
+ghost use Rattle.std.specs.Prelude.{◌≡◌, ◌<◌, ◌≤◌, ◌+◌, IfErr, IfOk};
 ghost use Rattle.threads_load.specs.Stages.{IsStage};
 
 use crate::fault::Fault;
@@ -79,13 +79,15 @@ fn open(alloc: Global) -> Result<UnnamedBroker, Fault> {
 }
 
 // Opens a queue of two slots for one producer.
+#[tactic(auto, using(threads_load::proofs::Shares::one_at_most))]
 fn open_queue<B: Room>(
     alloc: Global,
     broker: &mut Broker<B>,
     front: &mut Front,
 ) -> Result<Opened, Refusal>
-    requires { front.old.board ≡ B.board }
-    ensures { front.new.board ≡ B.board }
+    requires { (front.old.board ≡ B.board) × (1 < front.old.share) }
+    ensures front { front.new.board ≡ B.board }
+    ensures share { front.old.share ≤ front.new.share + 1 }
 {
     broker.open_queue(alloc, front, WANDA, PRESS, 2, 1)
 }
@@ -104,8 +106,9 @@ fn open_queue_again<B: Room>(
     broker: &mut Broker<B>,
     front: &mut Front,
 ) -> Result<(), Fault>
-    requires { front.old.board ≡ B.board }
-    ensures { front.new.board ≡ B.board }
+    requires { (front.old.board ≡ B.board) × (1 < front.old.share) }
+    ensures front { front.new.board ≡ B.board }
+    ensures share { front.old.share ≤ front.new.share + 1 }
 {
     match number_of(open_queue(rt.alloc(), broker, front)) {
         Ok(queue) => tell_one(rt, "queue", queue.0),
@@ -119,8 +122,9 @@ fn open_one<B: Room>(
     broker: &mut Broker<B>,
     front: &mut Front,
 ) -> Result<(), Fault>
-    requires { front.old.board ≡ B.board }
-    ensures { front.new.board ≡ B.board }
+    requires { (front.old.board ≡ B.board) × (2 < front.old.share) }
+    ensures front { front.new.board ≡ B.board }
+    ensures share { front.old.share ≤ front.new.share + 2 }
 {
     match number_of(open_queue(rt.alloc(), broker, front)) {
         Ok(queue) => tell_one(rt, "queue", queue.0),
@@ -177,11 +181,10 @@ fn settle_stage<B: Room>(
         ends,
         lanes,
     } = stage;
-    let mut front = front;
     match settle_all(
         alloc,
         broker,
-        &mut front,
+        front,
         &SettledParts::none(),
         &[],
         ends,
@@ -191,8 +194,8 @@ fn settle_stage<B: Room>(
         Err(back) => Err((
             back.fault,
             Stage {
-                broker: back.broker,
-                front,
+                broker: back.broker.again(),
+                front: back.front,
                 ends: back.ends,
                 lanes: back.lanes,
             },

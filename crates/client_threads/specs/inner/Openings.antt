@@ -1,5 +1,5 @@
 -- What the steps of an opening say.
-use Rattle.std.specs.Prelude.{◌≡◌, ◌≤◌, ℕ, true, List, [], ◌∷◌, ◌++◌, map}
+use Rattle.std.specs.Prelude.{◌≡◌, ◌≤◌, ℕ, true, false, List, [], ◌∷◌, ◌++◌, map}
 use Rattle.aql_packet.specs.declared.ids.QueueId.{QueueId}
 use Rattle.core_model.specs.declared.event.Event.{Event}
 use Rattle.core_model.specs.declared.outcome.Outcome.TheVariants as outcome
@@ -9,11 +9,10 @@ use Rattle.core_model.specs.Limits.{most_queues}
 use Rattle.core_model.specs.Owed.{enters}
 use Rattle.ring_core.specs.Machine.{is_producer_count}
 use Rattle.ring.specs.Dealt.{dealt, new_processor_pass}
+use Rattle.ring.specs.Passes.{ProcessorSeen}
 use Rattle.client_threads.specs.declared.client_end.ClientEnd.{ClientEnd}
 use Rattle.client_threads.specs.declared.opening.Beside.{Beside}
-use Rattle.client_threads.specs.Boards.{PassSeen}
 use Rattle.client_threads.specs.Desks.{seen}
-use Rattle.client_threads.specs.Lanes.{LaneSeen}
 use Rattle.client_threads.specs.Opening.{as_end, next_queue}
 use Rattle.client_threads.specs.Rings.{QueueRing}
 
@@ -23,18 +22,24 @@ pub record IsOpenable (history : History) (event : Event) (queue : QueueId) : Ty
   pub next : queue.0 ≡ next_queue history
   pub few : queue.0 ≤ most_queues
 
--- this was made for a queue: a ring of this size, its ends and its lane
-pub record IsBeside (queue : QueueId) (size producers : ℕ) (front : PassSeen) (made : Beside) : Type 0 where
+-- this was made for a queue: a ring of this size, its ends, and the pass of its lane
+pub record IsBeside (queue : QueueId) (size producers : ℕ) (made : Beside) : Type 0 where
   pub queue_is : made.desk.queue ≡ queue
   pub size_is : (seen made.desk).ring.size ≡ size
   pub producers_is : (seen made.desk).ring.producers ≡ producers
   pub few : is_producer_count producers ≡ true
   pub ends_are : made.ends.items ≡ map (as_end queue) (dealt (seen made.desk).ring.table producers)
-  pub lane_is : made.lane ≡ record { queue = queue; pass = new_processor_pass (seen made.desk).ring.table; served = []; kept = []; pending = []; front = front }
+  pub pass_is : made.pass ≡ new_processor_pass (seen made.desk).ring.table
 
 -- it is the broker's from now on
-pub record HasEntered (made : Beside) (old new : List QueueRing) (queue : QueueId) (ends : List ClientEnd) (lane : LaneSeen) : Type 0 where
+pub record HasEntered (made : Beside) (old new : List QueueRing) (queue : QueueId) (ends : List ClientEnd) (pass : ProcessorSeen) : Type 0 where
   pub queue_is : queue ≡ made.desk.queue
   pub ends_are : ends ≡ made.ends.items
-  pub lane_is : lane ≡ made.lane
+  pub pass_is : pass ≡ made.pass
   pub rings_are : new ≡ old ++ seen made.desk ∷ []
+
+-- a pass that retired nothing, to one of the queues that a broker opens in its life
+pub record IsUnused (queue : QueueId) (pass : ProcessorSeen) : Type 0 where
+  pub few : queue.0 ≤ most_queues
+  pub none : pass.part.retired ≡ []
+  pub resting : pass.part.raising ≡ false

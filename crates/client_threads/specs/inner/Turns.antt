@@ -1,5 +1,5 @@
 -- What a lane's turn does to it, and to the core.
-use Rattle.std.specs.Prelude.{◌≡◌, ◌⊎◌, ◌++◌, ◌∷◌, [], List, length, Option, Some, None, Result, Ok, Err, ⊤}
+use Rattle.std.specs.Prelude.{◌≡◌, ◌≢◌, ◌⊎◌, ◌++◌, ◌∷◌, [], List, length, Option, Some, None, Result, Ok, Err, ⊤}
 use Rattle.aql_packet.specs.declared.ids.PacketId.{PacketId}
 use Rattle.aql_packet.specs.declared.ids.QueueId.{QueueId}
 use Rattle.atomic_table.specs.Seated.{TableId}
@@ -23,8 +23,13 @@ use Rattle.core_model.specs.declared.refusal.Refusal.{Refusal}
 use Rattle.core_model.specs.declared.refusal.Refusal.TheVariants as refusal
 use Rattle.client_threads.specs.declared.serving.ServeAnswer.{ServeAnswer}
 use Rattle.client_threads.specs.declared.serving.ServeAnswer.TheVariants.{Empty, Launched, Denied, Waiting, Refused}
+use Rattle.access_core.specs.Cores.{Core}
+use Rattle.client_threads.specs.declared.lanes.LaneAnswer.{LaneAnswer}
+use Rattle.client_threads.specs.Advancing.{AdvancesTo}
 use Rattle.client_threads.specs.Lanes.{LaneSeen}
-use Rattle.client_threads.specs.Sections.{Stand, seen_entries}
+use Rattle.client_threads.specs.Rings.{QueueRing}
+use Rattle.client_threads.specs.Running.{AreTurns, GoesOn, IsLaneOf}
+use Rattle.client_threads.specs.Sections.{IsSection, Stand, seen_entries}
 use Rattle.client_threads.specs.Serving.{served_of, take_of}
 use Rattle.client_threads.specs.Takes.{takes}
 
@@ -65,6 +70,39 @@ HandsTo ring shown old before (Launched id) new after = (shown.id ≡ id) × IsH
 HandsTo ring shown old before (Denied error) new after = IsHanded ring shown old before (taken.Denied error) old.pending new after
 HandsTo ring shown old before (Waiting id cause) new after = (shown.id ≡ id) × IsKeptBack shown old before (Ok (taken.Waiting cause)) new after
 HandsTo ring shown old before (Refused id why) new after = (shown.id ≡ id) × IsKeptBack shown old before (Err why) new after
+
+-- what was found was handed over, if it is a packet; else all stays
+abbrev pub FoundTo : RingSeen → Peeked → LaneSeen → History → ServeAnswer → LaneSeen → History → Type 0
+FoundTo ring peeked.Empty old before answer new after = (answer ≡ Empty) × (new ≡ old) × (after ≡ before)
+FoundTo ring (peeked.Shown shown) old before answer new after = HandsTo ring shown old before answer new after
+
+-- there is something to do: a packet was found, or one is pending
+abbrev pub HasWork : Peeked → LaneSeen → Type 0
+HasWork peeked.Empty lane = lane.pending ≢ []
+HasWork (peeked.Shown shown) lane = ⊤
+
+-- a lane handed over what its pass had found, and then advanced its first pending packet
+pub record DoesFound (ring : RingSeen) (found : Peeked) (old : LaneSeen) (before : History) (answer : LaneAnswer) (new : LaneSeen) (after : History) : Type 0 where
+  pub mid : LaneSeen
+  pub between : History
+  pub serves : FoundTo ring found old before answer.served mid between
+  pub advances : AdvancesTo mid between answer.advanced new after
+
+-- it did so in a section of its own
+pub record IsFoundTurn (opened : Core) (ring : RingSeen) (found : Peeked) (old : LaneSeen) (answer : LaneAnswer) (new : LaneSeen) : Type 0 where
+  pub left : LaneSeen
+  pub section : IsSection opened old.front new.front (λ before after. DoesFound ring found old before.history answer left after.history)
+  pub new_is : new ≡ record left { front = new.front }
+
+-- a lane went on, and is of the broker still
+pub record StaysOn (board : TableId) (rings : List QueueRing) (old new : LaneSeen) : Type 0 where
+  pub on : GoesOn old new
+  pub lane : IsLaneOf board rings new
+
+-- a lane made turns
+pub record HasTurned (opened : Core) (ring : RingSeen) (old new : LaneSeen) : Type 0 where
+  pub answers : List LaneAnswer
+  pub turns : AreTurns opened ring old answers new
 
 -- what the next group of a packet came to, if it ran or faulted: the packet couldn't be finished before; else all stays
 abbrev pub RunsTo : QueueId → PacketId → History → Option Worked → History → Type 0

@@ -6,6 +6,7 @@ use Rattle.executor.specs.declared.flat.Gone.{Gone}
 use Rattle.executor.specs.declared.flat.Gone.TheVariants as gone
 use Rattle.executor.specs.declared.registers.Registers.{Registers}
 use Rattle.kernel_check.specs.declared.step.Step.{Step}
+use Rattle.queue_error.specs.declared.error.SegmentAddress.TheVariants as segment
 
 -- what a step does of which a flat one is told; without a step nothing is told
 abbrev pub Makes : Option Step → Surroundings → Registers → ℕ → Contents → Act → Type 0
@@ -20,6 +21,7 @@ Goes s a before next m gone.Onward after now = Makes s a before next m (goes_on 
 Goes s a before next m (gone.Next then) after now = Makes s a before next m (goes_on (record { registers = after; next = then }) now)
 Goes s a before next m gone.Arrived after now = Makes s a before next m (arrives (record { registers = after; next = next + 1 }) now)
 Goes s a before next m gone.Ended after now = (after ≡ before) × Makes s a before next m (ends now)
-Goes s a before next m (gone.Broke rule address) after now = Makes s a before next m (broke rule (Some address))
+Goes s a before next m (gone.BrokeGlobal rule x) after now = Makes s a before next m (broke rule (Some (segment.Global x)))
+Goes s a before next m (gone.BrokeGroup rule x) after now = Makes s a before next m (broke rule (Some (segment.Group x)))
 Goes s a before next m gone.OutOfMemory after now = Unit {0}
 Goes s a before next m gone.Other after now = (after ≡ before) × (now ≡ m)

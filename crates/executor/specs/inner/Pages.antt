@@ -78,10 +78,26 @@ Rises floor limit (chunk ∷ chunks) = (floor ≤ chunk.number) × Rises (chunk.
 abbrev pub StandsAt : List ChunkSeen → ℕ → ℕ → Type 0
 StandsAt chunks place number = (place < length chunks) × (number_at chunks place ≡ number)
 
+-- where the page of a number stands in the chunk at a place
+abbrev pub page_place : List ChunkSeen → ℕ → ℕ → ℕ
+page_place [] place index = 0
+page_place (chunk ∷ chunks) zero index = get_or chunk.places index 0
+page_place (chunk ∷ chunks) (suc place) index = page_place chunks place index
+
+-- that the chunk of an address stands at a place, and its page, which was made, at a place in that
+pub record IsPage (chunks : List ChunkSeen) (address chunk page : ℕ) : Type 0 where
+  pub stands : StandsAt chunks chunk (address / 2 ^ 13)
+  pub is : page_place chunks chunk (address % 2 ^ 13 / 64) ≡ page
+  pub own : 0 < page
+
 -- where the chunk of a number stands, if it is there
 abbrev pub PlaceOf : List ChunkSeen → ℕ → Option ℕ → Type 0
 PlaceOf chunks number None = (place : ℕ) → place < length chunks → number_at chunks place ≢ number
 PlaceOf chunks number (Some place) = StandsAt chunks place number
+
+-- that there is no chunk of a number, nor of the next
+abbrev pub IsApart : List ChunkSeen → ℕ → Type 0
+IsApart chunks number = PlaceOf chunks number None × PlaceOf chunks (number + 1) None
 
 -- that all chunks before a place have lesser numbers, and none from it on
 pub record Parts (chunks : List ChunkSeen) (number place : ℕ) : Type 0 where

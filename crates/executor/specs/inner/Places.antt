@@ -1,28 +1,43 @@
--- How the code finds the region that an address lies in: a table from numbers to places (own).
-use Rattle.std.specs.Prelude.{◌≡◌, ℕ, zero, suc, ◌+◌, ◌/◌, ◌%◌, ◌^◌, ◌<◌, ◌≤◌, nat_le, nat_lt, if◌then◌else◌, List, length, slice_get, slice_index_or, Option, Some, None, All, find}
-use Rattle.aql_packet.specs.declared.memory.TheConstants.{MOST_REGIONS}
+-- How the code finds the region that an address lies in: an entry for each number (own).
+use Rattle.std.specs.Prelude.{◌≡◌, ℕ, zero, suc, ◌+◌, ◌<◌, ◌≤◌, ◌==◌, ◌&&◌, ◌⊎◌, nat_le, nat_lt, if◌then◌else◌, Bool, List, [], ◌∷◌, length, Option, Some, None, All}
+use Rattle.executor.specs.declared.entry.Entry.{Entry}
 use Rattle.executor.specs.declared.held.HeldRegion.{HeldRegion}
-use Rattle.executor.specs.Views.{has_byte_at}
+use Rattle.policy.specs.Rights.{has}
+use Rattle.policy.specs.declared.rights.Right.{Right}
+use Rattle.policy.specs.declared.rights.Right.TheVariants.{Read, Write}
 
--- the region at a place, where places count from 1
-abbrev pub at_place : List HeldRegion → ℕ → Option HeldRegion
-at_place regions zero = None
-at_place regions (suc place) = slice_get regions place
+-- the regions that some entries have
+abbrev pub held : List Entry → List HeldRegion
+held [] = []
+held (e ∷ es) = if e.region.handle.0 == 0 then held es else e.region ∷ held es
+
+-- how many bytes of a region may be accessed with a right
+abbrev pub reach : HeldRegion → Right → ℕ
+reach region right = if has region.rights right then length region.bytes.now else 0
+
+-- the entry of a number: it has the region of that number, or none
+pub record IsEntry (number : ℕ) (e : Entry) : Type 0 where
+  pub own : (e.region.handle.0 ≡ 0) ⊎ (e.region.handle.0 ≡ number)
+  pub none : e.region.handle.0 ≡ 0 → length e.region.bytes.now ≡ 0
+  pub readable : e.readable ≡ reach e.region Read
+  pub writable : e.writable ≡ reach e.region Write
+
+-- the entries from a number on
+abbrev pub Numbered : ℕ → List Entry → Type 0
+Numbered n [] = Unit {0}
+Numbered n (e ∷ es) = IsEntry n e × Numbered (suc n) es
+
+-- the entries of all numbers up to the last region's
+pub record IsView (entries : List Entry) : Type 0 where
+  pub numbered : Numbered 0 entries
+  pub few : (number : ℕ) → All (λ region. region.handle.0 < number) (held entries) → length entries ≤ number
 
 -- a region, if it has a byte at an offset
 abbrev pub if_long : ℕ → Option HeldRegion → Option HeldRegion
 if_long offset None = None
 if_long offset (Some region) = if nat_lt offset (length region.bytes.now) then Some region else None
 
--- a region, if n bytes from an offset on lie in it
-abbrev pub if_whole : ℕ → ℕ → Option HeldRegion → Option HeldRegion
-if_whole offset n None = None
-if_whole offset n (Some region) = if nat_le (offset + n) (length region.bytes.now) then Some region else None
-
--- a table from the numbers up to `MOST_REGIONS` to places, by which that region is found that a walk over all finds; there are fewer
--- regions than a number that is above all of theirs
-pub record Finds (places : List ℕ) (regions : List HeldRegion) : Type 0 where
-  pub size : length places ≡ MOST_REGIONS + 1
-  pub exact : (address : ℕ) → if_long (address % 2 ^ 32) (at_place regions (slice_index_or places (address / 2 ^ 32) 0)) ≡ find (λ region. has_byte_at region address) regions
-  pub within : (number : ℕ) → slice_index_or places number 0 ≤ length regions
-  pub few : (number : ℕ) → 1 ≤ number → All (λ region. region.handle.0 < number) regions → length regions < number
+-- a region, if n bytes from an offset on lie in it, and may be accessed with a right
+abbrev pub if_reached : Right → ℕ → ℕ → Option HeldRegion → Option HeldRegion
+if_reached right offset n None = None
+if_reached right offset n (Some region) = if has region.rights right && nat_le (offset + n) (length region.bytes.now) then Some region else None

@@ -1,5 +1,5 @@
 -- Work-items that run from stop to stop, as a group sees them (own).
-use Rattle.std.specs.Prelude.{◌≡◌, ℕ, zero, suc, ◌≤◌, Bool, true, false, if◌then◌else◌, List, [], ◌∷◌, ◌++◌}
+use Rattle.std.specs.Prelude.{◌≡◌, ℕ, zero, suc, ◌-◌, Bool, true, false, if◌then◌else◌, List, [], ◌∷◌, ◌++◌}
 use Rattle.executor.specs.Group.{Standing, ready, waiting, ended, released}
 use Rattle.executor.specs.declared.item.Item.{Item}
 use Rattle.executor.specs.declared.item.Stop.{Stop}
@@ -12,8 +12,12 @@ abbrev pub standing_at : Stop → Item → ℕ → Standing
 standing_at stop.Barrier i executed = waiting i executed
 standing_at stop.End i executed = ended
 
+-- how many instructions an item executed, by how many it may still execute
+abbrev pub executed_by : StoppedItem → ℕ
+executed_by s = BUDGET - s.left
+
 abbrev pub standing : StoppedItem → Standing
-standing s = standing_at s.stop s.item s.executed
+standing s = standing_at s.stop s.item (executed_by s)
 
 abbrev pub is_barrier : Stop → Bool
 is_barrier stop.Barrier = true
@@ -45,10 +49,9 @@ stopped_again n [] = []
 stopped_again zero (s ∷ rest) = released (standing s) ∷ stopped_again zero rest
 stopped_again (suc n) (s ∷ rest) = standing s ∷ stopped_again n rest
 
--- an item that waits and may execute another instruction or none
+-- an item that waits
 pub record CanGoOn (s : StoppedItem) : Type 0 where
   pub at_barrier : waits s ≡ true
-  pub within : s.executed ≤ BUDGET
 
 -- that all items but so many first ones can go on
 abbrev pub CanGoOnFrom : ℕ → List StoppedItem → Type 0

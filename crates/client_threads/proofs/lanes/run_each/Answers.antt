@@ -11,5 +11,5 @@ pub returns : goal.returns
 returns g c =
     λ place d lt. let k = (c.for_each_mut.ensures place d lt).1 in
     let call = k.call in
-    let on : KeepsOn g.B.Room.board c.args.broker.now k.argument.now k.after_call.now = search rules in
-    subst (λ l. KeepsOn g.B.Room.board c.args.broker.now (slice_index_or c.args.lanes.now place d) l) k.left (subst (λ l. KeepsOn g.B.Room.board c.args.broker.now l k.after_call.now) k.argument_is on)
+    let on : KeepsOn g.B.Room.opened g.B.Room.board c.args.broker.now k.argument.now k.after_call.now = search rules in
+    subst (λ l. KeepsOn g.B.Room.opened g.B.Room.board c.args.broker.now (slice_index_or c.args.lanes.now place d) l) k.left (subst (λ l. KeepsOn g.B.Room.opened g.B.Room.board c.args.broker.now l k.after_call.now) k.argument_is on)

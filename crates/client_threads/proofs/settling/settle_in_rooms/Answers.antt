@@ -14,7 +14,7 @@ returns-clause-settled c =
       c.requires.led,
       subst (λ (ls : List LaneSeen). AllAgree (all_entries (c.args.settled.now ++ c.args.parts.now) c.args.core) ls) c.as_slice.ensures.value
           (subst (λ (es : List Entry). AllAgree es c.as_slice.result.now) all c.in_default.ensures.same),
-      c.settle_rings-rings.ensures,
+      c.settle_rings-rings.ensures.settled,
     )
 
 pub returns-in-Some-clause-settled : goal.returns-in-Some-clause-settled

@@ -2,8 +2,8 @@ use Rattle.client_threads.specs.inner.Kept.{lane_of}
 use Rattle.client_threads.proofs.Settled.{are_served}
 use Rattle.client_threads.proofs.settling.settle_ring.Goals as goal
 
-pub returns : goal.returns
-returns c =
+pub returns-clause-settled : goal.returns-clause-settled
+returns-clause-settled c =
     rw (← c.lane.view_is)
     (record {
       settled = c.settle_in.ensures;

@@ -7,10 +7,12 @@ use Rattle.executor.specs.declared.item.Item.{Item}
 use Rattle.executor.specs.inner.Few.{RestIsZero}
 use Rattle.executor.specs.inner.Held.{contents, surroundings}
 use Rattle.executor.specs.inner.ItemRuns.{ItemFails}
+use Rattle.executor.specs.inner.Stops.{executed_by}
+use Rattle.queue_error.specs.declared.error.SegmentAddress.TheVariants as segment
 use Rattle.queue_error.specs.declared.rule.Rule.TheVariants.{A5}
 use Rattle.executor.proofs.FlatLemmas.{flat_turn}
 use Rattle.executor.proofs.GroupLemmas.{spent, stops}
-use Rattle.executor.proofs.ItemLemmas.{reached_more, reached_arrives, reached_ends, reached_breaks, turn_alike}
+use Rattle.executor.proofs.ItemLemmas.{reached_first, reached_more, reached_arrives, reached_ends, reached_breaks, turn_alike}
 use Rattle.executor.proofs.FewLemmas.{cleared_rest, kept_on, kept_there}
 use Rattle.executor.proofs.Maps.{get_read}
 use Rattle.executor.proofs.PlaceLemmas.{in_place}
@@ -25,11 +27,21 @@ returns-in_default-clause-comes c =
     let next = c.turns.next in
     let left = c.turns.left in
     let m = contents c.turns.memory in
-    let first = ready c.args.stopped.now.item c.args.stopped.now.executed in
+    let first = ready c.args.stopped.now.item (executed_by c.args.stopped.now) in
     let before = contents c.args.memory.now in
     let far : length c.flat_steps-flat_steps.result.now ≤ next = search rules in
     let past : length p.steps ≤ next = omega (arith, far, c.flat_steps-flat_steps.ensures.count) in
     reached_ends a p n first before (record { registers = r; next = next }) left m c.turns.invariant.1.0 m (stops (context_of_item a n) p.steps (record { registers = r; next = next }) (65536 - left) m past)
+
+pub turns-init : goal.turns-init
+turns-init c = (
+  omega (arith, c.min-left.ensures),
+  (
+    reached_first (surroundings c.args.context.now) c.args.program.now c.args.number c.args.stopped.now.item c.args.stopped.now.left c.min-left.result
+        (contents c.args.memory.now) c.min-left.ensures,
+    λ few rest. rest,
+  ),
+)
 
 pub turns-preserved-in-Next : goal.turns-preserved-in-Next
 turns-preserved-in-Next c =
@@ -40,7 +52,7 @@ turns-preserved-in-Next c =
     let next = c.turns.next in
     let left = c.turns.left in
     let m = contents c.turns.memory in
-    let first = ready c.args.stopped.now.item c.args.stopped.now.executed in
+    let first = ready c.args.stopped.now.item (executed_by c.args.stopped.now) in
     let before = contents c.args.memory.now in
     let few : left ≤ 65536 = c.turns.invariant.0 in
     let some : 0 < left = omega arith in
@@ -58,8 +70,8 @@ turns-preserved-in-Next c =
       ),
     )
 
-pub returns-in-Broke-clause-comes : goal.returns-in-Broke-clause-comes
-returns-in-Broke-clause-comes c =
+pub returns-in-BrokeGlobal-clause-comes : goal.returns-in-BrokeGlobal-clause-comes
+returns-in-BrokeGlobal-clause-comes c =
     let a = surroundings c.args.context.now in
     let p = c.args.program.now in
     let n = c.args.number in
@@ -67,18 +79,40 @@ returns-in-Broke-clause-comes c =
     let next = c.turns.next in
     let left = c.turns.left in
     let m = contents c.turns.memory in
-    let first = ready c.args.stopped.now.item c.args.stopped.now.executed in
+    let first = ready c.args.stopped.now.item (executed_by c.args.stopped.now) in
     let before = contents c.args.memory.now in
     let few : left ≤ 65536 = c.turns.invariant.0 in
     let some : 0 < left = omega arith in
     let spent_less : 65536 - left < 65536 = omega (arith, few, some) in
     let flats = c.flat_steps-flat_steps.result.now in
     let found : slice_get flats next ≡ Some c.in-Some.flat.now = get_read flats next c.in-Some.flat.now c.in-Some.ensures.lookup.1 c.in-Some.ensures.lookup.3.0 in
-    let is : turn (context_of_item a n) p.steps (record { registers = r; next = next }) (65536 - left) m ≡ broke c.in-Broke.rule (Some c.in-Broke.address) =
-    flat_turn a (context_of_item a n) flats p.steps r next m c.in-Some.flat.now (broke c.in-Broke.rule (Some c.in-Broke.address))
-    (in_place a n c.requires.item) c.flat_steps-flat_steps.ensures.value found c.in-Broke.ensures (65536 - left) spent_less in
-    subst (λ (f : RunFault). ItemFails a p n first before f) (sym c.tell.ensures)
-    (reached_breaks a p n first before (record { registers = r; next = next }) left m c.turns.invariant.1.0 c.in-Broke.rule (Some c.in-Broke.address) is)
+    let is : turn (context_of_item a n) p.steps (record { registers = r; next = next }) (65536 - left) m ≡ broke c.in-BrokeGlobal.rule (Some (segment.Global c.in-BrokeGlobal.address)) =
+    flat_turn a (context_of_item a n) flats p.steps r next m c.in-Some.flat.now (broke c.in-BrokeGlobal.rule (Some (segment.Global c.in-BrokeGlobal.address)))
+    (in_place a n c.requires.item) c.flat_steps-flat_steps.ensures.value found c.in-BrokeGlobal.ensures (65536 - left) spent_less in
+    subst (λ (f : RunFault). ItemFails a p n first before f) (sym c.tell_global.ensures)
+    (reached_breaks a p n first before (record { registers = r; next = next }) left m c.turns.invariant.1.0 c.in-BrokeGlobal.rule (Some (segment.Global c.in-BrokeGlobal.address)) is)
+
+pub returns-in-BrokeGroup-clause-comes : goal.returns-in-BrokeGroup-clause-comes
+returns-in-BrokeGroup-clause-comes c =
+    let a = surroundings c.args.context.now in
+    let p = c.args.program.now in
+    let n = c.args.number in
+    let r = c.turns.stopped.item.registers in
+    let next = c.turns.next in
+    let left = c.turns.left in
+    let m = contents c.turns.memory in
+    let first = ready c.args.stopped.now.item (executed_by c.args.stopped.now) in
+    let before = contents c.args.memory.now in
+    let few : left ≤ 65536 = c.turns.invariant.0 in
+    let some : 0 < left = omega arith in
+    let spent_less : 65536 - left < 65536 = omega (arith, few, some) in
+    let flats = c.flat_steps-flat_steps.result.now in
+    let found : slice_get flats next ≡ Some c.in-Some.flat.now = get_read flats next c.in-Some.flat.now c.in-Some.ensures.lookup.1 c.in-Some.ensures.lookup.3.0 in
+    let is : turn (context_of_item a n) p.steps (record { registers = r; next = next }) (65536 - left) m ≡ broke c.in-BrokeGroup.rule (Some (segment.Group c.in-BrokeGroup.address)) =
+    flat_turn a (context_of_item a n) flats p.steps r next m c.in-Some.flat.now (broke c.in-BrokeGroup.rule (Some (segment.Group c.in-BrokeGroup.address)))
+    (in_place a n c.requires.item) c.flat_steps-flat_steps.ensures.value found c.in-BrokeGroup.ensures (65536 - left) spent_less in
+    subst (λ (f : RunFault). ItemFails a p n first before f) (sym c.tell_group.ensures)
+    (reached_breaks a p n first before (record { registers = r; next = next }) left m c.turns.invariant.1.0 c.in-BrokeGroup.rule (Some (segment.Group c.in-BrokeGroup.address)) is)
 
 pub turns-preserved-in-Onward : goal.turns-preserved-in-Onward
 turns-preserved-in-Onward c =
@@ -89,7 +123,7 @@ turns-preserved-in-Onward c =
     let next = c.turns.next in
     let left = c.turns.left in
     let m = contents c.turns.memory in
-    let first = ready c.args.stopped.now.item c.args.stopped.now.executed in
+    let first = ready c.args.stopped.now.item (executed_by c.args.stopped.now) in
     let before = contents c.args.memory.now in
     let few : left ≤ 65536 = c.turns.invariant.0 in
     let some : 0 < left = omega arith in
@@ -113,7 +147,7 @@ returns-in-Arrived-clause-comes c =
     let next = c.turns.next in
     let left = c.turns.left in
     let m = contents c.turns.memory in
-    let first = ready c.args.stopped.now.item c.args.stopped.now.executed in
+    let first = ready c.args.stopped.now.item (executed_by c.args.stopped.now) in
     let before = contents c.args.memory.now in
     let few : left ≤ 65536 = c.turns.invariant.0 in
     let some : 0 < left = omega arith in
@@ -135,7 +169,7 @@ returns-in-Ended-clause-comes c =
     let next = c.turns.next in
     let left = c.turns.left in
     let m = contents c.turns.memory in
-    let first = ready c.args.stopped.now.item c.args.stopped.now.executed in
+    let first = ready c.args.stopped.now.item (executed_by c.args.stopped.now) in
     let before = contents c.args.memory.now in
     let few : left ≤ 65536 = c.turns.invariant.0 in
     let some : 0 < left = omega arith in
@@ -156,7 +190,7 @@ turns-preserved c =
     let next = c.turns.next in
     let left = c.turns.left in
     let m = contents c.turns.memory in
-    let first = ready c.args.stopped.now.item c.args.stopped.now.executed in
+    let first = ready c.args.stopped.now.item (executed_by c.args.stopped.now) in
     let before = contents c.args.memory.now in
     let few : left ≤ 65536 = c.turns.invariant.0 in
     let some : 0 < left = omega arith in
@@ -176,7 +210,7 @@ returns-in-Arrived-turn-clause-comes c =
     let next = c.turns.next in
     let left = c.turns.left in
     let m = contents c.turns.memory in
-    let first = ready c.args.stopped.now.item c.args.stopped.now.executed in
+    let first = ready c.args.stopped.now.item (executed_by c.args.stopped.now) in
     let before = contents c.args.memory.now in
     let few : left ≤ 65536 = c.turns.invariant.0 in
     let some : 0 < left = omega arith in
@@ -196,7 +230,7 @@ returns-in-Ended-turn-clause-comes c =
     let next = c.turns.next in
     let left = c.turns.left in
     let m = contents c.turns.memory in
-    let first = ready c.args.stopped.now.item c.args.stopped.now.executed in
+    let first = ready c.args.stopped.now.item (executed_by c.args.stopped.now) in
     let before = contents c.args.memory.now in
     let few : left ≤ 65536 = c.turns.invariant.0 in
     let some : 0 < left = omega arith in
@@ -207,8 +241,8 @@ returns-in-Ended-turn-clause-comes c =
     (c.in-Ended-turn.ensures (65536 - left) spent_less) in
     reached_ends a p n first before (record { registers = r; next = next }) left m c.turns.invariant.1.0 (contents c.turn.new.memory) is
 
-pub returns-in-Broke-turn-clause-comes : goal.returns-in-Broke-turn-clause-comes
-returns-in-Broke-turn-clause-comes c =
+pub returns-in-Broke-clause-comes : goal.returns-in-Broke-clause-comes
+returns-in-Broke-clause-comes c =
     let a = surroundings c.args.context.now in
     let p = c.args.program.now in
     let n = c.args.number in
@@ -216,17 +250,17 @@ returns-in-Broke-turn-clause-comes c =
     let next = c.turns.next in
     let left = c.turns.left in
     let m = contents c.turns.memory in
-    let first = ready c.args.stopped.now.item c.args.stopped.now.executed in
+    let first = ready c.args.stopped.now.item (executed_by c.args.stopped.now) in
     let before = contents c.args.memory.now in
     let few : left ≤ 65536 = c.turns.invariant.0 in
     let some : 0 < left = omega arith in
     let spent_less : 65536 - left < 65536 = omega (arith, few, some) in
-    let is : turn (context_of_item a n) p.steps (record { registers = r; next = next }) (65536 - left) m ≡ broke c.in-Broke-turn.rule (Some c.in-Broke-turn.address) =
-    turn_alike a (context_of_item a n) p.steps c.go.new.r r next (65536 - left) (contents c.go.new.memory) m (broke c.in-Broke-turn.rule (Some c.in-Broke-turn.address))
+    let is : turn (context_of_item a n) p.steps (record { registers = r; next = next }) (65536 - left) m ≡ broke c.in-Broke.rule (Some c.in-Broke.address) =
+    turn_alike a (context_of_item a n) p.steps c.go.new.r r next (65536 - left) (contents c.go.new.memory) m (broke c.in-Broke.rule (Some c.in-Broke.address))
     (in_place a n c.requires.item) c.in-Other.ensures.0 c.in-Other.ensures.1
-    (c.in-Broke-turn.ensures (65536 - left) spent_less) in
-    subst (λ (f : RunFault). ItemFails a p n first before f) (sym c.tell-in-Broke-turn.ensures)
-    (reached_breaks a p n first before (record { registers = r; next = next }) left m c.turns.invariant.1.0 c.in-Broke-turn.rule (Some c.in-Broke-turn.address) is)
+    (c.in-Broke.ensures (65536 - left) spent_less) in
+    subst (λ (f : RunFault). ItemFails a p n first before f) (sym c.tell.ensures)
+    (reached_breaks a p n first before (record { registers = r; next = next }) left m c.turns.invariant.1.0 c.in-Broke.rule (Some c.in-Broke.address) is)
 
 pub returns-then-next-steps-clause-comes : goal.returns-then-next-steps-clause-comes
 returns-then-next-steps-clause-comes c =
@@ -237,7 +271,7 @@ returns-then-next-steps-clause-comes c =
     let next = c.turns.next in
     let left = c.turns.left in
     let m = contents c.turns.memory in
-    let first = ready c.args.stopped.now.item c.args.stopped.now.executed in
+    let first = ready c.args.stopped.now.item (executed_by c.args.stopped.now) in
     let before = contents c.args.memory.now in
     let all : 65536 - left ≡ 65536 = omega arith in
     let there : next < length p.steps = omega (arith, ap length c.steps.ensures.value, c.if-next-steps.true) in
@@ -254,7 +288,7 @@ returns-clause-comes c =
     let next = c.turns.next in
     let left = c.turns.left in
     let m = contents c.turns.memory in
-    let first = ready c.args.stopped.now.item c.args.stopped.now.executed in
+    let first = ready c.args.stopped.now.item (executed_by c.args.stopped.now) in
     let before = contents c.args.memory.now in
     let past : length p.steps ≤ next = omega (arith, ap length c.steps.ensures.value, c.if-next-steps.false) in
     reached_ends a p n first before (record { registers = r; next = next }) left m c.turns.invariant.1.0 m (stops (context_of_item a n) p.steps (record { registers = r; next = next }) (65536 - left) m past)
@@ -280,7 +314,7 @@ returns-in-Arrived-clause-rest c =
     let next = c.turns.next in
     let left = c.turns.left in
     let m = contents c.turns.memory in
-    let first = ready c.args.stopped.now.item c.args.stopped.now.executed in
+    let first = ready c.args.stopped.now.item (executed_by c.args.stopped.now) in
     let before = contents c.args.memory.now in
     let few : left ≤ 65536 = c.turns.invariant.0 in
     let some : 0 < left = omega arith in
@@ -302,7 +336,7 @@ returns-in-Arrived-turn-clause-rest c =
     let next = c.turns.next in
     let left = c.turns.left in
     let m = contents c.turns.memory in
-    let first = ready c.args.stopped.now.item c.args.stopped.now.executed in
+    let first = ready c.args.stopped.now.item (executed_by c.args.stopped.now) in
     let before = contents c.args.memory.now in
     let few : left ≤ 65536 = c.turns.invariant.0 in
     let some : 0 < left = omega arith in

@@ -2,7 +2,7 @@ use Rattle.std.proofs.Common.{◌≡◌, ◌+◌, ◌∙◌, length, ap, arith}
 use Rattle.executor.specs.inner.Held.{contents, surroundings}
 use Rattle.executor.specs.declared.location.Extent.{Extent}
 use Rattle.executor.proofs.PlaceLemmas.{arguments_are, comes_ill, comes_well, item_is, moved_at, x_within, y_within, z_within}
-use Rattle.executor.proofs.RoundLemmas.{no_item, none_went, may_go, next_fails, next_goes, all_went}
+use Rattle.executor.proofs.RoundLemmas.{no_item, none_went, next_fails, next_goes, all_went}
 use Rattle.executor.proofs.rounds.run_past_barrier.Goals as goal
 
 pub items-init : goal.items-init
@@ -15,11 +15,6 @@ run_item-requires-clause-arguments c =
 
 pub run_item-requires-clause-item : goal.run_item-requires-clause-item
 run_item-requires-clause-item c = item_is (surroundings c.items.own) (surroundings c.args.context.now) c.items.number c.items.invariant.1
-
-pub run_item-requires-clause-within : goal.run_item-requires-clause-within
-run_item-requires-clause-within c =
-    (may_go (surroundings c.args.context.now) c.args.program.now c.args.stopped.now (contents c.args.memory.now) c.items.number c.items.stopped
-    (contents c.items.memory) no_item (omega arith) c.items.invariant.0).within
 
 pub returns-then-not-run_item-clause-err : goal.returns-then-not-run_item-clause-err
 returns-then-not-run_item-clause-err c =

@@ -35,7 +35,7 @@ returns-then-not-run_item-clause-err c =
     let m = contents c.items.memory in
     first_fails a p c.args.count (contents c.args.memory.now) c.items.number c.items.stopped.items m (omega arith) c.items.invariant.0 c.run_item.new.broken
     (comes_ill (surroundings c.items.own) a c.items.number c.items.invariant.1.0 p _ m c.run_item.result _ _ c.run_item.new.broken
-    (begun_anew (λ i k. ItemComes (surroundings c.items.own) p c.items.number (ready i k) m c.run_item.result (standing c.run_item.new.stopped) (contents c.run_item.new.memory) c.run_item.new.broken) c.begin_anew.new.self.item c.begin_anew.new.self.executed c.begin_anew.ensures.item c.begin_anew.ensures.executed c.run_item.ensures.comes)
+    (begun_anew (λ i k. ItemComes (surroundings c.items.own) p c.items.number (ready i k) m c.run_item.result (standing c.run_item.new.stopped) (contents c.run_item.new.memory) c.run_item.new.broken) c.begin_anew.new.self.item c.begin_anew.new.self.left c.begin_anew.ensures.item c.begin_anew.ensures.left c.run_item.ensures.comes)
     c.if-not-run_item.true)
 
 pub id_behind-item_behind-requires-clause-x : goal.id_behind-item_behind-requires-clause-x
@@ -67,7 +67,7 @@ items-preserved c =
     let is = c.items.invariant.1.0 in (
       one_ran a p c.args.count (contents c.args.memory.now) n c.items.stopped.items m (omega arith) c.items.invariant.0 x now
           (comes_well own a n is p _ m c.run_item.result _ _ c.run_item.new.broken
-          (begun_anew (λ i k. ItemComes own p n (ready i k) m c.run_item.result (standing x) now c.run_item.new.broken) c.begin_anew.new.self.item c.begin_anew.new.self.executed c.begin_anew.ensures.item c.begin_anew.ensures.executed c.run_item.ensures.comes)
+          (begun_anew (λ i k. ItemComes own p n (ready i k) m c.run_item.result (standing x) now c.run_item.new.broken) c.begin_anew.new.self.item c.begin_anew.new.self.left c.begin_anew.ensures.item c.begin_anew.ensures.left c.run_item.ensures.comes)
           c.if-not-run_item.false)
           c.keep_stopped.new.stopped.items c.in_ok-keep_stopped.ensures,
       (

@@ -8,6 +8,6 @@ use Rattle.hobbydresser_c.proofs.effects_left.put_effect.Goals as goal
 
 pub returns-clause-laid : goal.returns-clause-laid
 returns-clause-laid c =
-    laid-in_two c.args.out.now c.put.new.out c.put-2.new.out c.record_of.result (bytes_of (words_of (effect_told c.args.effect.now)))
+    laid-in_two c.args.out.now c.put.new.out c.put_any.new.out c.record_of.result (bytes_of (words_of (effect_told c.args.effect.now)))
     c.bytes_written-bytes.result.now (bytes_written c.args.effect.now) c.args.at c.record_of.ensures c.bytes_written-bytes.ensures refl
-    (omega (arith, c.requires)) c.put.ensures c.put-2.ensures
+    (omega (arith, c.requires)) c.put.ensures c.put_any.ensures

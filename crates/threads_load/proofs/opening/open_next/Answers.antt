@@ -1,7 +1,10 @@
 use Rattle.std.proofs.Common.{◌≡◌, ◌+◌, ap, length, rules}
 use Rattle.client_threads.specs.Lanes.{LaneSeen}
-use Rattle.threads_load.proofs.Belonging.{all_keep, kept_ends, kept_lanes, new_ends, new_lane}
+use Rattle.threads_load.proofs.Belonging.{all_keep, kept_ends, kept_lanes, new_ends, new_lane, rings_more}
+use Rattle.client_threads.specs.Boards.{FrontSeen}
 use Rattle.threads_load.proofs.Planned.{opened_next}
+use Rattle.threads_load.proofs.Produced.{unused_more, unused_opened}
+use Rattle.threads_load.proofs.Shares.{lane_shares, some_share}
 use Rattle.threads_load.proofs.opening.open_next.Goals as goal
 
 pub put_queue-requires-clause-more : goal.put_queue-requires-clause-more
@@ -24,3 +27,19 @@ returns-in-Ok-put_queue-clause-queues g c = λ before are.
 
 pub returns-in-Ok-put_queue-clause-keeps : goal.returns-in-Ok-put_queue-clause-keeps
 returns-in-Ok-put_queue-clause-keeps g c = all_keep _ _ _ _ _ _ _ _ c.args.lanes.now.items c.put_queue.new.lanes.items c.in-Ok.ensures.opened c.in-Ok-put_queue.ensures.put
+
+pub open_queue-requires : goal.open_queue-requires
+open_queue-requires g c = record { front = (c.requires.front, some_share c.args.front.now c.args.lanes.now.items c.requires.shares) }
+
+pub returns-in-Ok-put_queue-clause-shares : goal.returns-in-Ok-put_queue-clause-shares
+returns-in-Ok-put_queue-clause-shares g c =
+    let number : c.in-Ok.opened.0.0 ≡ length c.args.lanes.now.items + 1 = search rules in
+    let s = c.in-Ok.ensures.section in
+    lane_shares c.args.front.now c.open_queue.new.front c.args.lanes.now.items c.put_queue.new.lanes.items c.in-Ok.opened.2 _ _ _ c.in-Ok.opened.0
+    (ap (λ (f : FrontSeen). f.share) s.new_is) (ap (λ (l : LaneSeen). l.front.share) c.in-Ok.ensures.opened.lane_is) c.in-Ok-put_queue.ensures.put s.did number c.requires.shares
+
+pub returns-in-Ok-put_queue-clause-unused : goal.returns-in-Ok-put_queue-clause-unused
+returns-in-Ok-put_queue-clause-unused g c = λ unused. unused_more c.args.ends.now.items c.in-Ok.opened.1.items c.put_queue.new.ends.items c.in-Ok-put_queue.ensures.put_ends unused (unused_opened _ _ _ _ _ _ _ _ c.in-Ok.ensures.opened)
+
+pub returns-in-Ok-put_queue-clause-rings : goal.returns-in-Ok-put_queue-clause-rings
+returns-in-Ok-put_queue-clause-rings g c = rings_more c.args.producers _ _ _ _ _ _ c.in-Ok.ensures.opened

@@ -18,6 +18,9 @@ loop-planned-preserved g c = (
       c.args.plan.now c.loop-planned.planned-index _ within
       (c.in_ok-open_next.ensures.queues (take c.loop-planned.planned-index c.args.plan.now) (c.loop-planned.invariant.4 lanes)),
   λ keep. c.in_ok-open_next.ensures.keeps (c.loop-planned.invariant.5 keep),
+  c.in_ok-open_next.ensures.shares,
+  λ its. c.in_ok-open_next.ensures.rings (c.loop-planned.invariant.7 its),
+  λ unused. c.in_ok-open_next.ensures.unused (c.loop-planned.invariant.8 unused),
 )
 
 pub returns-clause-queues : goal.returns-clause-queues

@@ -4,7 +4,8 @@ use Rattle.std.specs.Prelude.{All}
 use mathlib.Core.List.{IsPrefix}
 use Rattle.client_threads.specs.HandedOver.{KeepsAll}
 use Rattle.client_threads.specs.Running.{IsEndOf, IsLaneOf}
-use Rattle.threads_load.specs.Stages.{AreOf}
+use Rattle.threads_load.specs.Publications.{IsUnused}
+use Rattle.threads_load.specs.Stages.{AreOf, HaveShares, IsLoadRing}
 use Rattle.threads_load.proofs.opening.open_queues.Given as goal
 
 abbrev pub invariant-loop-planned : goal.invariant-loop-planned
@@ -13,3 +14,6 @@ invariant-loop-planned g l =
     × IsPrefix l.initial.front.left l.front.left
     × (AreOf 0 l.initial.lanes.items → AreOf (length (take l.planned-index l.plan)) l.lanes.items)
     × (All KeepsAll l.initial.lanes.items → All KeepsAll l.lanes.items)
+    × HaveShares l.front l.lanes.items
+    × (All (IsLoadRing l.producers) l.initial.broker → All (IsLoadRing l.producers) l.broker)
+    × (All IsUnused l.initial.ends.items → All IsUnused l.ends.items)

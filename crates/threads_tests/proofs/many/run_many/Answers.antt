@@ -1,4 +1,5 @@
 use Rattle.std.proofs.Common.{[]}
+use Rattle.threads_load.proofs.Shares.{kept_shares}
 use Rattle.threads_tests.proofs.many.run_many.Goals as goal
 
 pub returns : goal.returns
@@ -7,4 +8,5 @@ returns g c = record {
   ends = c.run_both-ends.ensures.ends;
   lanes = c.run_both-ends.ensures.lanes;
   settled = c.run_both-ends.ensures.settled [] c.requires.settled;
+  shares = kept_shares c.args.stage.front c.args.stage.lanes.items c.run_both-ends.result.1.items c.run_both-ends.ensures.shares c.requires.shares;
 }

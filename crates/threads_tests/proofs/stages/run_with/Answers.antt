@@ -1,4 +1,5 @@
 use Rattle.std.proofs.Common.{[]}
+use Rattle.threads_load.proofs.Shares.{kept_shares, ran_keep}
 use Rattle.threads_tests.proofs.stages.run_with.Goals as goal
 
 pub returns : goal.returns
@@ -7,4 +8,5 @@ returns g c = record {
   ends = c.requires.ends;
   lanes = c.run_lanes-lanes.ensures.lanes;
   settled = c.run_lanes-lanes.ensures.settled [] c.requires.settled;
+  shares = kept_shares c.args.stage.front c.args.stage.lanes.items c.run_lanes-lanes.result.items (ran_keep c.args.stage.lanes.items c.run_lanes-lanes.result.items c.run_lanes-lanes.ensures.count c.run_lanes-lanes.ensures.shares) c.requires.shares;
 }

@@ -21,6 +21,7 @@ returns-clause-stage g c = record {
   ends = before_last c.args.stage.broker c.args.stage.ends.items c.pop.new.self.items c.pop.result c.pop.ensures.items c.requires.ends;
   lanes = c.requires.lanes;
   settled = c.requires.settled;
+  shares = c.requires.shares;
 }
 
 pub returns-clause-end : goal.returns-clause-end

@@ -12,4 +12,5 @@ returns-in-Ok g c = record {
       (All-push (λ end. IsEndOf c.args.stage.broker end) c.args.stage.ends.items c.args.end c.requires.stage.ends c.requires.end);
   lanes = c.requires.stage.lanes;
   settled = c.requires.stage.settled;
+  shares = c.requires.stage.shares;
 }

@@ -1,0 +1,15 @@
+use Rattle.std.proofs.Common.{sym, ◌∙◌, arith}
+use Rattle.session.specs.Who.{for_user}
+use Rattle.session.proofs.Walks.{first_here, first_more, first_all}
+use Rattle.session.proofs.who.client_of_user.Goals as goal
+
+pub returns-in-Some : goal.returns-in-Some
+returns-in-Some c =
+    sym (c.loop-entry.invariant ∙ first_here (for_user c.args.user) c.args.entries.now c.loop-entry.entry-index _ _ (omega arith) (sym c.in-Some.ensures))
+
+pub loop-entry-preserved : goal.loop-entry-preserved
+loop-entry-preserved c =
+    c.loop-entry.invariant ∙ first_more (for_user c.args.user) c.args.entries.now c.loop-entry.entry-index _ (omega arith) (sym c.in-None.ensures)
+
+pub returns : goal.returns
+returns c = sym (c.loop-entry.invariant ∙ first_all (for_user c.args.user) c.args.entries.now c.loop-entry.entry-index (omega arith))

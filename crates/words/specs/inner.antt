@@ -1,0 +1,2 @@
+-- What private clauses and proofs speak of.
+pub mod Lanes
