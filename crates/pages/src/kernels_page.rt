@@ -83,22 +83,7 @@ ok
 bytes 02000000030000000400000000000000
 ```
 
-The packet's 64 bytes ([their layout](aql_packets.md#kernel-dispatch)):
-
-```
-bytes    0  02 14                    header: type 2, acquire and release scope 2
-         2  01 00                    setup: 1 dimension
-         4  02 00  01 00  01 00      a work-group has 2 work-items
-        10  00 00                    reserved
-        12  04 00 00 00              the grid has 4
-        16  01 00 00 00  01 00 00 00
-        24  00 00 00 00              private_segment_size
-        28  00 00 00 00              group_segment_size
-        32  01 00 00 00 00 00 00 00  kernel 1, `inc`
-        40  00 00 00 00 02 00 00 00  the argument block: address 0000000200000000, the start of `args`
-        48  00 00 00 00 00 00 00 00  reserved
-        56  01 00 00 00 00 00 00 00  completion signal 1, `done`
-```
+`brokerd decode` tells the packet's fields: one dimension, work-groups of 2 in a grid of 4, kernel 1 (`inc`), the argument block at the start of `args`, completion signal 1 (`done`).
 
 ## Group memory, a barrier and an atomic operation
 
@@ -233,5 +218,5 @@ Take the example with `3100000001000000` as the argument, which is byte 49 of `b
 
 ## Where this is tried
 
-`cases` has each of these rules at both sides of its bounds: `kernel_launches.case`, `kernel_holds.case`, `access_rules.case`; barriers, group memory and atomic operations in `work_groups.case`, `work_group_faults.case`, `group_segments.case` and `atomics_32.case`; runs with their audits in `kernel_runs.case`; and what each instruction leaves, at each of its types, in `pairs_32.case` and the files after it.
+`cases` has each of these rules at both sides of its bounds (`kernel_launches.case`, `kernel_holds.case`, `access_rules.case`, `work_groups.case` and those beside them), and what each instruction leaves, at each of its types (`pairs_32.case` and the files after it).
 ";

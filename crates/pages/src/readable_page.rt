@@ -118,5 +118,5 @@ It ends: each round but the last makes entries in the audit, which has at most 1
 A strict run ends after a drain in which a packet was denied or failed or a group faulted, or in whose last round a request was refused. With `--explain` the first such fault is explained, or else the first wait.
 
 ## What is proved
-[What is proved](proved.md#scripts-and-the-program) has which packet each form is, down to the digits, and that drains and runs by line are requests as of a script's lines; which form a line has is [tested alone](proved.md#neither-proved-nor-tested).
+[What is proved](proved.md#scripts-and-the-program) has which packet each form is, down to the digits, and that drains and runs by line are requests as of a script's lines; which form a line has, and its argument block, are [only tested](proved.md#only-tested).
 ";
