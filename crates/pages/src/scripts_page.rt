@@ -189,7 +189,7 @@ The page tells its colours on top, and under the pointer each mark tells its ent
 - **Packets.** A bar is a packet from its launch to its release, in the first row of its lane that is free, with its id and its kernel or function where there is room. Its colour tells how it ended, \"stopped\" also of a closed queue. Ticks in its lower part are its groups, the dark end its completion. A red mark is a denial or a fault, with its rule after it.
 - **Signals.** A violet tick is a poll of a barrier packet that saw a signal at 0, and an arrow leads there from what set it to 0.
 
-200 packets fit on a screen. A page that is wider than 1,920 points isn't shrunk to the window: look at it part by part. `--from N` and `--to N` draw the entries from one number to another; what is in flight before the first has its bar from the left edge on. The last 5,000 entries are drawn at most. `--journal FILE` draws [a journal](audit.md#a-journal) in place of a script's run.
+200 packets fit on a screen. A page that is wider than 1,920 points isn't shrunk to the window: look at it part by part. `--from N` and `--to N` draw the entries from one number to another; what is in flight before the first has its bar from the left edge on. At most the last 5,000 entries are drawn. `--journal FILE` draws [a journal](audit.md#a-journal) in place of a script's run.
 
 A page is that of a whole script or there is none. If a line has no form, or reading, writing or memory fails, nothing is drawn (but a beginning, where the page's writer fails). Standard error and the status are then those of `run`. So put a `#` before the bad line, or end the script before it. Refusals, denials and faults of packets end nothing.
 
