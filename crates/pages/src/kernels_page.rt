@@ -3,16 +3,16 @@
 /// The page's text.
 pub const TEXT: &str = "# Running a kernel
 
-This page is for authors of kernels. It goes from a kernel's text to its writes in memory, and says at each step what may refuse it, and what helps. Kernels compute with whole numbers; there is no floating point. Other pages say how [a text is written](kernel_text.md), what [a policy](policy.md) is, and how [a packet](aql_packets.md) is laid out.
+This page goes from a kernel's text to its writes in memory, and says at each step what may refuse it, and what helps. Kernels compute with whole numbers; there is no floating point. Other pages say how [a text is written](kernel_text.md), what [a policy](policy.md) is, and how [a packet](aql_packets.md) is laid out.
 
 ## From a text to a run
 
-1. **The text** stands in a `[[kernel]]` row of the policy, and `entry` names the kernel of it that packets launch. `brokerd check POLICY` reads and checks the texts of all rows in order, and names the first fault, as `kernel 1: check 3 line 4`. A module without a kernel of the entry's name is no fault of the check. Where the policy and its kernels have no other fault, `brokerd run` tells it as `kernel 1: no entry`, before any reply, and ends with status 1.
+1. **The text** stands in a `[[kernel]]` row of the policy, and `entry` names the kernel of it that packets launch. `brokerd check POLICY` reads and checks the texts of all rows ([what it tells](policy.md#when-a-policy-is-refused)).
 2. **The grants.** A packet launches only what its client was granted: `USE` on the agent, `LAUNCH` on the kernel, rights on regions, `CHANGE` on the completion signal.
-3. **The arguments** are written to memory as one block: each at the next multiple of its size, or of its `align`. The dispatch has the block's address (`kernarg_address`). An argument of 64 bits may be the address of memory that the kernel works on.
+3. **The arguments** are written to memory as one block ([its layout](kernel_text.md#modules-and-kernels)). The dispatch has the block's address (`kernarg_address`). An argument of 64 bits may be the address of memory that the kernel works on.
 4. **The launch** (`serve`). The launch rules below decide. The block is copied then: the packet doesn't see what is written there later.
 5. **The work-groups** (`run`) run one at a time, in the order of their places in the grid, with x fastest. The items of a group run in the order of their places, one after another, and see what those before wrote. A group that ends leaves all its writes at once, and is answered `ran G left N`. One that breaks a rule leaves none: `faulted ERROR`.
-6. **The completion** (`finish`). Where all groups ran the completion signal, if there is one, is decremented, and the packet holds nothing any more.
+6. **The completion** (`finish`). Once all groups ran, the completion signal, if there is one, is decremented, and the packet holds nothing any more.
 
 ## A text alone
 
@@ -45,7 +45,7 @@ read 2 line 3 column 14: Syntax: no module goes on with this token
   \tmov_b32 $s0,;
   \t            ^
 ```
-The reader knows the token, and it is marked. The check knows the line of an item: the whole line is marked, and the column is that of its first token. Bytes other than printing letters of ASCII and tabs are shown as `?`, so that a column is one letter. `brokerd explain WrongRegister` tells what a cause means.
+The reader marks the token. The check marks the whole line of an item, and the column is that of its first token. Bytes other than printing letters of ASCII and tabs are shown as `?`, so that a column is one letter. `brokerd explain WrongRegister` tells what a cause means.
 
 ## The sample kernel, as typed
 
@@ -83,26 +83,11 @@ ok
 bytes 02000000030000000400000000000000
 ```
 
-The packet's 64 bytes are those of `docs/aql_packets.md`, \"Kernel dispatch\":
-
-```
-bytes    0  02 14                    header: type 2, acquire and release scope 2
-         2  01 00                    setup: 1 dimension
-         4  02 00  01 00  01 00      a work-group has 2 work-items
-        10  00 00                    reserved
-        12  04 00 00 00              the grid has 4
-        16  01 00 00 00  01 00 00 00
-        24  00 00 00 00              private_segment_size
-        28  00 00 00 00              group_segment_size
-        32  01 00 00 00 00 00 00 00  kernel 1, `inc`
-        40  00 00 00 00 02 00 00 00  the argument block: address 0000000200000000, the start of `args`
-        48  00 00 00 00 00 00 00 00  reserved
-        56  01 00 00 00 00 00 00 00  completion signal 1, `done`
-```
+`brokerd decode` tells the packet's fields: one dimension, work-groups of 2 in a grid of 4, kernel 1 (`inc`), the argument block at the start of `args`, completion signal 1 (`done`).
 
 ## Group memory, a barrier and an atomic operation
 
-This kernel adds up numbers, a total for each work-group. Its items share `%sum`, which begins as 0 for each group. Each adds its number to it by an atomic operation and waits at the barrier. Then the first item of the group stores what has come together. This policy has it, as `sums.toml`:
+This kernel adds up numbers, a total for each work-group. Its items share `%sum`. Each adds its number to it by an atomic operation and waits at the barrier. Then the first item of the group stores what has come together. This policy has it, as `sums.toml`:
 
 ```toml file=sums.toml
 client = [{ name = \"alice\" }]
@@ -192,20 +177,18 @@ bytes 060000000f000000
 
 1, 2 and 3 make 6; 4, 5 and 6 make 15. Without the barrier the first item would store what it alone had added, 1 and 4: items take their turns one after the other.
 
-At a barrier an item waits until every item of its group waits at the same one. Where some ended before it, or wait at another, no item can go on, and the least that waits breaks rule A6 at its barrier's line. So a branch around the barrier, as `cbr_b1 $c0, @end;` in front of it, would end the whole group.
+At a barrier an item waits until every item of its group waits at the same one. If some ended before it, or wait at another, no item can go on, and the least that waits breaks rule A6 at its barrier's line. So a branch around the barrier, as `cbr_b1 $c0, @end;` in front of it, would end the whole group.
 
 ## What a launch wants
 
-A kernel dispatch is denied by the first of these rules that fails (L1 to L3 are those of its bytes). A denial stops its queue: `denied queue 1 packet 0 rule L6`. What counts is what is in force when the packet is taken, not when it was published.
+A kernel dispatch is denied by the first launch rule that fails, and a denial stops its queue. [The page on scripts](scripts.md#a-packet-is-denied) has all of them; of a kernel dispatch these ask in full:
 
-| Rule | Wants | What helps |
-|---|---|---|
-| L4 | `USE` on the queue's agent, which takes kernel dispatches | `grant alice agent gpu USE`; `\"kernel\"` in the agent's `takes` in the policy |
-| L5 | 1 to 3 dimensions; each size at least 1; a work-group and a grid of 1 in dimensions that aren't used; no grid smaller than its work-group; at most 1,024 work-items in a work-group, and at most 2^32 - 1 work-groups | another packet |
-| L6 | `LAUNCH` on the kernel. A number that no kernel has fails in the same way | `grant alice kernel inc LAUNCH` |
-| L7 | a `group_segment_size` of at least the bytes of the kernel's group variables, and at most 65,536; a `private_segment_size` of at most 65,536, which has no effect | another packet |
-| L8 | the argument block lies whole in one region, with `READ`. A kernel without arguments wants nothing here, whatever the address | `grant alice region args READ`; another `kernarg_address` |
-| L10 | `CHANGE` on the completion signal, unless it is 0 | `grant alice signal done CHANGE` |
+| Rule | Wants |
+|---|---|
+| L5 | 1 to 3 dimensions; each size at least 1; a work-group and a grid of 1 in dimensions that aren't used; no grid smaller than its work-group; at most 1,024 work-items in a work-group, and at most 2^32 - 1 work-groups |
+| L6 | `LAUNCH` on the kernel. A number that no kernel has fails in the same way |
+| L7 | a `group_segment_size` of at least the bytes of the kernel's group variables, and at most 65,536; a `private_segment_size` of at most 65,536, which has no effect |
+| L8 | the argument block lies whole in one region, with `READ` (`grant alice region args READ`). A kernel without arguments wants nothing here, whatever the address |
 
 The block is as long as the end of the last argument; no alignment of its address is asked.
 
@@ -225,15 +208,7 @@ None of these can be revoked meanwhile (`refused 4 Busy queue 1 packet 0`). So t
 
 ## What an access wants
 
-Each load and each store of global memory is judged by rules A1 to A3, in this order, and an atomic operation by A4 after these. An address is wrapped at 2^64 first. A5 is judged before each instruction.
-
-| Rule | Wants | What helps |
-|---|---|---|
-| A1 | the first byte lies in a region that the packet holds | an argument of 64 bits that points in that region, and a right on it in force at the launch |
-| A2 | the right is held: `READ` for a load, `WRITE` for a store | `grant alice region buf READ,WRITE` before the launch |
-| A3 | the access ends inside that region | a smaller grid, or a test in the kernel: the grid's size need not be a multiple of the work-group's, and the last group has then fewer items |
-| A4 | an atomic operation's address is a multiple of its size | another address |
-| A5 | a work-item takes at most 65,536 instructions. `ret` is one, reaching the closing brace isn't | a loop that ends, or more work-items |
+Each load and each store of global memory is judged by rules A1 to A3, in this order, and an atomic operation by A4 after these ([all of them, with what helps](scripts.md#a-packet-fails-at-its-work)). An address is wrapped at 2^64 first. A5 is judged before each instruction: `ret` is one, reaching the closing brace isn't. The grid's size need not be a multiple of the work-group's, and the last group has then fewer items.
 
 An atomic operation is both a load and a store: it needs both rights. Group memory has two rules of its own: A7, that an access ends inside the packet's `group_segment_size`, and A4 likewise. A6 is that of barriers, above.
 
@@ -243,5 +218,5 @@ Take the example with `3100000001000000` as the argument, which is byte 49 of `b
 
 ## Where this is tried
 
-`cases` has each of these rules at both sides of its bounds: `kernel_launches.case`, `kernel_holds.case`, `access_rules.case`; barriers, group memory and atomic operations in `work_groups.case`, `work_group_faults.case`, `group_segments.case` and `atomics_32.case`; runs with their audits in `kernel_runs.case`; and what each instruction leaves, at each of its types, in `pairs_32.case` and the files after it.
+`cases` has each of these rules at both sides of its bounds (`kernel_launches.case`, `kernel_holds.case`, `access_rules.case`, `work_groups.case` and those beside them), and what each instruction leaves, at each of its types (`pairs_32.case` and the files after it).
 ";

@@ -3,9 +3,7 @@
 /// The page's text.
 pub const TEXT: &str = "# Writing a policy
 
-A policy says what exists in a broker, and which rights may be granted to whom. It grants nothing by itself: a right is in force only once it was granted (`grant ..` in a script). A grant is made only where allow rows of the policy cover each of its rights and no deny row covers one. This page is for the administrator who writes the file.
-
-The sample policy, `crates/brokerd/data/sample.toml`, is the running example. To check a policy:
+A policy says what exists in a broker, and which rights may be granted to whom. It grants nothing by itself: a right is in force only once it was granted (`grant ..` in a script). A grant is made only where allow rows of the policy cover each of its rights and no deny row covers one. This page is for the administrator who writes the file. Its example is `crates/brokerd/data/sample.toml`:
 
 ```console
 $ brokerd check crates/brokerd/data/sample.toml
@@ -18,7 +16,7 @@ allows 6
 ok
 ```
 
-`brokerd run POLICY [NEXT..] [--audit N]` opens a broker with a policy, reads a script from standard input and writes its replies. N is how many entries the audit has room for: 1 to 1,048,576, and 65,536 if it is absent. NEXT are the files of at most 16 further policies, which the script may put in force (\"Another policy for a broker that runs\", below).
+`brokerd run POLICY [NEXT..]` runs a script over it; NEXT are the files of at most 16 further policies, which the script may put in force ([below](#another-policy-for-a-broker-that-runs)).
 
 `brokerd check POLICY --list` lists in place of the counts what a policy without a fault declares, with the numbers that packets and audits use, and the rights that its rows allow each client. `--json` writes the same for programs, on one line ([its members](json.md)):
 ```console
@@ -48,7 +46,7 @@ bob     region  1       buf    READ
 
 ## The file
 
-A policy is a TOML file of at most 1,048,576 bytes. It may begin with `version = 1` or `version = 2`; without it the version is 1. All else is in arrays of tables, each of which may be absent or empty: six of them, and in version 2 a seventh, `deny`. Numbers count from 1 in the order of the rows, for clients and for each kind of object; packets, scripts and audits use these numbers.
+A policy is a TOML file of at most 1,048,576 bytes. It may begin with `version = 1` or `version = 2`; without it the version is 1. All else is in arrays of tables, each of which may be absent or empty. Numbers count from 1 in the order of the rows, for clients and for each kind of object; packets and audits use these numbers.
 
 | Array | Rows at most | Keys of a row |
 |---|---|---|
@@ -73,7 +71,7 @@ A name is 1 to 64 ASCII letters, digits, `_` or `-`, and no two rows of an array
 | `CHANGE` | signal | to change it, and to name it as a packet's completion signal |
 | `LAUNCH` | kernel | to launch it by kernel dispatches (`docs/kernels.md`) |
 
-An allow row covers a right where its `client` is the client or `\"*\"`, its `kind` and `object` are the object's (or `\"*\"`, all objects of the kind), and its `rights` have the right. Rows only add to each other, and their order doesn't matter. In the sample, alice may be granted everything, and bob only `USE` on `gpu` and `READ` on `buf`:
+An allow row covers a right where its `client` is the client or `\"*\"`, its `kind` and `object` are the object's (or `\"*\"`, all objects of the kind), and its `rights` have the right. Rows only add to each other, and their order doesn't matter. Two rows of the sample:
 
 ```
 [[allow]]
@@ -93,7 +91,7 @@ So `grant bob region buf READ` is answered `ok`, and `grant bob region buf WRITE
 
 ### Deny rows
 
-A policy of version 2 may also say what isn't allowed. A deny row covers rights as an allow row does. What it covers isn't allowed, whatever allow rows say and wherever they stand. Here everybody may read and write all regions, but nobody may write `args`:
+In version 2 a deny row covers rights as an allow row does. Nothing that it covers is allowed, whatever allow rows say and wherever they stand. Here everybody may read and write all regions, but nobody may write `args`:
 
 ```
 version = 2
@@ -111,11 +109,11 @@ object = \"args\"
 rights = [\"WRITE\"]
 ```
 
-Then `grant alice region buf READ,WRITE` is answered `ok`, `grant alice region args READ` too, and `grant alice region args READ,WRITE` is `refused 5 NotAllowed`. In a file of version 1 the array isn't known: `policy: 3 BadValue`. `brokerd check` counts deny rows in files of version 2 alone, in a line `denies N` after `allows N`.
+Then `grant alice region args READ` is answered `ok`, and `grant alice region args READ,WRITE` is `refused 5 NotAllowed`. In a file of version 1 the array isn't known: `policy: 3 BadValue`. `brokerd check` counts deny rows in files of version 2 alone, in a line `denies N` after `allows N`.
 
 ### Another policy for a broker that runs
 
-What may be granted can be changed while a broker runs, and what may exist can't. The line `reload N` of a script hands in the N-th of the further policies that the command line names; their files are read before the script begins, so one that is written later can't come in (a program may hand in any, by `reload` of the core or `hd_reload`). To take from bob what the sample allows him on `buf`, write the sample once more, with `version = 2` first and a deny row last:
+While a broker runs, it can be changed what may be granted, and not what may exist. The line `reload N` of a script hands in the N-th of the further policies that the command line names (a program may hand in any, by `reload` of the core or `hd_reload`). To take from bob what the sample allows him on `buf`, write the sample once more, with `version = 2` first and a deny row last:
 
 ```toml file=deny.toml
 [[deny]]
@@ -146,7 +144,7 @@ audit 2
 From the reload on the new rows decide:
 
 - Each right in force that they don't allow is taken, from every client.
-- Each grant is asked of them. What the rows before didn't allow and these do may be granted from then on.
+- Each grant is asked of them.
 - Nothing is granted by itself: a right that one reload took doesn't come back with the next.
 
 A reload is refused, and changes nothing:
@@ -155,31 +153,15 @@ A reload is refused, and changes nothing:
 - `refused 4 Busy queue Q packet ID`, where a packet in flight holds a right that the rows don't allow: the one named has the least queue and id of all clients' packets. Bring it to its end, then reload.
 - `refused 10 AuditFull`, as every call that leaves an entry; `refused 0 OutOfMemory`, where there is no memory for the copy of the policy.
 
-A client whose `USE` on an agent was cut keeps its queues: they stay open. The next packet that is judged in such a queue is denied, by rule L4 unless its bytes break one of L1 to L3, and that stops the queue. So it goes with every right. A launched packet holds what it needs until it is released; a packet that waits in a ring is judged by what is in force when it is taken.
+A client whose `USE` on an agent was cut keeps its queues. The next packet that is judged in such a queue is denied, by rule L4 unless its bytes break one of L1 to L3, and that stops the queue. So it goes with every right: a launched packet holds what it needs until it is released, and one that waits in a ring is judged by what is in force when it is taken. So give each client the least that its packets need.
 
-Each further policy is read in full before the script begins, in the order of the files and after all faults of the first policy and its kernels. Its first fault is told as that of any policy; `brokerd check` on the file tells the same. The texts of its kernels aren't read, since a policy with another text is refused.
-
-Give each client the least that its packets need. A right that a packet in flight holds can't be revoked until the packet is released: `refused 4 Busy queue Q packet ID` names the first that has to be waited for.
+Each further policy is read in full before the script begins, in the order of the files and after all faults of the first policy and its kernels; one that is written later can't come in. Its first fault is told as that of any policy. The texts of its kernels aren't read, since a policy with another text is refused.
 
 ## When a packet is denied
 
-A denied packet stops its queue, and the error names the first rule that failed: `queue 1 packet 0 rule L8`. For these rules a grant, or something that the policy declares, is missing. A grant has to be in force when the packet is taken.
+A denied packet stops its queue, and the error names the first rule that failed: `queue 1 packet 0 rule L8`. [The page on scripts](scripts.md#a-packet-is-denied) has each rule with what helps. For L4, L6 and L8 to L10 a grant is missing that has to be in force when the packet is taken, or something that the policy declares: an object that isn't declared fails the same rule as one without a grant.
 
-| Rule | What is missing | With the sample |
-|---|---|---|
-| L4 | `USE` on the queue's agent, or the agent doesn't take this kind of dispatch (its key `takes`) | `grant alice agent gpu USE` |
-| L5 | an agent dispatch names a function that agents have: FILL, COPY or ADD64 (`docs/aql_packets.md`); a kernel dispatch has dimensions and sizes that may be (`docs/kernels.md`). No grant helps | |
-| L6 | `LAUNCH` on the kernel | `grant alice kernel inc LAUNCH` |
-| L7 | the segments of a kernel dispatch: at least as much group memory as its kernel's variables take, and at most 65,536 bytes each. No grant helps | |
-| L8 | for an agent dispatch, the rights on each of its ranges: FILL `WRITE` on its target, COPY `READ` on its source and `WRITE` on its target, ADD64 `READ` and `WRITE`, and `WRITE` on the return address. A range that leaves its region fails here too. For a kernel dispatch, `READ` on the region in which its argument block lies | `grant alice region buf READ,WRITE` for a FILL of `buf` whose client reads it afterwards; `grant alice region args READ` for arguments in `args` |
-| L9 | `WAIT` on a dependency of a barrier packet | `grant alice signal go WAIT` |
-| L10 | `CHANGE` on the completion signal | `grant alice signal done CHANGE` |
-
-L1 to L3 are rules of a packet's layout. What a kernel then may touch is judged at each of its loads and stores. An error with one of the rules A1 to A7 names the group, the item and the line, and `docs/kernels.md` says what helps.
-
-An object that isn't declared fails the same rule as one without a grant. Where a grant is answered `refused 5 NotAllowed`, the policy itself has to be widened by an allow row, or a deny row has to go. `refused 13 UnknownObject` and `refused 1 UnknownClient` say that a name isn't declared.
-
-What each refusal means, and what helps, says [the page on scripts](scripts.md#a-line-is-refused). Each call tries them in an order of its own (`crates/core_model/specs/Owed.antt`), 10 after all others but 0.
+If a grant is answered `refused 5 NotAllowed`, the policy itself has to be widened by an allow row, or a deny row has to go. The same page has [each refusal](scripts.md#a-line-is-refused). Each call tries them in an order of its own (`crates/core_model/specs/Owed.antt`), 10 after all others but 0.
 
 ## When a policy is refused
 
@@ -196,31 +178,13 @@ What each refusal means, and what helps, says [the page on scripts](scripts.md#a
 
 They are looked for in this order: the length of the file, its form, its version and keys, and then the arrays in the order of the table above, row by row. In a row, unknown keys come first, then each key in the table's order, then the name. So the sample with a further allow row for the object `nosuch` is refused with `policy: 4 UnknownName allow 7`.
 
-The kernels' texts are read and checked after the policy itself, in order; the first that fails is named, as `kernel 1: check 3 line 4` (`docs/kernel_text.md`). `brokerd run` needs more than `brokerd check`: each module has to have a kernel of its entry's name. The first that has none is named as `kernel 1: no entry`, after all other faults of the policy and its kernels, and before those of further policies and any reply.
+The kernels' texts are read and checked after the policy itself, in order; the first that fails is named, as `kernel 1: check 3 line 4` ([its causes](kernel_text.md#faults-of-a-text)). `brokerd run` asks more than `brokerd check`: each module has to have a kernel of its entry's name. The first that has none is named as `kernel 1: no entry`, after all other faults of the policy and its kernels, and before those of further policies and any reply.
 
 ## What reading and asking cost
 
-None of this is proved; it is what the code in `crates/policy/src` does.
+None of this is proved; it is what the code in `crates/policy/src` and `crates/grants/src` does.
 
-**Reading** (`read_policy`) is done once, before the first reply. A file over 2^20 bytes is refused by its length alone, before a byte of it is looked at. Else the bytes are checked to be UTF-8 and parsed once into a tree, in which each table keeps its keys in order. Then each array is gone through once, in the order of the table above:
+**Reading** is done once, before the first reply. A file over 2^20 bytes is refused by its length alone. Else it is parsed once into a tree, and each array is gone through once, its rows counted first; reading stops at the first fault. At most the file, its tree and the policy are in memory together. A name is looked up by a hash with a fixed seed. Somebody who picks the names can make them collide, and a look-up then compares with each of them, 1,024 at most.
 
-- How many rows there are is seen before the first row is read.
-- A row costs one look at each of its keys, to find unknown ones, and one search of its tree for each key that it has to have.
-- A name is looked up among the earlier rows of its array, by its hash. A name in an allow or deny row is looked up in the same way among the clients or the objects of its kind.
-- Names, entries and kernel texts are copied out of the tree, and an allow or deny row becomes a few numbers.
-
-Reading stops at the first fault. The tree lives until `read_policy` returns, so at most the file, its tree and the policy are in memory together. Kernel texts are kept as they are; they are read and checked later, once each, before the first reply.
-
-**Asking** takes no memory.
-
-| Question | Cost |
-|---|---|
-| the number of a name (`client_named`, `object_named`) | one hash of the name, and a comparison with each name of that hash: one, unless names collide |
-| what has a number (`client_name`, `object_name`, `takes`, `region_length`, `signal_initial`, `kernel_source`), how many there are, and whether it is declared | one step: a number less 1 is the place of the row |
-| whether rights are allowed (`allows`) | one walk over all allow rows and one over all deny rows, 4,096 each at most, which join the rights of those that cover the client and the object, and then one look at each of the six rights |
-| whether another policy declares the same clients and objects (`declares_as`) | one comparison of all names and of what the rows hold, kernel texts among them |
-
-A grant asks whether rights are allowed. Nothing that a packet does asks it: a launch looks at the rights in force. A wildcard row costs no more than another, so a policy for many clients is best kept short with `\"*\"`.
-
-The hash has a fixed seed. Somebody who picks the names can therefore make them collide, and a look-up then compares with each of them, of which there are 1,024 at most.
+**Asking** takes no memory. A number is found in one step, since it is the place of the row. `allows` walks over all allow rows and all deny rows; `declares_as` compares all names and what the rows hold, kernel texts among them. A grant asks neither: it looks into a table of what the rows allow each client on each object, which is made at a broker's opening and by each reload. Nothing that a packet does asks the policy: a launch looks at the rights in force.
 ";

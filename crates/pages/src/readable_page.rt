@@ -64,13 +64,13 @@ Options stand at the end, in any order; of one that stands twice the last counts
 
 - **Names** are those of the policy. A name that isn't there is a fault: what is to be denied for its name is written in digits.
 - **SIZES** are one to three decimal numbers with commas, as `4` or `4,2,1`: as many as the dispatch has dimensions, for the grid and for the work-group alike.
-- **ADDRESS** is a region (`buf`), a region with an offset (`buf+16`, `buf+0x10`), or a number; of `read` and `write` a word of 16 hexadecimal digits is one as in a script, whatever else it may be. Whether the region is long enough is not asked: a packet past its end is a packet that is denied.
+- **ADDRESS** is a region (`buf`), a region with an offset (`buf+16`, `buf+0x10`), or a number; of `read` and `write` a word of 16 hexadecimal digits is one as in a script, whatever else it may be. A packet past the region's end is one that is denied.
 - **Numbers** are decimal, or hexadecimal after `0x`.
 - **`arguments`** takes as many VALUEs as the kernel has arguments, in their order: a number that fits the argument's bits, with `-` before it if negative, or an ADDRESS. They are laid out as the kernel's own text says: each at the next multiple of its size, or of its `align`, with zeros between. CLIENT, who is named in front of the queue, writes the block where `at` says. Without `arguments` nothing is written, and CLIENT may be left out; the block then is what lies there.
 - A first word that is a number is the queue's: a client whose name is a number can't be named here. Nor can a signal of the name `signal` or `barrier` be one of `all-of` and `any-of`.
 
 ## What isn't a form
-A line of no form ends the run with status 1, after what the lines before it came to. The word is named, and what is wanted in its place. Where no line begins with a word, the nearest that one begins with is named:
+A line of no form ends the run with status 1, after what the lines before it came to. The word is named, and what is wanted in its place. An unknown first word is told with the nearest that a line begins with:
 ```
 line 3: buff: wanted is an address: a region as buf or buf+16, or a number
 line 5: end of line: wanted is `at` and where the arguments lie, as at args
@@ -78,7 +78,7 @@ line 7: serv: wanted is a word that lines begin with, as serve
 ```
 A line of over 16,384 bytes is one too. The policy and its kernels are read and checked first; their faults are told as `brokerd check` tells them. Status 3 is as for `run`.
 
-`run --readable` tells it after its own `line 3: bad request`, with the same number. All that it tells, a bad request, an explanation and the end of a strict run, has the number of the line as it was typed. Of the two commands in a row the second counts the lines that it reads: after a `dispatch` with arguments, which becomes two, its `line N` is one further.
+`run --readable` tells it after its own `line 3: bad request`. All that it tells has the number of the line as it was typed. The second of the two commands in a row counts the lines that it reads: after a `dispatch` with arguments, which becomes two, its `line N` is one further.
 
 ## Draining queues
 Two lines finish what can be finished:
@@ -111,22 +111,12 @@ bytes 5a5a5a5a
 ```
 A drain makes the requests that `serve`, `run`, `poll` and `finish` make, one after the other, and replies once. In each round every open queue is served as far as it comes; then each packet in flight is run group by group, or polled, and finished once its work is done. After a round in which nothing moved it is over.
 
-Its first line counts what its requests came to: packets `launched` and `denied`, groups that `ran` and `faulted`, barrier packets that were `ready` and `failed`, packets `finished`. `waiting N` counts the lines that follow, one for each request of the last round that moved nothing though something is there. Such a line has the queue, the packet where the request named one, and the reply to the request. After `pending on` stand the signals that a barrier packet depends on. What is refused, as `refused 7 QueueDown` of a stopped queue, waits too.
+Its first line counts what its requests came to: packets `launched` and `denied`, groups that `ran` and `faulted`, barrier packets that were `ready` and `failed`, packets `finished`. `waiting N` counts the lines that follow, one for each request of the last round that moved nothing though something is there. Such a line has the queue, the packet where the request named one, and the reply to the request. After `pending on` stand the signals that a barrier packet depends on. A refusal, as `refused 7 QueueDown` of a stopped queue, waits too.
 
 It ends: each round but the last makes entries in the audit, which has at most 1,048,576, and where it is full what would make one is refused. At most 8 packets of a queue are in flight, and what is launched has at most 4,294,967,295 groups.
 
 A strict run ends after a drain in which a packet was denied or failed or a group faulted, or in whose last round a request was refused. With `--explain` the first such fault is explained, or else the first wait.
 
 ## What is proved
-A line that `assemble` passes on begins with a word of a script's table, has none, or is a comment, and nothing is put before it (`put_lines`). The policy by whose names lines go is that of the text (`Book::read`). Of a line that submits a packet these are proved:
-
-- It has the digits of the 64 bytes that lay the packet out, by the layout of `docs/aql_packets.md` (`put_packet` in `crates/assemble`, its clause `Submits`).
-- Which packet each form is, field by field, from its operands and options (`dispatch_packet`, `fill_packet`, `copy_packet`, `add_packet`, `all_of_packet`, `any_of_packet`, with their definitions in `specs/Packets.antt`).
-- Which numbers words stand for, and where a line's words begin and end.
-
-Which of them a line uses, that operands are read in the order above, and the argument block is only tested, by `assembled.case`, `argument_blocks.case` and `readable.case` in `cases`.
-
-A drain is a list of requests in turn. Each is that of a line `serve Q`, `run Q ID`, `poll Q ID` or `finish Q ID`, and is replied to as that line is. Its counts are just those of these replies (`drain` in `crates/readable`, its clauses `Makes` and `Drains`). That it goes on while something moves, and what it tells of what waits, is tested: `tests/readable.py`.
-
-A whole run by line, of readable lines or with replies as JSON, is a list of requests in turn as well. Each is done and replied to as a script's line is. Just their replies are handed over, and that to a drain begins with its counts (`run_by_line`, its clause `RunsByLine`). Which requests a readable line makes is tested, as above.
+[What is proved](proved.md#scripts-and-the-program) has which packet each form is, down to the digits, and that drains and runs by line are requests as of a script's lines; which form a line has, and its argument block, are [only tested](proved.md#only-tested).
 ";

@@ -85,22 +85,19 @@ Clients and objects go by their names in the policy; a name that isn't there sta
 | `audit` | the entries since the last `rotate`, or all | `audit N` and N lines |
 | `rotate` | hands out these entries, and goes on with an empty audit (`docs/audit.md`) | `rotated N` and N lines |
 
-ERROR is `queue Q packet ID rule RULE`, and for a rule of access ` group G item I line L` after it. A refusal is `refused N NAME`; two of them are of [rings](rings.md). A seat is the place of one producer, or of the processor, at a ring:
+ERROR is `queue Q packet ID rule RULE`, and for a rule of access ` group G item I line L` after it. A refusal is `refused N NAME`.
 
-- `14 NotAStep` is a step that its seat may not make now, a take without a packet that was read whole, or a header that would be cleared before its packet is launched or denied.
-- `15 Spent` is a producer that has reserved 2^40 ids.
-
-Each line is one request to the world, or several in turn. `publish`, `submit`, `peek`, `retire` and `serve` make those named, up to the first that is refused: the refusal is the reply, and what was done before it stays. So a `submit` that meets a full ring, or whose packet is of type INVALID, has reserved its id. The ticket stays open, and `publish` may try it again. A `publish` of type INVALID makes no request.
+Each line is one request to the world, or several in turn. `publish`, `submit`, `peek`, `retire` and `serve` make those named, up to the first that is refused: the refusal is the reply, and what was done before it stays. So a `submit` that meets a full ring, or whose packet is of type INVALID, has reserved its id. The ticket stays open, and `publish` may try it again. A `publish` of type INVALID makes no request. A line of one request that is refused changes nothing.
 
 ## What to do
 
-A line of one request that is refused changes nothing; of a line of several the steps before the refusal stay. Either may be tried again once what it lacks is there. A denial, and a fault of a packet in flight, stop the queue: it launches nothing more, and another has to be opened.
+A refused line may be tried again once what it lacks is there. A denial, and a fault of a packet in flight, stop the queue: it launches nothing more, and another has to be opened.
 
 ### A line is refused
 
 | Reply | Comes to | What to do |
 |---|---|---|
-| `refused 0 OutOfMemory` | what would take memory: `queue`, `reserve`, `submit`, a launch, `run`, `write`, `reload`, `rotate`, and lists. Where a line is refused otherwise too, that is told, but for a group for which the audit has no room, and for `reload` | try again; what was refused was not done, and the same line later counts as the first |
+| `refused 0 OutOfMemory` | what would take memory: `queue`, `reserve`, `submit`, a launch, `run`, `write`, `reload`, `rotate`, and lists. If another refusal holds too, that one is told, but for a group for which the audit has no room, and for `reload` | try again; what was refused was not done, and the same line later counts as the first |
 | `refused 1 UnknownClient` | lines that name a client | name a client of the policy, or give it a `[[client]]` row |
 | `refused 2 UnknownQueue` | lines that name a queue | open one, and use the number that `queue` was answered; one that was closed is gone, and its number is given to none again |
 | `refused 3 Denied RIGHT` | `queue`, `write`, `read`, `signal`, `load`, `test` | grant RIGHT on the agent, region or signal; for `write` and `read` see also that the range ends inside its region |
@@ -114,7 +111,7 @@ A line of one request that is refused changes nothing; of a line of several the 
 | `refused 11 BadSize` | `queue`, `write`, `read` | a queue has 2 to 4,096 slots, a power of two, and 1 to 16 producers; a client writes and reads 1 to 65,536 bytes a line |
 | `refused 12 TooMany` | `queue` | 64 queues are open: use those, or `close` one |
 | `refused 13 UnknownObject` | `grant`, `revoke` | name an object of the policy of that kind, or declare it |
-| `refused 14 NotAStep` | lines on a ring | the seat may not make this step now: `docs/rings.md` says when each is allowed; a producer's number is 1 to that of the queue's producers |
+| `refused 14 NotAStep` | lines on a ring | the producer or the processor may not make this step now: no packet was read whole for a `take`, or a header would be cleared before its packet is launched or denied, or as `docs/rings.md` says; a producer's number is 1 to that of the queue's producers |
 | `refused 15 Spent` | `reserve`, `submit` | the producer has reserved 2^40 ids: use another |
 | `refused 16 OtherObjects` | `reload` | write the first policy once more, and change nothing in it but the rows on rights |
 
@@ -136,7 +133,7 @@ Some replies tell that nothing came of a line, or not yet:
 | `Slots` | eight packets of the queue are in flight | finish one |
 
 ### A packet is denied
-`serve` or `take` tells it, as `denied queue 1 packet 0 rule L8`: the first rule that fails. What counts is what is in force then, not when the packet was published.
+`serve` or `take` tells it, as `denied queue 1 packet 0 rule L8`: the first rule that fails. The rights count that are in force then, not when the packet was published.
 
 | Rule | Wants | What to do |
 |---|---|---|
@@ -177,40 +174,41 @@ The status is 0 where all lines were done or answered, and 2 where the command l
 | `no memory` | 3 | give it more; the replies that stand are those of the lines before |
 | `read fault`, `write fault` | 3 | the policy or the script couldn't be read, or the replies couldn't be written |
 
-What each fault means, and what helps, stands with the texts: of [a policy](policy.md#when-a-policy-is-refused), of [a kernel's text](kernel_text.md#faults-of-a-text) (`read`), and of [a module](kernel_text.md#faults-of-a-module) (`check`).
+The pages on the texts say what each fault means, and what helps: of [a policy](policy.md#when-a-policy-is-refused), of [a kernel's text](kernel_text.md#faults-of-a-text) (`read`), and of [a module](kernel_text.md#faults-of-a-module) (`check`).
 
 ## A picture of a run
 
-`brokerd picture POLICY [NEXT..]` runs a script just as `run` does. In place of the replies it writes one SVG page of what the audit tells at the end. It takes further policies and `--audit N` as `run` does.
+`brokerd picture POLICY [NEXT..]` runs a script just as `run` does, also with `--audit N`. In place of the replies it writes one SVG page of what the audit tells at the end.
 ```console
 $ brokerd picture crates/brokerd/data/sample.toml < examples/two_queues.script | cmp - docs/picture.svg
 ```
-- **Entries.** The colours are told on top. The numbers below them are those of the audit's entries, of the whole history. After a `rotate` they go on, and the queues and packets in flight with which the rest of the audit begins have their lanes and bars from the left edge on.
-- **Lanes.** The first is the administrator's and the clients'. Below it each queue has one, from its opening to its close, as high as its packets need; a queue that was closed before the first entry that is drawn has none. A line across all lanes is a reload.
-- **Packets.** A bar is a packet from its launch to its release, in the first row of its lane that is free. It has its id and its kernel or function where there is room: green where it completed, red where it faulted, grey where its queue was stopped or closed, blue where it is still in flight. Ticks in its lower part are its groups, the dark end its completion. A red mark is a denial or a fault, with its rule after it.
+The page tells its colours on top, and under the pointer each mark tells its entry.
+
+- **Entries** have their numbers below the colours. After a `rotate` these go on, and the queues and packets in flight with which the rest of the audit begins have their lanes and bars from the left edge on.
+- **Lanes.** The first is the administrator's and the clients': grants, revocations, writes and changes of signals. Below it each queue has one, from its opening to its close, as high as its packets need; a queue that was closed before the first entry that is drawn has none. A line across all lanes is a reload.
+- **Packets.** A bar is a packet from its launch to its release, in the first row of its lane that is free, with its id and its kernel or function where there is room. Its colour tells how it ended, \"stopped\" also of a closed queue. Ticks in its lower part are its groups, the dark end its completion. A red mark is a denial or a fault, with its rule after it.
 - **Signals.** A violet tick is a poll of a barrier packet that saw a signal at 0, and an arrow leads there from what set it to 0.
-- **In the first lane** green marks are grants, orange ones revocations, blue ones a client's writes and violet ones its changes of signals.
-- **Under the pointer** each mark tells its entry: queue and packet, rights, how many bytes of which region were written, and signals with the values before and after.
 
-`brokerd picture POLICY [NEXT..] --journal FILE` draws a journal (`docs/audit.md`) in place of a script's run, all its entries from the first on, and runs nothing.
+200 packets fit on a screen. A page that is wider than 1,920 points isn't shrunk to the window: look at it part by part. `--from N` and `--to N` draw the entries from one number to another; what is in flight before the first has its bar from the left edge on. At most the last 5,000 entries are drawn. `--journal FILE` draws [a journal](audit.md#a-journal) in place of a script's run.
 
-The more entries there are, the closer they stand: 200 packets fit on a screen. A page that is wider than 1,920 points isn't shrunk to the window: look at it part by part. `--from N` and `--to N` draw the entries from one number to another; what is in flight before the first has its bar from the left edge on. Of more than 5,000 entries the last 5,000 are drawn.
-
-A page is that of a whole script or there is none. Where a line has no form, or reading, writing or memory fails, nothing is drawn (but a beginning, where the page's writer fails). Standard error and the status are then those of `run`. So put a `#` before the bad line, or end the script before it. Refusals, denials and faults of packets end nothing.
+A page is that of a whole script or there is none. If a line has no form, or reading, writing or memory fails, nothing is drawn (but a beginning, where the page's writer fails). Standard error and the status are then those of `run`. So put a `#` before the bad line, or end the script before it. Refusals, denials and faults of packets end nothing.
 
 ## Options of a run, and other commands
 
-- `brokerd run POLICY --strict` ends with status 1 after the first reply that tells that a line was refused or denied, or that a kernel or a poll faulted.
-- `brokerd run POLICY --explain` tells on standard error after each such reply [why](explaining.md), and the line that mends it.
-- `brokerd explain L8`, or `explain QueueDown`, or `explain 7`, tells what a rule, a refusal or a cause means.
-- `brokerd run POLICY --readable` takes packets in words, and `drain`, which serves, runs and finishes until nothing moves. `brokerd assemble POLICY` turns such lines into those above ([readable lines](assemble.md)).
-- `brokerd run POLICY --json` writes each reply as an object of JSON ([its members](json.md#replies)).
-- `brokerd run POLICY --audit N` has room for N entries, 1 to 1,048,576; without it for 65,536.
-- `brokerd run POLICY --journal FILE` writes [a journal](audit.md#a-journal) as it goes. It goes with `--strict` and `--explain`, and neither with `--readable` nor with `--json`.
+`brokerd help run` lists what `run` takes:
+
+- `--strict` ends with status 1 after the first reply that tells that a line was refused or denied, or that a kernel or a poll faulted;
+- `--explain` tells on standard error after each such reply [why](explaining.md), and the line that mends it;
+- `--readable` takes [packets in words, and `drain`](assemble.md), which finishes what can be finished;
+- `--json` writes each reply as an object of JSON ([its members](json.md#replies));
+- `--audit N` has room for N entries, 1 to 1,048,576; without it for 65,536;
+- `--journal FILE` writes [a journal](audit.md#a-journal) as it goes.
+
+`brokerd explain L8`, or `explain QueueDown`, or `explain 7`, tells what a rule, a refusal or a cause means.
 
 ## Every form once
 
-These lines stand after the first seven requests of `examples/fill.script`, which grant Alice what the sample policy allows and open queue 1 with two slots for two producers. Lines that begin with `>` are asked, the others are the replies. The whole is a case in `cases/forms.case`, where `{FILL}` stands for the packet of that script.
+These lines stand after the first seven requests of `examples/fill.script`, which grant Alice what the sample policy allows and open queue 1 with two slots for two producers. Lines that begin with `>` are asked, the others are the replies; `{FILL}` is the packet of that script (`cases/forms.case`).
 ```script over=crates/brokerd/data/sample.toml behind=examples/fill.script:7 names=cases/packets.names
 > reserve 1 1
 ticket 0
