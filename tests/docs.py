@@ -22,6 +22,9 @@ FENCE = re.compile(r"^(`{3,})(.*)$")
 NAMED = re.compile(r"`([\w./-]+\.(?:antt|c|case|edit|hsail|md|names|py|rt|script|sh|svg|toml))`")
 LINK = re.compile(r"\]\(([^)\s]+)\)")
 
+# how many words README and all pages have at the most, without the recipes for the prover and the tables that a script makes
+MOST_README, MOST_WORDS = 900, 50_000
+
 # What `make` is for a page's commands: the program is built already.
 MAKE = '#!/bin/sh\n[ $# = 0 ] || { echo "make $1: not here" >&2; exit 2; }\necho build/brokerd is there\n'
 
@@ -310,6 +313,24 @@ def try_page(path, brokerd):
     return passed, failed
 
 
+def words_of(path):
+    """How many words a page has, but for the tables that a script makes."""
+    text = re.sub(r"<!-- (functions|laws) -->.*?<!-- end of \1 -->", "", path.read_text(encoding="utf-8"), flags=re.DOTALL)
+    return len(text.split())
+
+
+def try_words():
+    """README and all pages are short enough to be read, and to be kept true. The recipes for the prover are looked up, not read."""
+    crates = [TOP / "crates" / name / "README.md" for name in crates_listed()]
+    pages = [it for it in (TOP / "docs").glob("*.md") if it.name != "prover.md"]
+    failed = 0
+    for what, paths_of, most in (("README has", [TOP / "README.md"], MOST_README), ("all pages have", [TOP / "README.md", *pages, *crates], MOST_WORDS)):
+        count = sum(words_of(it) for it in paths_of)
+        print(f"{'ok' if count <= most else 'FAILED'} {what} {count:,} words, at most {most:,}")
+        failed += count > most
+    return 2 - failed, failed
+
+
 def main(words):
     if len(words) != 2 or not os.access(words[1], os.X_OK):
         print("usage: tests/docs.py BROKERD", file=sys.stderr)
@@ -324,8 +345,8 @@ def main(words):
             print(f"{path.relative_to(TOP)}: {error}")
             counts = [(0, 1)]
         passed, failed = passed + sum(it[0] for it in counts), failed + sum(it[1] for it in counts)
-    crates = try_crates()
-    passed, failed = passed + crates[0], failed + crates[1]
+    for count in (try_crates(), try_words()):
+        passed, failed = passed + count[0], failed + count[1]
     print(f"docs: {passed} passed, {failed} failed")
     print(f"{passed} passed, {failed} failed")
     return 1 if failed or not passed else 0
