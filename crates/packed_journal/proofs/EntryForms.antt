@@ -24,79 +24,80 @@ use Rattle.packed_journal.specs.Words.{Word, Tag, Bytes, Packet, Flags, Digest}
 use Rattle.packed_journal.specs.Readings.{Read, bytes_of, fit, and_read, made, both, read_number, read_signed, read_bytes, read_packet, read_flags, read_digest, words_of_list, read_list}
 use Rattle.packed_journal.specs.Parts.{words_of_client, read_client, words_of_packet, read_queue, read_packet_named, words_of_rights_on, read_rights_on, words_of_rows, read_rows, words_of_operation, read_operation, words_of_error, read_error}
 use Rattle.packed_journal.specs.Entries.{Happened, words_of_event, kept_policy, read_event, number_of_cause, read_cause, words_of_outcome, read_outcome, words_of_effect, read_effect, words_of_entry, form_of_entry, read_entry}
-use Rattle.packed_journal.proofs.Forms.{WrittenSo, IsForm, fit_front, fit_behind, both_bytes, number_form, signed_form, bytes_form, packet_form, flags_form, digest_form, then_words, both_tells, both_form, made_tells, arm_back, arm_tells, tag_if, named_if, list_form}
+use Rattle.packed_journal.proofs.Forms.{WrittenSo, IsForm, fit_front, fit_behind, both_bytes, number_form, signed_form, bytes_form, flags_form, digest_form, then_words, both_tells, both_form, made_tells, arm_back, arm_tells, tag_if, named_if, list_form}
+use Rattle.packed_journal.proofs.PacketForms.{packet_form}
 use Rattle.packed_journal.proofs.PartForms.{of_bits, of_sign, client_form, words_of_queue, queue_form, packet_named_form, rights_on_form, rows_form, operation_form, error_form}
 
 -- ---- events
 
-abbrev of_bytes : List ℕ → List Word
+abbrev pub of_bytes : List ℕ → List Word
 of_bytes bs = Bytes bs ∷ []
 
-abbrev of_packet : List ℕ → List Word
+abbrev pub of_packet : List ℕ → List Word
 of_packet bs = Packet bs ∷ []
 
-abbrev of_flags : List Bool → List Word
+abbrev pub of_flags : List Bool → List Word
 of_flags fs = Flags fs ∷ []
 
-abbrev of_digest : List ℕ → List Word
+abbrev pub of_digest : List ℕ → List Word
 of_digest bs = Digest bs ∷ []
 
-abbrev open_words : ClientId × (ℕ × ℕ) → List Word
+abbrev pub open_words : ClientId × (ℕ × ℕ) → List Word
 open_words r = words_of_client r.0 ++ (of_bits 32 r.1.0 ++ of_bits 64 r.1.1)
 
-abbrev open_read : List ℕ → Read (ClientId × (ℕ × ℕ))
+abbrev pub open_read : List ℕ → Read (ClientId × (ℕ × ℕ))
 open_read bytes = both read_client (both (read_number 32) (read_number 64)) bytes
 
-open_form : IsForm open_words open_read
+pub open_form : IsForm open_words open_read
 open_form =
     both_form words_of_client (then_words (of_bits 32) (of_bits 64)) read_client (both (read_number 32) (read_number 64)) client_form
     (both_form (of_bits 32) (of_bits 64) (read_number 32) (read_number 64) (number_form 32) (number_form 64))
 
-abbrev opened : ClientId × (ℕ × ℕ) → Happened
+abbrev pub opened : ClientId × (ℕ × ℕ) → Happened
 opened r = (event.Open r.0 (record { 0 = r.1.0 }) r.1.1, None)
 
-abbrev take_words : (QueueId × PacketId) × List ℕ → List Word
+abbrev pub take_words : (QueueId × PacketId) × List ℕ → List Word
 take_words r = words_of_packet r.0 ++ of_packet r.1
 
-take_form : IsForm take_words (both read_packet_named read_packet)
+pub take_form : IsForm take_words (both read_packet_named read_packet)
 take_form = both_form words_of_packet of_packet read_packet_named read_packet packet_named_form packet_form
 
-abbrev taken_so : (QueueId × PacketId) × List ℕ → Happened
+abbrev pub taken_so : (QueueId × PacketId) × List ℕ → Happened
 taken_so r = (event.Take r.0.0 r.0.1 r.1, None)
 
-abbrev write_words : ClientId × (ℕ × List ℕ) → List Word
+abbrev pub write_words : ClientId × (ℕ × List ℕ) → List Word
 write_words r = words_of_client r.0 ++ (of_bits 64 r.1.0 ++ of_bytes r.1.1)
 
-write_form : IsForm write_words (both read_client (both (read_number 64) read_bytes))
+pub write_form : IsForm write_words (both read_client (both (read_number 64) read_bytes))
 write_form =
     both_form words_of_client (then_words (of_bits 64) of_bytes) read_client (both (read_number 64) read_bytes) client_form
     (both_form (of_bits 64) of_bytes (read_number 64) read_bytes (number_form 64) bytes_form)
 
-abbrev wrote : ClientId × (ℕ × List ℕ) → Happened
+abbrev pub wrote : ClientId × (ℕ × List ℕ) → Happened
 wrote r = (event.Call (call.HostWrite r.0 (record { 0 = r.1.0 }) r.1.1), None)
 
-abbrev change_words : ClientId × (ℕ × SignalOp) → List Word
+abbrev pub change_words : ClientId × (ℕ × SignalOp) → List Word
 change_words r = words_of_client r.0 ++ (of_bits 64 r.1.0 ++ words_of_operation r.1.1)
 
-change_form : IsForm change_words (both read_client (both (read_number 64) read_operation))
+pub change_form : IsForm change_words (both read_client (both (read_number 64) read_operation))
 change_form =
     both_form words_of_client (then_words (of_bits 64) words_of_operation) read_client (both (read_number 64) read_operation) client_form
     (both_form (of_bits 64) words_of_operation (read_number 64) read_operation (number_form 64) operation_form)
 
-abbrev changed : ClientId × (ℕ × SignalOp) → Happened
+abbrev pub changed : ClientId × (ℕ × SignalOp) → Happened
 changed r = (event.Call (call.ChangeSignal r.0 (record { 0 = r.1.0 }) r.1.1), None)
 
-abbrev reload_words : List ℕ × PolicyRows → List Word
+abbrev pub reload_words : List ℕ × PolicyRows → List Word
 reload_words r = of_digest r.0 ++ words_of_rows r.1
 
-reload_form : IsForm reload_words (both read_digest read_rows)
+pub reload_form : IsForm reload_words (both read_digest read_rows)
 reload_form = both_form of_digest words_of_rows read_digest read_rows digest_form rows_form
 
 -- the words of an event that was read
-abbrev words_of_happened : Happened → List Word
+abbrev pub words_of_happened : Happened → List Word
 words_of_happened x = words_of_event x.0 (unwrap_or x.1 [])
 
-event_back : (x : Event) (policy rest : List ℕ) → fit (words_of_event x policy) ≡ true →
+pub event_back : (x : Event) (policy rest : List ℕ) → fit (words_of_event x policy) ≡ true →
     read_event (bytes_of (words_of_event x policy) ++ rest) ≡ Ok ((x, kept_policy x policy), rest)
 event_back (event.Open client agent size) policy rest f = arm_back open_words open_read open_form opened (client, (agent.0, size)) rest f
 event_back (event.Take queue packet bytes) policy rest f = arm_back take_words (both read_packet_named read_packet) take_form taken_so ((queue, packet), bytes) rest f
@@ -142,7 +143,7 @@ event_tells (tag ∷ bytes) =
 
 -- ---- outcomes
 
-abbrev words_of_cause : WaitCause → List Word
+abbrev pub words_of_cause : WaitCause → List Word
 words_of_cause why = Tag (number_of_cause why) ∷ []
 
 cause_back : (x : WaitCause) (rest : List ℕ) → fit (words_of_cause x) ≡ true → read_cause (bytes_of (words_of_cause x) ++ rest) ≡ Ok (x, rest)
@@ -157,13 +158,13 @@ cause_tells (tag ∷ bytes) =
     (named_if words_of_cause tag 1 (tag ∷ bytes) bytes cause.Active _ refl
     (named_if words_of_cause tag 2 (tag ∷ bytes) bytes cause.Slots None refl tt))
 
-cause_form : IsForm words_of_cause read_cause
+pub cause_form : IsForm words_of_cause read_cause
 cause_form = record { back = cause_back; tells = cause_tells }
 
-abbrev ran_words : ℕ × ℕ → List Word
+abbrev pub ran_words : ℕ × ℕ → List Word
 ran_words r = of_bits 32 r.0 ++ of_bits 32 r.1
 
-ran_form : IsForm ran_words (both (read_number 32) (read_number 32))
+pub ran_form : IsForm ran_words (both (read_number 32) (read_number 32))
 ran_form = both_form (of_bits 32) (of_bits 32) (read_number 32) (read_number 32) (number_form 32) (number_form 32)
 
 outcome_back : (x : Outcome) (rest : List ℕ) → fit (words_of_outcome x) ≡ true → read_outcome (bytes_of (words_of_outcome x) ++ rest) ≡ Ok (x, rest)
@@ -201,21 +202,21 @@ outcome_tells (tag ∷ bytes) =
     (tag_if words_of_outcome tag 11 bytes _ _ (arm_tells of_sign read_signed signed_form words_of_outcome 11 outcome.Changed bytes (λ old. refl))
     tt)))))))))))
 
-outcome_form : IsForm words_of_outcome read_outcome
+pub outcome_form : IsForm words_of_outcome read_outcome
 outcome_form = record { back = outcome_back; tells = outcome_tells }
 
 -- ---- changes
 
-abbrev written_words : ℕ × List ℕ → List Word
+abbrev pub written_words : ℕ × List ℕ → List Word
 written_words r = of_bits 64 r.0 ++ of_bytes r.1
 
-written_form : IsForm written_words (both (read_number 64) read_bytes)
+pub written_form : IsForm written_words (both (read_number 64) read_bytes)
 written_form = both_form (of_bits 64) of_bytes (read_number 64) read_bytes (number_form 64) bytes_form
 
-abbrev signalled_words : ℕ × (ℤ × ℤ) → List Word
+abbrev pub signalled_words : ℕ × (ℤ × ℤ) → List Word
 signalled_words r = of_bits 64 r.0 ++ (of_sign r.1.0 ++ of_sign r.1.1)
 
-signalled_form : IsForm signalled_words (both (read_number 64) (both read_signed read_signed))
+pub signalled_form : IsForm signalled_words (both (read_number 64) (both read_signed read_signed))
 signalled_form =
     both_form (of_bits 64) (then_words of_sign of_sign) (read_number 64) (both read_signed read_signed) (number_form 64)
     (both_form of_sign of_sign read_signed read_signed signed_form signed_form)
@@ -237,18 +238,18 @@ effect_tells (tag ∷ bytes) =
     (tag_if words_of_effect tag 2 bytes _ _ (arm_tells words_of_packet read_packet_named packet_named_form words_of_effect 2 (λ r. effect.Release r.0 r.1) bytes (λ r. refl))
     tt))
 
-effect_form : IsForm words_of_effect read_effect
+pub effect_form : IsForm words_of_effect read_effect
 effect_form = record { back = effect_back; tells = effect_tells }
 
 -- ---- entries
 
-abbrev result_words : Outcome × List Effect → List Word
+abbrev pub result_words : Outcome × List Effect → List Word
 result_words r = words_of_outcome r.0 ++ words_of_list words_of_effect r.1
 
-result_form : IsForm result_words (both read_outcome (read_list read_effect))
+pub result_form : IsForm result_words (both read_outcome (read_list read_effect))
 result_form = both_form words_of_outcome (words_of_list words_of_effect) read_outcome (read_list read_effect) outcome_form (list_form words_of_effect read_effect effect_form)
 
-abbrev entry_of : Happened × (Outcome × List Effect) → Entry × Option (List ℕ)
+abbrev pub entry_of : Happened × (Outcome × List Effect) → Entry × Option (List ℕ)
 entry_of r = (record { event = r.0.0; outcome = r.1.0; effects = r.1.1 }, r.0.1)
 
 pub entry_back : (entry : Entry) (policy rest : List ℕ) → fit (words_of_entry entry policy) ≡ true →
@@ -263,7 +264,7 @@ entry_back entry policy rest f =
     (result_form.back (entry.outcome, entry.effects) rest (fit_behind happened came f))
 
 -- the words of an entry that was read
-abbrev words_of_read : Entry × Option (List ℕ) → List Word
+abbrev pub words_of_read : Entry × Option (List ℕ) → List Word
 words_of_read x = words_of_entry x.0 (unwrap_or x.1 [])
 
 pub entry_tells : (bytes : List ℕ) → WrittenSo words_of_read bytes (read_entry bytes)
@@ -277,7 +278,7 @@ pub entry_told : (bytes : List ℕ) (entry : Entry) (policy : Option (List ℕ))
 entry_told bytes entry policy rest e = subst (WrittenSo words_of_read bytes) e (entry_tells bytes)
 
 -- what is read, or else something
-abbrev read_or : Entry × Option (List ℕ) → Read (Entry × Option (List ℕ)) → Entry × Option (List ℕ)
+abbrev pub read_or : Entry × Option (List ℕ) → Read (Entry × Option (List ℕ)) → Entry × Option (List ℕ)
 read_or other (Err why) = other
 read_or other (Ok read) = read.0
 

@@ -7,13 +7,13 @@ use Rattle.std.proofs.lemmas.List.{length-take-le, take-append-drop}
 use Rattle.std.proofs.lemmas.List.Concat.{flat_map-append}
 use Rattle.packed_journal.specs.declared.unread.Unread.{Unread}
 use Rattle.packed_journal.specs.declared.unread.Unread.TheVariants.{Ended}
-use Rattle.packed_journal.specs.Words.{Word, Tag, Number, Signed, Bytes, Packet, Flags, Digest, Reading, packed, packed_number, fits, byte_at, number_at, signed_at, split_at, packet_at, flags_at, digest_at}
-use Rattle.packed_journal.specs.Readings.{Read, bytes_of, fit, and_read, made, both, times, unless_read, unread_number, unread_packet, unread_flags, read_tag, read_number, read_signed, read_bytes, read_packet, read_flags, read_digest, words_of_list, read_list}
+use Rattle.packed_journal.specs.Words.{Word, Tag, Number, Signed, Bytes, Flags, Digest, Reading, packed, packed_number, fits, byte_at, number_at, signed_at, split_at, flags_at, digest_at}
+use Rattle.packed_journal.specs.Readings.{Read, bytes_of, fit, and_read, made, both, times, unless_read, unread_number, unread_flags, read_tag, read_number, read_signed, read_bytes, read_flags, read_digest, words_of_list, read_list}
 use Rattle.packed_journal.specs.Parts.{named}
 use Rattle.packed_journal.proofs.Tells.{Tells}
 use Rattle.packed_journal.proofs.Times.{times_none, times_step}
 use Rattle.packed_journal.proofs.NumberLaws.{both_first, both_second, is_same, number_read, number_tells, signed_read, signed_tells}
-use Rattle.packed_journal.proofs.PartLaws.{split_read, split_tells, packet_read, packet_tells, flags_read, flags_tells, digest_read}
+use Rattle.packed_journal.proofs.PartLaws.{split_read, split_tells, flags_read, flags_tells, digest_read}
 
 -- what is read was written so
 abbrev pub WrittenSo : {X : Type 0} → (X → List Word) → List ℕ → Read X → Type 0
@@ -43,7 +43,7 @@ both_bytes ws vs rest = ap (λ all. all ++ rest) (flat_map-append packed ws vs) 
 
 -- ---- words
 
-one_word : (w : Word) (rest : List ℕ) → bytes_of (w ∷ []) ++ rest ≡ packed w ++ rest
+pub one_word : (w : Word) (rest : List ℕ) → bytes_of (w ∷ []) ++ rest ≡ packed w ++ rest
 one_word w rest = ap (λ front. front ++ rest) (append-nil (packed w))
 
 word_form : {X : Type 0} (word : X → Word) (found : List ℕ → Reading X) (why : List ℕ → Unread) →
@@ -72,9 +72,6 @@ number_form bits = word_form (Number bits) (number_at bits) unread_number (numbe
 
 pub signed_form : IsForm (λ z. Signed z ∷ []) read_signed
 signed_form = word_form Signed signed_at unread_number signed_read signed_tells
-
-pub packet_form : IsForm (λ bs. Packet bs ∷ []) read_packet
-packet_form = word_form Packet packet_at unread_packet packet_read packet_tells
 
 pub flags_form : IsForm (λ fs. Flags fs ∷ []) read_flags
 flags_form = word_form Flags flags_at unread_flags flags_read flags_tells

@@ -6,6 +6,11 @@ mod Written
 mod Undone
 mod Times
 mod Forms
+mod PacketForms
 mod PartForms
 mod EntryForms
+mod Blocks
+mod JournalForms
+mod HeadForms
+mod WholeJournals
 mod Ranges

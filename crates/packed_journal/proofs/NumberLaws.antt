@@ -1,6 +1,6 @@
 -- Numbers are read as they were written, and written as they were read.
 use Rattle.std.proofs.Common.{◌≡◌, ℕ, zero, suc, ◌+◌, ◌-◌, ◌*◌, ◌/◌, ◌%◌, ◌<◌, ◌≤◌, Bool, true, false, List, [], ◌∷◌, ◌++◌, Some, refl, sym, ap, ◌∙◌, arith}
-use Rattle.std.specs.Prelude.{◌^◌, nat_lt, ◌==◌, ◌&&◌, ℤ, pos, negsuc}
+use Rattle.std.specs.Prelude.{◌^◌, ◌≢◌, nat_lt, ◌==◌, ◌&&◌, ℤ, pos, negsuc}
 use Rattle.std.proofs.lemmas.Bool.Decides.{nat_tests}
 use Rattle.packed_journal.specs.Words.{Number, Signed, where_some, number_within, packed_number, zigzag, is_signed, fits, with_low, number_in, within, number_at, signed_of, signed_at}
 use Rattle.packed_journal.proofs.Steps.{within_last, within_more, in_none, in_end, in_last, in_more}
@@ -33,6 +33,9 @@ is_same a b h = grind (arith, nat_tests)
 
 pub same_is : (a b : ℕ) → a ≡ b → (a == b) ≡ true
 same_is a b h = grind (arith, nat_tests)
+
+pub apart_is : (a b : ℕ) → a ≢ b → (a == b) ≡ false
+apart_is a b h = grind (arith, nat_tests)
 
 -- ---- numbers
 

@@ -39,10 +39,10 @@ words_of_queue queue = Number 64 queue.0 ∷ []
 pub queue_form : IsForm words_of_queue read_queue
 queue_form = made_form (of_bits 64) words_of_queue (read_number 64) (λ n. record { 0 = n }) (λ queue. queue.0) (number_form 64) (λ queue. refl) (λ n. refl)
 
-abbrev words_of_id : PacketId → List Word
+abbrev pub words_of_id : PacketId → List Word
 words_of_id packet = Number 64 packet.0 ∷ []
 
-id_form : IsForm words_of_id read_packet_id
+pub id_form : IsForm words_of_id read_packet_id
 id_form = made_form (of_bits 64) words_of_id (read_number 64) (λ n. record { 0 = n }) (λ packet. packet.0) (number_form 64) (λ packet. refl) (λ n. refl)
 
 pub packet_named_form : IsForm words_of_packet read_packet_named
@@ -89,10 +89,10 @@ grantee_tells (tag ∷ bytes) =
     (tag_if words_of_grantee tag 1 bytes _ _ (arm_tells words_of_client read_client client_form words_of_grantee 1 grantee.One bytes (λ client. refl))
     tt)
 
-grantee_form : IsForm words_of_grantee read_grantee
+pub grantee_form : IsForm words_of_grantee read_grantee
 grantee_form = record { back = grantee_back; tells = grantee_tells }
 
-abbrev words_of_kind : Kind → List Word
+abbrev pub words_of_kind : Kind → List Word
 words_of_kind k = Tag (number_of_kind k) ∷ []
 
 kind_back : (k : Kind) (rest : List ℕ) → fit (words_of_kind k) ≡ true → read_kind (bytes_of (words_of_kind k) ++ rest) ≡ Ok (k, rest)
@@ -109,7 +109,7 @@ kind_tells (tag ∷ bytes) =
     (named_if words_of_kind tag 2 (tag ∷ bytes) bytes kind.Signal _ refl
     (named_if words_of_kind tag 3 (tag ∷ bytes) bytes kind.Kernel None refl tt)))
 
-kind_form : IsForm words_of_kind read_kind
+pub kind_form : IsForm words_of_kind read_kind
 kind_form = record { back = kind_back; tells = kind_tells }
 
 target_back : (x : Target) (rest : List ℕ) → fit (words_of_target x) ≡ true → read_target (bytes_of (words_of_target x) ++ rest) ≡ Ok (x, rest)
@@ -123,10 +123,10 @@ target_tells (tag ∷ bytes) =
     (tag_if words_of_target tag 1 bytes _ _ (arm_tells words_of_object read_object object_form words_of_target 1 target.One bytes (λ on. refl))
     tt)
 
-target_form : IsForm words_of_target read_target
+pub target_form : IsForm words_of_target read_target
 target_form = record { back = target_back; tells = target_tells }
 
-row_form : IsForm words_of_row read_row
+pub row_form : IsForm words_of_row read_row
 row_form =
     made_form (then_words words_of_grantee (then_words words_of_target words_of_rights)) words_of_row (both read_grantee (both read_target read_rights))
     (λ r. record { subject = r.0; target = r.1.0; rights = r.1.1 }) (λ row. (row.subject, (row.target, row.rights)))
@@ -134,7 +134,7 @@ row_form =
     (both_form words_of_target words_of_rights read_target read_rights target_form rights_form))
     (λ row. refl) (λ r. refl)
 
-rows_list_form : IsForm (words_of_list words_of_row) (read_list read_row)
+pub rows_list_form : IsForm (words_of_list words_of_row) (read_list read_row)
 rows_list_form = list_form words_of_row read_row row_form
 
 pub rows_form : IsForm words_of_rows read_rows
@@ -225,7 +225,7 @@ rule_back A6 rest f = refl
 rule_back A7 rest f = refl
 rule_back B1 rest f = refl
 
-abbrev rule_if : (tag n : ℕ) (bytes : List ℕ) (x : Rule) (other : Option Rule) → words_of_rule x ≡ Tag n ∷ [] →
+abbrev pub rule_if : (tag n : ℕ) (bytes : List ℕ) (x : Rule) (other : Option Rule) → words_of_rule x ≡ Tag n ∷ [] →
     WrittenSo words_of_rule (tag ∷ bytes) (named (tag ∷ bytes) other bytes) → WrittenSo words_of_rule (tag ∷ bytes) (named (tag ∷ bytes) (if tag == n then Some x else other) bytes)
 rule_if tag n bytes x other same that = named_if words_of_rule tag n (tag ∷ bytes) bytes x other same that
 
@@ -237,7 +237,7 @@ rule_tells (tag ∷ bytes) =
     (rule_if tag 10 bytes A1 _ refl (rule_if tag 11 bytes A2 _ refl (rule_if tag 12 bytes A3 _ refl (rule_if tag 13 bytes A4 _ refl (rule_if tag 14 bytes A5 _ refl
     (rule_if tag 15 bytes A6 _ refl (rule_if tag 16 bytes A7 _ refl (rule_if tag 17 bytes B1 None refl tt)))))))))))))))))
 
-rule_form : IsForm words_of_rule read_rule
+pub rule_form : IsForm words_of_rule read_rule
 rule_form = record { back = rule_back; tells = rule_tells }
 
 address_back : (x : Option SegmentAddress) (rest : List ℕ) → fit (words_of_address x) ≡ true → read_address (bytes_of (words_of_address x) ++ rest) ≡ Ok (x, rest)
@@ -253,22 +253,22 @@ address_tells (tag ∷ bytes) =
     (tag_if words_of_address tag 2 bytes _ _ (arm_tells (of_bits 32) (read_number 32) (number_form 32) words_of_address 2 (λ n. Some (segment.Group n)) bytes (λ n. refl))
     tt))
 
-address_form : IsForm words_of_address read_address
+pub address_form : IsForm words_of_address read_address
 address_form = record { back = address_back; tells = address_tells }
 
-abbrev words_inside : ℕ × (ℕ × (ℕ × Option SegmentAddress)) → List Word
+abbrev pub words_inside : ℕ × (ℕ × (ℕ × Option SegmentAddress)) → List Word
 words_inside r = then_words (of_bits 32) (then_words (of_bits 32) (then_words (of_bits 32) words_of_address)) r
 
-abbrev read_within : List ℕ → Read (ℕ × (ℕ × (ℕ × Option SegmentAddress)))
+abbrev pub read_within : List ℕ → Read (ℕ × (ℕ × (ℕ × Option SegmentAddress)))
 read_within bytes = both (read_number 32) (both (read_number 32) (both (read_number 32) read_address)) bytes
 
-inside_form : IsForm words_inside read_within
+pub inside_form : IsForm words_inside read_within
 inside_form =
     both_form (of_bits 32) (then_words (of_bits 32) (then_words (of_bits 32) words_of_address)) (read_number 32) (both (read_number 32) (both (read_number 32) read_address)) (number_form 32)
     (both_form (of_bits 32) (then_words (of_bits 32) words_of_address) (read_number 32) (both (read_number 32) read_address) (number_form 32)
     (both_form (of_bits 32) words_of_address (read_number 32) read_address (number_form 32) address_form))
 
-abbrev place_of : ℕ × (ℕ × (ℕ × Option SegmentAddress)) → Option FaultPlace
+abbrev pub place_of : ℕ × (ℕ × (ℕ × Option SegmentAddress)) → Option FaultPlace
 place_of r = Some (record { group = r.0; item = r.1.0; line = r.1.1.0; address = r.1.1.1 })
 
 place_back : (x : Option FaultPlace) (rest : List ℕ) → fit (words_of_place x) ≡ true → read_place (bytes_of (words_of_place x) ++ rest) ≡ Ok (x, rest)
@@ -282,7 +282,7 @@ place_tells (tag ∷ bytes) =
     (tag_if words_of_place tag 1 bytes _ _ (arm_tells words_inside read_within inside_form words_of_place 1 place_of bytes (λ r. refl))
     tt)
 
-place_form : IsForm words_of_place read_place
+pub place_form : IsForm words_of_place read_place
 place_form = record { back = place_back; tells = place_tells }
 
 pub error_form : IsForm words_of_error read_error

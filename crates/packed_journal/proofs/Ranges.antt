@@ -1,10 +1,10 @@
 -- Words that tell values of their types fit, and so do words that come one behind the other.
-use Rattle.std.proofs.Common.{◌≡◌, ℕ, ◌<◌, Bool, true, List, [], ◌∷◌, ◌++◌, length, refl, arith}
-use Rattle.std.specs.Prelude.{◌^◌, ◌&&◌, nat_lt, ℤ, pos, negsuc, flat_map}
+use Rattle.std.proofs.Common.{◌≡◌, ℕ, suc, ◌<◌, Bool, true, List, [], ◌∷◌, ◌++◌, length, refl, arith}
+use Rattle.std.specs.Prelude.{◌^◌, ◌&&◌, ◌==◌, nat_lt, slice_index, ℤ, pos, negsuc, flat_map}
 use Rattle.std.specs.List.{list_all}
-use Rattle.packed_journal.specs.Words.{Word, Number, Signed, fits}
+use Rattle.packed_journal.specs.Words.{Word, Number, Packet, Signed, fits}
 use Rattle.packed_journal.specs.Readings.{fit, words_of_list}
-use Rattle.packed_journal.proofs.NumberLaws.{both_first, both_second, is_less, less_is}
+use Rattle.packed_journal.proofs.NumberLaws.{both_first, both_second, is_less, less_is, same_is}
 use lib.Signed.{mag}
 
 pub both_hold : (a b : Bool) → a ≡ true → b ≡ true → (a && b) ≡ true
@@ -40,3 +40,12 @@ items_fit words (x ∷ xs) f =
 
 pub list_fits : {X : Type 0} (words : X → List Word) (xs : List X) → fits (Number 64 (length xs)) ≡ true → list_all (λ x. fit (words x)) xs ≡ true → fit (words_of_list words xs) ≡ true
 list_fits words xs count each = one_more (Number 64 (length xs)) (flat_map words xs) count (items_fit words xs each)
+
+-- ---- a packet's bytes
+
+pub each_below : (bytes : List ℕ) → ((at : ℕ) → slice_index bytes at < 256) → list_all (λ byte. nat_lt byte 256) bytes ≡ true
+each_below [] below = refl
+each_below (byte ∷ bytes) below = both_hold (nat_lt byte 256) (list_all (λ b. nat_lt b 256) bytes) (less_is byte 256 (below 0)) (each_below bytes (λ at. below (suc at)))
+
+pub packet_in_range : (bytes : List ℕ) → length bytes ≡ 64 → list_all (λ b. nat_lt b 256) bytes ≡ true → fits (Packet bytes) ≡ true
+packet_in_range bytes count below = both_hold (length bytes == 64) (list_all (λ b. nat_lt b 256) bytes) (same_is (length bytes) 64 count) below

@@ -1,7 +1,8 @@
 -- One step of what is written and read.
-use Rattle.std.proofs.Common.{◌≡◌, ℕ, zero, suc, ◌+◌, ◌*◌, ◌/◌, ◌%◌, Bool, true, false, List, [], ◌∷◌, ◌++◌, take, drop, Some, None, refl}
-use Rattle.std.specs.Prelude.{nat_lt, ◌==◌, if◌then◌else◌}
-use Rattle.packed_journal.specs.Words.{and_then, where_some, number_within, mask_of, words_of, is_zero, bits_of, with_low, number_in, word_at, words_at, flags_in}
+use Rattle.std.proofs.Common.{◌≡◌, ℕ, zero, suc, ◌+◌, ◌*◌, ◌/◌, ◌%◌, Bool, true, false, List, [], ◌∷◌, Some, None, refl}
+use Rattle.std.specs.Prelude.{nat_lt, ◌==◌, Ok, Err, if◌then◌else◌}
+use Rattle.packed_journal.specs.Words.{and_then, where_some, number_within, mask_of, bits_of, with_low, number_in, flags_in}
+use Rattle.packed_journal.specs.Readings.{and_read, wrong, read_word, read_words}
 
 pub within_none : (n : ℕ) → number_within zero n ≡ []
 unfolding number_within
@@ -32,37 +33,21 @@ pub in_more : (more byte : ℕ) (bytes : List ℕ) → nat_lt byte 128 ≡ false
 unfolding number_in
 in_more more byte bytes h = rw h refl
 
-pub no_mask : (bytes : List ℕ) → mask_of zero bytes ≡ 0
+pub no_mask : mask_of [] ≡ 0
 unfolding mask_of
-no_mask bytes = refl
+no_mask = refl
 
-pub mask_step : (more : ℕ) (bytes : List ℕ) → mask_of (suc more) bytes ≡ (if is_zero (take 8 bytes) then 0 else 1) + 2 * mask_of more (drop 8 bytes)
+pub mask_step : (word : ℕ) (words : List ℕ) → mask_of (word ∷ words) ≡ (if word == 0 then 0 else 1) + 2 * mask_of words
 unfolding mask_of
-mask_step more bytes = refl
+mask_step word words = refl
 
-pub no_words : (bytes : List ℕ) → words_of zero bytes ≡ []
-unfolding words_of
-no_words bytes = refl
-
-pub words_zero : (more : ℕ) (bytes : List ℕ) → is_zero (take 8 bytes) ≡ true → words_of (suc more) bytes ≡ words_of more (drop 8 bytes)
-unfolding words_of
-words_zero more bytes h = rw h refl
-
-pub words_full : (more : ℕ) (bytes : List ℕ) → is_zero (take 8 bytes) ≡ false → words_of (suc more) bytes ≡ take 8 bytes ++ words_of more (drop 8 bytes)
-unfolding words_of
-words_full more bytes h = rw h refl
-
-pub words_more : (more : ℕ) (bytes : List ℕ) → words_of (suc more) bytes ≡ (if is_zero (take 8 bytes) then [] else take 8 bytes) ++ words_of more (drop 8 bytes)
-unfolding words_of
-words_more more bytes = refl
-
-pub words_end : (mask : ℕ) (bytes : List ℕ) → words_at zero mask bytes ≡ (if mask == 0 then Some ([], bytes) else None)
-unfolding words_at
+pub words_end : (mask : ℕ) (bytes : List ℕ) → read_words zero mask bytes ≡ (if mask == 0 then Ok ([], bytes) else Err (wrong bytes))
+unfolding read_words
 words_end mask bytes = refl
 
 pub words_step : (more mask : ℕ) (bytes : List ℕ) →
-    words_at (suc more) mask bytes ≡ and_then (word_at (mask % 2) bytes) (λ word rest. and_then (words_at more (mask / 2) rest) (λ words end. Some (word ++ words, end)))
-unfolding words_at
+    read_words (suc more) mask bytes ≡ and_read (read_word (mask % 2) bytes) (λ word rest. and_read (read_words more (mask / 2) rest) (λ words end. Ok (word ∷ words, end)))
+unfolding read_words
 words_step more mask bytes = refl
 
 pub no_bits : bits_of [] ≡ 0

@@ -30,7 +30,7 @@ times_stop one all xs (suc n) bytes why so more none =
     let here : times one (suc n) bytes ≡ Err why = times_step one n bytes ∙ rw none refl in
     sym (so ∙ ap (onto xs) here)
 
-put_behind : {X : Type 0} (xs ys : List X) (x : X) (read : Read (List X)) → ys ≡ xs ++ x ∷ [] →
+pub put_behind : {X : Type 0} (xs ys : List X) (x : X) (read : Read (List X)) → ys ≡ xs ++ x ∷ [] →
     onto xs (and_read read (λ more last. Ok (x ∷ more, last))) ≡ onto ys read
 put_behind xs ys x (Err why) e = refl
 put_behind xs ys x (Ok found) e = rw e (ap (λ items. Ok (items, found.1)) (sym (append_assoc xs (x ∷ []) found.0)))

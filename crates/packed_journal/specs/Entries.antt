@@ -18,7 +18,7 @@ use Rattle.core_model.specs.declared.entry.Effect.{Effect}
 use Rattle.core_model.specs.declared.entry.Effect.TheVariants as effect
 use Rattle.core_model.specs.declared.entry.Entry.{Entry}
 use Rattle.packed_journal.specs.declared.entry_writing.Unwritten.{Unwritten}
-use Rattle.packed_journal.specs.declared.entry_writing.Unwritten.TheVariants.{NoForm, OutOfMemory}
+use Rattle.packed_journal.specs.declared.entry_writing.Unwritten.TheVariants.{NoForm, OutOfMemory, TooMany}
 use Rattle.packed_journal.specs.Words.{Word, Tag, Number, Signed, Bytes, Packet, Flags, Digest}
 use Rattle.packed_journal.specs.Readings.{Read, wrong, and_read, made, both, bytes_of, read_tag, read_number, read_signed, read_bytes, read_packet, read_flags, read_digest, words_of_list, read_list}
 use Rattle.packed_journal.specs.Parts.{words_of_client, read_client, words_of_packet, read_queue, read_packet_named, words_of_rights_on, read_rights_on, words_of_rows, read_rows, words_of_operation, read_operation, words_of_error, read_error, named}
@@ -259,8 +259,9 @@ event_has_form (event.Reload rows) = name_six rows.allows && name_six rows.denie
 abbrev pub has_form : Entry → Bool
 has_form entry = event_has_form entry.event
 
--- a writer told that an entry has a form
-abbrev pub told_form : {A : Type 0} → Result A Unwritten → Bool
-told_form (Ok done) = true
-told_form (Err OutOfMemory) = true
-told_form (Err NoForm) = false
+-- why an entry isn't written, but for want of memory
+abbrev pub refused : {A : Type 0} → Result A Unwritten → Option Unwritten
+refused (Ok done) = None
+refused (Err OutOfMemory) = None
+refused (Err NoForm) = Some NoForm
+refused (Err TooMany) = Some TooMany

@@ -1,10 +1,11 @@
 -- What is read at the front of some bytes, or why nothing is; and the words of a journal, read so (own).
-use Rattle.std.specs.Prelude.{ℕ, zero, suc, ◌+◌, ◌*◌, ◌/◌, ◌%◌, nat_lt, nat_le, ◌==◌, ℤ, Bool, true, ◌&&◌, List, [], ◌∷◌, length, flat_map, Some, None, Result, Ok, Err, if◌then◌else◌}
+use Rattle.std.specs.Prelude.{ℕ, zero, suc, ◌/◌, ◌%◌, nat_lt, nat_le, ◌==◌, ℤ, Bool, true, ◌&&◌, List, [], ◌∷◌, length, flat_map, Some, None, Result, Ok, Err, if◌then◌else◌}
 use Rattle.std.specs.List.{list_all}
 use denote.Ref.{Bor}
+use Rattle.aql_packet.specs.Words.{bytes_of as packet_of}
 use Rattle.packed_journal.specs.declared.unread.Unread.{Unread}
 use Rattle.packed_journal.specs.declared.unread.Unread.TheVariants.{Ended, Wrong}
-use Rattle.packed_journal.specs.Words.{Word, Number, Reading, packed, fits, byte_at, number_at, signed_at, split_at, packet_at, flags_at, digest_at}
+use Rattle.packed_journal.specs.Words.{Word, Number, Reading, packed, fits, byte_at, number_at, signed_at, split_at, flags_at, digest_at}
 
 -- the bytes of some words, one behind the other
 abbrev pub bytes_of : List Word → List ℕ
@@ -68,19 +69,6 @@ go_on bytes = list_all (λ byte. nat_le 128 byte) bytes
 abbrev pub unread_number : List ℕ → Unread
 unread_number bytes = if nat_lt (length bytes) 10 && go_on bytes then Ended else wrong bytes
 
--- how many of the words of a packet aren't zero, by their bits
-abbrev pub ones : ℕ → ℕ
-ones mask = mask % 2 + mask / 2 % 2 + mask / 4 % 2 + mask / 8 % 2 + mask / 16 % 2 + mask / 32 % 2 + mask / 64 % 2 + mask / 128 % 2
-
--- bytes end before all words of a packet whose bits are set
-abbrev pub ends_in_packet : List ℕ → Bool
-ends_in_packet [] = true
-ends_in_packet (mask ∷ words) = nat_lt (length words) (8 * ones mask)
-
--- why no packet is read: the bytes end within it, or a word is zero whose bit is set
-abbrev pub unread_packet : List ℕ → Unread
-unread_packet bytes = if ends_in_packet bytes then Ended else wrong bytes
-
 -- why no flags are read: the bytes end before them, or a sixth bit is set
 abbrev pub unread_flags : List ℕ → Unread
 unread_flags bytes = if length bytes == 0 then Ended else wrong bytes
@@ -97,14 +85,31 @@ read_signed bytes = unless_read (unread_number bytes) (signed_at bytes)
 abbrev pub read_bytes : List ℕ → Read (List ℕ)
 read_bytes bytes = and_read (read_number 64 bytes) (λ n rest. unless_read Ended (split_at n rest))
 
-abbrev pub read_packet : List ℕ → Read (List ℕ)
-read_packet bytes = unless_read (unread_packet bytes) (packet_at bytes)
-
 abbrev pub read_flags : List ℕ → Read (List Bool)
 read_flags bytes = unless_read (unread_flags bytes) (flags_at bytes)
 
 abbrev pub read_digest : List ℕ → Read (List ℕ)
 read_digest bytes = unless_read Ended (digest_at bytes)
+
+-- ---- packets
+
+-- a number that isn't zero
+abbrev pub read_full : List ℕ → Read ℕ
+read_full bytes = and_read (read_number 64 bytes) (λ word rest. if word == 0 then Err (wrong bytes) else Ok (word, rest))
+
+-- a word of a packet, of its bit
+abbrev pub read_word : ℕ → List ℕ → Read ℕ
+read_word bit bytes = if bit == 0 then Ok (0, bytes) else read_full bytes
+
+-- so many words of a packet, of their bits, and no further bit
+unfoldable pub read_words : ℕ → ℕ → List ℕ → Read (List ℕ)
+read_words zero mask bytes = if mask == 0 then Ok ([], bytes) else Err (wrong bytes)
+read_words (suc more) mask bytes =
+    and_read (read_word (mask % 2) bytes) (λ word rest. and_read (read_words more (mask / 2) rest) (λ words end. Ok (word ∷ words, end)))
+
+-- a packet's 64 bytes
+abbrev pub read_packet : List ℕ → Read (List ℕ)
+read_packet bytes = made packet_of (and_read (read_tag bytes) (read_words 8))
 
 -- ---- lists
 

@@ -1,14 +1,15 @@
 -- The words of a journal: how each is packed into bytes, which fit, and what bytes are read as (own).
-use Rattle.std.specs.Prelude.{ℕ, zero, suc, ◌+◌, ◌-◌, ◌*◌, ◌/◌, ◌%◌, ◌^◌, nat_lt, nat_le, ◌==◌, ℤ, pos, negsuc, Bool, true, ◌&&◌, List, [], ◌∷◌, ◌++◌, length, take, drop, Option, Some, None, option_map, Result, is_ok, if◌then◌else◌}
-use Rattle.std.specs.List.{list_all}
+use Rattle.std.specs.Prelude.{ℕ, zero, suc, ◌+◌, ◌-◌, ◌*◌, ◌/◌, ◌%◌, ◌^◌, nat_lt, nat_le, ◌==◌, ℤ, pos, negsuc, Bool, true, ◌&&◌, List, [], ◌∷◌, ◌++◌, length, take, drop, flat_map, Option, Some, None, option_map, Result, is_ok, if◌then◌else◌}
 use denote.Ref.{Bor}
+use Rattle.aql_packet.specs.Layout.{are_64_bytes}
+use Rattle.aql_packet.specs.Words.{words_of}
 
 -- what a word tells:
 -- Tag t: which of several forms follows, a byte
 -- Number b n: a number of b bits, at most 64
 -- Signed z: a signed number of 64 bits
 -- Bytes bs: bytes in order, behind their count
--- Packet bs: a packet's 64 bytes
+-- Packet bs: a packet's 64 bytes, as eight words of 64 bits
 -- Flags fs: five flags, a byte
 -- Digest bs: a digest's 32 bytes
 pub data Word : Type 0 where
@@ -36,19 +37,18 @@ abbrev pub zigzag : ℤ → ℕ
 zigzag (pos n) = 2 * n
 zigzag (negsuc n) = 2 * n + 1
 
--- a word of a packet has eight bytes, which are all zero in some
-abbrev pub is_zero : List ℕ → Bool
-is_zero word = list_all (λ byte. byte == 0) word
+-- which of a packet's words aren't zero: a bit each, that of the first the lowest
+unfoldable pub mask_of : List ℕ → ℕ
+mask_of [] = 0
+mask_of (word ∷ words) = (if word == 0 then 0 else 1) + 2 * mask_of words
 
--- which of so many words aren't zero: a bit each, that of the first the lowest
-unfoldable pub mask_of : ℕ → List ℕ → ℕ
-mask_of zero bytes = 0
-mask_of (suc more) bytes = (if is_zero (take 8 bytes) then 0 else 1) + 2 * mask_of more (drop 8 bytes)
+-- a packet's word, unless it is zero
+abbrev pub packed_full : ℕ → List ℕ
+packed_full word = if word == 0 then [] else packed_number word
 
--- those of so many words that aren't zero
-unfoldable pub words_of : ℕ → List ℕ → List ℕ
-words_of zero bytes = []
-words_of (suc more) bytes = (if is_zero (take 8 bytes) then [] else take 8 bytes) ++ words_of more (drop 8 bytes)
+-- those of a packet's words that aren't zero
+abbrev pub packed_words : List ℕ → List ℕ
+packed_words words = flat_map packed_full words
 
 -- flags as a number: a bit each, that of the first the lowest
 unfoldable pub bits_of : List Bool → ℕ
@@ -60,7 +60,7 @@ packed (Tag t) = t ∷ []
 packed (Number bits n) = packed_number n
 packed (Signed z) = packed_number (zigzag z)
 packed (Bytes bs) = packed_number (length bs) ++ bs
-packed (Packet bs) = mask_of 8 bs ∷ words_of 8 bs
+packed (Packet bs) = mask_of (words_of bs) ∷ packed_words (words_of bs)
 packed (Flags fs) = bits_of fs ∷ []
 packed (Digest bs) = bs
 
@@ -81,7 +81,7 @@ fits (Tag t) = true
 fits (Number bits n) = nat_lt n (2 ^ bits) && nat_lt n (2 ^ 64)
 fits (Signed z) = is_signed z
 fits (Bytes bs) = nat_lt (length bs) (2 ^ 64)
-fits (Packet bs) = length bs == 64
+fits (Packet bs) = are_64_bytes bs
 fits (Flags fs) = length fs == 5
 fits (Digest bs) = length bs == 32
 
@@ -134,24 +134,6 @@ signed_at bytes = and_then (number_at 64 bytes) (λ n rest. Some (signed_of n, r
 -- so many bytes
 abbrev pub split_at : ℕ → List ℕ → Reading (List ℕ)
 split_at n bytes = if nat_le n (length bytes) then Some (take n bytes, drop n bytes) else None
-
--- a word that isn't zero
-abbrev pub if_full : List ℕ → List ℕ → Reading (List ℕ)
-if_full word rest = if is_zero word then None else Some (word, rest)
-
--- a word of a packet: of its bit, and of the bytes where that is set
-abbrev pub word_at : ℕ → List ℕ → Reading (List ℕ)
-word_at bit bytes = if bit == 0 then Some (0 ∷ 0 ∷ 0 ∷ 0 ∷ 0 ∷ 0 ∷ 0 ∷ 0 ∷ [], bytes) else and_then (split_at 8 bytes) if_full
-
--- so many words of a packet, of their bits, and no further bit
-unfoldable pub words_at : ℕ → ℕ → List ℕ → Reading (List ℕ)
-words_at zero mask bytes = if mask == 0 then Some ([], bytes) else None
-words_at (suc more) mask bytes =
-    and_then (word_at (mask % 2) bytes) (λ word rest. and_then (words_at more (mask / 2) rest) (λ words end. Some (word ++ words, end)))
-
--- a packet's bytes
-abbrev pub packet_at : List ℕ → Reading (List ℕ)
-packet_at bytes = and_then (byte_at bytes) (words_at 8)
 
 -- so many flags, of their bits
 unfoldable pub flags_in : ℕ → ℕ → List Bool

@@ -1,16 +1,18 @@
 //! Entries as they are written.
 
-ghost use Rattle.std.specs.Prelude.{◌≡◌, ◌++◌, ◌+◌, ◌∷◌, ◌≤◌, [], vec_capacity, vec_len};
+ghost use Rattle.std.specs.Prelude.{◌≡◌, ◌++◌, ◌+◌, ◌∷◌, ◌≤◌, [], Some, None, if◌then◌else◌, vec_capacity, vec_len};
 ghost use Rattle.packed_journal.specs.Words.{Flags, appended, packed, packed_number, zigzag};
 ghost use Rattle.packed_journal.specs.Parts.{words_of_error, words_of_packet, words_of_rights_on};
 ghost use Rattle.packed_journal.specs.Readings.{bytes_of, words_of_list};
-ghost use Rattle.packed_journal.specs.Entries.{are_six, form_of_entry, has_form, name_six, number_of_cause, told_form, words_of_call, words_of_effect, words_of_event, words_of_outcome};
+ghost use Rattle.packed_journal.specs.Entries.{are_six, form_of_entry, has_form, name_six, number_of_cause, refused, words_of_call, words_of_effect, words_of_event, words_of_outcome};
+ghost use Rattle.packed_journal.specs.declared.entry_writing.Unwritten.TheVariants.{NoForm};
 ghost use Rattle.core_model.specs.declared.call.Call.TheVariants as calls;
 ghost use Rattle.core_model.specs.declared.event.Event.TheVariants as events;
 ghost use Rattle.core_model.specs.declared.entry.Effect.TheVariants as effects;
 
 use crate::numbers::{put_number, put_signed, write_number, write_tag};
-use crate::parts::{undone, write_bytes, write_digest, write_flags, write_packet};
+use crate::packets::write_packet;
+use crate::parts::{undone, write_bytes, write_digest, write_flags};
 use crate::writing::{
     put_error, put_operation, put_packet_named, put_rights_on, put_tagged, put_tagged_signed,
     write_rows,
@@ -32,6 +34,8 @@ pub enum Unwritten {
     OutOfMemory,
     /// It has no form: it names rights beyond the six, which no policy, script or call through C can.
     NoForm,
+    /// Its number in a journal, or the next one's, would have more than 64 bits.
+    TooMany,
 }
 
 // Puts a tag and two numbers.
@@ -389,7 +393,7 @@ fn name_six(rows: &[RightsRow]) -> bool
 }
 
 // Whether an entry has a form: all rights that it names are of the six.
-fn has_form(entry: &Entry) -> bool
+pub(crate) fn has_form(entry: &Entry) -> bool
     ensures { result ≡ has_form entry.now }
 {
     match &entry.event {
@@ -405,7 +409,7 @@ fn has_form(entry: &Entry) -> bool
 /// other entry keeps. Where it isn't written nothing changes: it is refused where it has no form, else for want of memory alone.
 pub fn write_entry(out: &mut Vec<u8>, entry: &Entry, policy: &[u8; 32]) -> Result<(), Unwritten>
     ensures form { out.new.items ≡ appended result out.old.items (form_of_entry entry.now policy.now) }
-    ensures told { told_form result ≡ has_form entry.now }
+    ensures told { refused result ≡ (if has_form entry.now then None else Some NoForm) }
 {
     if !has_form(entry) {
         return Err(Unwritten::NoForm);

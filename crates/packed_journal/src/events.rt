@@ -4,12 +4,11 @@ ghost use Rattle.std.specs.Prelude.{◌≡◌, IfOk};
 ghost use Rattle.packed_journal.specs.Readings.{reads};
 ghost use Rattle.packed_journal.specs.Entries.{read_change, read_close, read_event, read_finish, read_grant, read_open, read_plain, read_poll, read_reload, read_revoke, read_run, read_stop, read_take, read_write};
 
+use crate::packets::read_packet;
 use crate::reading::{
     read_client, read_operation, read_packet_named, read_queue, read_rights_on, read_rows,
 };
-use crate::unread::{
-    Unread, read_bytes, read_digest, read_number, read_packet, read_small, read_tag, wrong,
-};
+use crate::unread::{Unread, read_bytes, read_digest, read_number, read_small, read_tag, wrong};
 use aql_packet::{Address, AgentHandle, SignalHandle};
 use core_model::{Call, Event};
 use sequences::Sequence;

@@ -1,7 +1,7 @@
 //! What is told of an entry fits, whatever entry a program has that names the six rights alone: each number has the bits of its
 //! type. None of these functions does anything: each is called for what it promises.
 
-ghost use Rattle.std.specs.Prelude.{◌≡◌, ◌++◌, ◌&&◌, List, Ok, true, ℕ};
+ghost use Rattle.std.specs.Prelude.{◌≡◌, ◌++◌, ◌&&◌, List, Ok, nat_lt, true, ℕ};
 ghost use Rattle.std.specs.List.{list_all};
 ghost use Rattle.policy.specs.declared.row.RightsRow.{RightsRow};
 ghost use Rattle.core_model.specs.declared.entry.Effect.{Effect};
@@ -44,10 +44,19 @@ fn bytes_fit(_bytes: &[u8])
     ensures { fits (Bytes _bytes.now) ≡ true }
 {}
 
+// Each of some bytes is one.
+fn each_fits(bytes: &[u8])
+    ensures { list_all (λ byte. nat_lt byte 256) bytes.now ≡ true }
+{
+    let _ = bytes.len();
+}
+
 // A packet's 64 bytes.
-fn packet_fits(_bytes: &[u8; 64])
-    ensures { fits (Packet _bytes.now) ≡ true }
-{}
+fn packet_fits(bytes: &[u8; 64])
+    ensures { fits (Packet bytes.now) ≡ true }
+{
+    each_fits(bytes);
+}
 
 // A digest's 32 bytes.
 fn digest_fits(_bytes: &[u8; 32])

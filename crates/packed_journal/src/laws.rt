@@ -3,8 +3,8 @@
 ghost use Rattle.std.specs.Prelude.{◌≡◌, ◌++◌, ℕ, ℤ, Bool, List, Ok, Option, [], true, Some};
 ghost use Rattle.std.specs.Option.{unwrap_or};
 ghost use Rattle.core_model.specs.declared.entry.Entry.{Entry};
-ghost use Rattle.packed_journal.specs.Words.{Number, Signed, Bytes, Packet, Flags, Digest, fits, packed, number_at, signed_at, packet_at, flags_at, digest_at};
-ghost use Rattle.packed_journal.specs.Readings.{fit, read_bytes};
+ghost use Rattle.packed_journal.specs.Words.{Number, Signed, Bytes, Packet, Flags, Digest, fits, packed, number_at, signed_at, flags_at, digest_at};
+ghost use Rattle.packed_journal.specs.Readings.{fit, read_bytes, read_packet};
 ghost use Rattle.packed_journal.specs.Entries.{form_of_entry, kept_policy, read_entry, words_of_entry};
 
 /// What was written of a word that fits is read as what it tells, whatever stands behind it. It does nothing.
@@ -12,7 +12,7 @@ pub fn law_written_words_are_read()
     ensures number { (bits n : ℕ) (rest : List ℕ) → fits (Number bits n) ≡ true → number_at bits (packed (Number bits n) ++ rest) ≡ Some (n, rest) }
     ensures signed { (z : ℤ) (rest : List ℕ) → fits (Signed z) ≡ true → signed_at (packed (Signed z) ++ rest) ≡ Some (z, rest) }
     ensures bytes { (bytes rest : List ℕ) → fits (Bytes bytes) ≡ true → read_bytes (packed (Bytes bytes) ++ rest) ≡ Ok (bytes, rest) }
-    ensures packet { (bytes rest : List ℕ) → fits (Packet bytes) ≡ true → packet_at (packed (Packet bytes) ++ rest) ≡ Some (bytes, rest) }
+    ensures packet { (bytes rest : List ℕ) → fits (Packet bytes) ≡ true → read_packet (packed (Packet bytes) ++ rest) ≡ Ok (bytes, rest) }
     ensures flags { (flags : List Bool) (rest : List ℕ) → fits (Flags flags) ≡ true → flags_at (packed (Flags flags) ++ rest) ≡ Some (flags, rest) }
     ensures digest { (bytes rest : List ℕ) → fits (Digest bytes) ≡ true → digest_at (packed (Digest bytes) ++ rest) ≡ Some (bytes, rest) }
 {}
@@ -22,7 +22,7 @@ pub fn law_read_words_are_written()
     ensures number { (bits n : ℕ) (bytes rest : List ℕ) → number_at bits bytes ≡ Some (n, rest) → bytes ≡ packed (Number bits n) ++ rest }
     ensures signed { (z : ℤ) (bytes rest : List ℕ) → signed_at bytes ≡ Some (z, rest) → bytes ≡ packed (Signed z) ++ rest }
     ensures bytes { (read bytes rest : List ℕ) → read_bytes bytes ≡ Ok (read, rest) → bytes ≡ packed (Bytes read) ++ rest }
-    ensures packet { (read bytes rest : List ℕ) → packet_at bytes ≡ Some (read, rest) → bytes ≡ packed (Packet read) ++ rest }
+    ensures packet { (read bytes rest : List ℕ) → read_packet bytes ≡ Ok (read, rest) → bytes ≡ packed (Packet read) ++ rest }
     ensures flags { (flags : List Bool) (bytes rest : List ℕ) → flags_at bytes ≡ Some (flags, rest) → bytes ≡ packed (Flags flags) ++ rest }
     ensures digest { (read bytes rest : List ℕ) → digest_at bytes ≡ Some (read, rest) → bytes ≡ packed (Digest read) ++ rest }
 {}

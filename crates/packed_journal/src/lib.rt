@@ -2,16 +2,21 @@
 //! of them.
 #![tactic(auto)]
 
-#[cfg(test)]
-mod entry_tests;
+mod chains;
 mod entry_writing;
 mod events;
 mod fitting;
+mod heads;
+mod journal_laws;
+mod journal_reading;
+mod journal_writing;
 mod laws;
 mod numbers;
 mod outcomes;
+mod packets;
 mod parts;
 mod reading;
+mod stepping;
 #[cfg(test)]
 mod tests;
 mod unread;
@@ -19,14 +24,23 @@ mod writing;
 
 pub use entry_writing::{Unwritten, write_entry};
 pub use fitting::entry_is_read_back;
+pub use heads::{Head, read_head};
+pub use journal_laws::{
+    law_blocks_end_where_they_are_full, law_read_journals_are_written,
+    law_written_journals_are_read,
+};
+pub use journal_reading::JournalReader;
+pub use journal_writing::JournalWriter;
 pub use laws::{
     law_read_entries_are_written, law_read_words_are_written, law_written_entries_are_read,
     law_written_words_are_read,
 };
 pub use numbers::{write_number, write_signed, write_tag};
 pub use outcomes::read_entry;
-pub use parts::{write_bytes, write_digest, write_flags, write_packet};
+pub use packets::{read_packet, write_packet};
+pub use parts::{write_bytes, write_digest, write_flags};
+pub use stepping::{Halt, Headless, Step};
 pub use unread::{
-    Unread, read_bytes, read_digest, read_flags, read_number, read_packet, read_signed, read_small,
-    read_tag, read_tiny,
+    Unread, read_bytes, read_digest, read_flags, read_number, read_signed, read_small, read_tag,
+    read_tiny,
 };

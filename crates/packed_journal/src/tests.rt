@@ -1,34 +1,41 @@
-//! Words as bytes, written by hand from the form's definition.
+//! Words and entries as bytes, written by hand from the form's definition.
 
 use crate::{
-    Unread, read_bytes, read_digest, read_flags, read_number, read_packet, read_signed, read_small,
-    read_tag, read_tiny, write_bytes, write_digest, write_flags, write_number, write_packet,
-    write_signed, write_tag,
+    Unread, law_read_entries_are_written, law_read_words_are_written, law_written_entries_are_read,
+    law_written_words_are_read, read_bytes, read_digest, read_entry, read_flags, read_number,
+    read_packet, read_signed, read_small, read_tag, read_tiny, write_bytes, write_digest,
+    write_entry, write_flags, write_number, write_packet, write_signed, write_tag,
 };
 use std::alloc::{AllocError, Global};
 use std::test::*;
 
 // The tag 8; 300, which is 2 * 128 + 44; -2; the byte 90; a packet of whose eight words the first (7) and the last (9 in
 // its highest byte) aren't zero; and the second and the fifth of five flags.
-const WORDS: [u8; 24] = [
-    8, 172, 2, 3, 1, 90, 129, 7, 0, 0, 0, 0, 0, 0, 0, 0, 0, 0, 0, 0, 0, 0, 9, 18,
+const WORDS: [u8; 18] = [
+    8, 172, 2, 3, 1, 90, 129, 7, 128, 128, 128, 128, 128, 128, 128, 128, 9, 18,
 ];
 
-// A number that isn't in its least form, one above 64 bits, rights above 63, a word of a packet that is zero though its
-// bit is set, a sixth flag, and bytes of which one is missing.
-const LONG: [u8; 2] = [129, 0];
+// Packet 0 of queue 1, a FILL of 4 bytes 90 at 4294967296 with completion signal 1, is taken and launched: of its eight words
+// the first, the third to the fifth, and the last aren't zero.
+const TAKE: [u8; 19] = [
+    2, 1, 0, 157, 132, 168, 128, 128, 8, 128, 128, 128, 128, 16, 4, 90, 1, 2, 0,
+];
 
-const LARGE: [u8; 10] = [128, 128, 128, 128, 128, 128, 128, 128, 128, 2];
+// Queue 1 is closed, and its packet 0 released; WRITE on region 1 is taken from client 1; client 1 opens queue 2 of two slots on
+// agent 1.
+const CLOSE: [u8; 7] = [6, 1, 0, 1, 2, 1, 0];
 
-const RIGHTS: [u8; 1] = [64];
+const REVOKE: [u8; 7] = [4, 1, 1, 1, 4, 0, 0];
 
-const ZERO: [u8; 9] = [1, 0, 0, 0, 0, 0, 0, 0, 0];
+const OPEN: [u8; 7] = [1, 1, 1, 2, 1, 2, 0];
 
-const FLAGS: [u8; 1] = [32];
+// Policy 7, 7 .. is put in force, which allows anyone READ and WRITE on each region, and denies nothing.
+const RELOAD: [u8; 41] = [
+    12, 7, 7, 7, 7, 7, 7, 7, 7, 7, 7, 7, 7, 7, 7, 7, 7, 7, 7, 7, 7, 7, 7, 7, 7, 7, 7, 7, 7, 7, 7,
+    7, 7, 1, 0, 0, 1, 6, 0, 0, 0,
+];
 
-const SHORT: [u8; 2] = [2, 90];
-
-// The packet of these words.
+// The packet of the words.
 fn packet() -> [u8; 64] {
     let mut packet = [0; 64];
     packet[0] = 7;
@@ -37,15 +44,13 @@ fn packet() -> [u8; 64] {
 }
 
 // The words, written by the calls.
-fn written(alloc: Global) -> Result<Vec<u8>, AllocError> {
-    let mut out = Vec::new(alloc);
-    write_tag(&mut out, 8)?;
-    write_number(&mut out, 300)?;
-    write_signed(&mut out, -2)?;
-    write_bytes(&mut out, &[90])?;
-    write_packet(&mut out, &packet())?;
-    write_flags(&mut out, &[false, true, false, false, true])?;
-    Ok(out)
+fn write_words(out: &mut Vec<u8>) -> Result<(), AllocError> {
+    write_tag(out, 8)?;
+    write_number(out, 300)?;
+    write_signed(out, -2)?;
+    write_bytes(out, &[90])?;
+    write_packet(out, &packet())?;
+    write_flags(out, &[false, true, false, false, true])
 }
 
 // Whether the words are read as what they tell.
@@ -72,22 +77,34 @@ fn are_flags(bytes: &[u8]) -> Result<bool, Unread> {
     Ok(read.0 == wanted && read.1.is_empty())
 }
 
-#[test]
-fn words_are_written_as_by_hand(rt: HostRuntime) -> Result<(), Fail> {
-    assert!(rt; written(rt.alloc())?.as_slice() == WORDS.as_slice());
+// Writes the entry that some bytes are read as, or nothing.
+fn write_again(alloc: Global, out: &mut Vec<u8>, bytes: &[u8]) -> Result<(), AllocError> {
+    if let Ok(((entry, policy), _)) = read_entry(alloc, bytes)? {
+        let _written = write_entry(out, &entry, &policy.unwrap_or([0; 32]));
+    }
     Ok(())
 }
 
-// A digest, written.
-fn written_digest(alloc: Global) -> Result<Vec<u8>, AllocError> {
+// Whether bytes are read as an entry that is written so.
+fn is_entry(alloc: Global, bytes: &[u8]) -> Result<bool, AllocError> {
     let mut out = Vec::new(alloc);
-    write_digest(&mut out, &[7; 32])?;
-    Ok(out)
+    write_again(alloc, &mut out, bytes)?;
+    Ok(out.as_slice() == bytes)
+}
+
+#[test]
+fn words_are_written_as_by_hand(rt: HostRuntime) -> Result<(), Fail> {
+    let mut out = Vec::new(rt.alloc());
+    write_words(&mut out)?;
+    assert!(rt; out.as_slice() == WORDS.as_slice());
+    Ok(())
 }
 
 #[test]
 fn a_digest_is_written_as_it_is(rt: HostRuntime) -> Result<(), Fail> {
-    assert!(rt; written_digest(rt.alloc())?.as_slice() == [7; 32].as_slice());
+    let mut out = Vec::new(rt.alloc());
+    write_digest(&mut out, &[7; 32])?;
+    assert!(rt; out.as_slice() == [7; 32].as_slice());
     Ok(())
 }
 
@@ -101,32 +118,20 @@ fn words_are_read_as_by_hand(rt: HostRuntime) -> Result<(), Fail> {
 }
 
 #[test]
-fn other_bytes_are_refused(rt: HostRuntime) -> Result<(), Fail> {
-    assert!(rt; is_wrong(read_number(&LONG).err(), 2));
-    assert!(rt; is_wrong(read_number(&LARGE).err(), 10));
-    assert!(rt; is_wrong(read_tiny(&RIGHTS).err(), 1));
-    assert!(rt; is_wrong(read_packet(&ZERO).err(), 9));
-    assert!(rt; is_wrong(read_flags(&FLAGS).err(), 1));
+fn entries_are_read_and_written_as_by_hand(rt: HostRuntime) -> Result<(), Fail> {
+    assert!(rt; is_entry(rt.alloc(), &TAKE)?);
+    assert!(rt; is_entry(rt.alloc(), &CLOSE)?);
+    assert!(rt; is_entry(rt.alloc(), &REVOKE)?);
+    assert!(rt; is_entry(rt.alloc(), &OPEN)?);
+    assert!(rt; is_entry(rt.alloc(), &RELOAD)?);
     Ok(())
 }
 
 #[test]
-fn bytes_that_end_are_told(rt: HostRuntime) -> Result<(), Fail> {
-    assert!(rt; has_ended(read_tag(&[]).err()));
-    assert!(rt; has_ended(read_number(&[172]).err()));
-    assert!(rt; has_ended(read_bytes(&SHORT).err()));
-    assert!(rt; has_ended(read_packet(&[129, 7]).err()));
-    assert!(rt; has_ended(read_flags(&[]).err()));
-    assert!(rt; has_ended(read_digest(&[7; 31]).err()));
+fn laws_do_nothing(_rt: HostRuntime) -> Result<(), Fail> {
+    law_written_words_are_read();
+    law_read_words_are_written();
+    law_written_entries_are_read();
+    law_read_entries_are_written();
     Ok(())
-}
-
-// Whether a word wasn't read, of which so many bytes are left.
-fn is_wrong(told: Option<Unread>, left: u64) -> bool {
-    told == Some(Unread::Wrong(left))
-}
-
-// Whether bytes ended within a word.
-fn has_ended(told: Option<Unread>) -> bool {
-    told == Some(Unread::Ended)
 }

@@ -3,10 +3,10 @@
 ghost use Rattle.std.specs.Prelude.{◌≡◌};
 ghost use Rattle.packed_journal.specs.declared.unread.Unread.TheVariants.{Ended};
 ghost use Rattle.packed_journal.specs.Words.{split_at};
-ghost use Rattle.packed_journal.specs.Readings.{reads, reads_there, unless_read, wrong, go_on, unread_number, ones, ends_in_packet, unread_packet, unread_flags, read_tag, read_number, read_signed, read_bytes, read_packet, read_flags, read_digest};
+ghost use Rattle.packed_journal.specs.Readings.{reads, reads_there, unless_read, wrong, go_on, unread_number, unread_flags, read_tag, read_number, read_signed, read_bytes, read_flags, read_digest};
 
 use crate::numbers::{byte_at, number_at, signed_at, small_at, tiny_at};
-use crate::parts::{digest_at, flags_at, packet_at, split_at};
+use crate::parts::{digest_at, flags_at, split_at};
 
 /// Why no such thing is read at the front of some bytes.
 #[derive(Clone, Copy, Debug, PartialEq, Eq)]
@@ -36,41 +36,6 @@ fn unread_number(bytes: &[u8]) -> Unread
     ensures { result ≡ unread_number bytes.now }
 {
     if bytes.len() < 10 && go_on(bytes) {
-        Unread::Ended
-    } else {
-        wrong(bytes)
-    }
-}
-
-// How many words of a packet aren't zero, by their bits.
-fn ones(mask: u8) -> u64
-    ensures { result ≡ ones mask }
-{
-    (mask % 2) as u64
-        + (mask / 2 % 2) as u64
-        + (mask / 4 % 2) as u64
-        + (mask / 8 % 2) as u64
-        + (mask / 16 % 2) as u64
-        + (mask / 32 % 2) as u64
-        + (mask / 64 % 2) as u64
-        + (mask / 128 % 2) as u64
-}
-
-// Whether bytes end before all words of a packet whose bits are set.
-fn ends_in_packet(bytes: &[u8]) -> bool
-    ensures { result ≡ ends_in_packet bytes.now }
-{
-    match byte_at(bytes) {
-        None => true,
-        Some((mask, words)) => (words.len() as u64) < 8 * ones(mask),
-    }
-}
-
-// Why no packet is read.
-fn unread_packet(bytes: &[u8]) -> Unread
-    ensures { result ≡ unread_packet bytes.now }
-{
-    if ends_in_packet(bytes) {
         Unread::Ended
     } else {
         wrong(bytes)
@@ -154,16 +119,6 @@ pub fn read_bytes(bytes: &[u8]) -> Result<(&[u8], &[u8]), Unread>
 {
     let (count, rest) = read_number(bytes)?;
     read_split(count, rest)
-}
-
-/// Reads a packet's 64 bytes.
-pub fn read_packet(bytes: &[u8]) -> Result<([u8; 64], &[u8]), Unread>
-    ensures { reads result ≡ read_packet bytes.now }
-{
-    match packet_at(bytes) {
-        Some(read) => Ok(read),
-        None => Err(unread_packet(bytes)),
-    }
 }
 
 /// Reads five flags.

@@ -1,6 +1,7 @@
-use Rattle.packed_journal.specs.Words.{Flags, Packet, flags_at, number_at, packed, packed_number, packet_at, signed_at, zigzag}
+use Rattle.packed_journal.specs.Words.{Flags, flags_at, number_at, packed, packed_number, signed_at, zigzag}
 use Rattle.packed_journal.proofs.NumberLaws.{number_tells, signed_tells}
-use Rattle.packed_journal.proofs.PartLaws.{digest_told, flags_tells, packet_tells}
+use Rattle.packed_journal.proofs.PartLaws.{digest_told, flags_tells}
+use Rattle.packed_journal.proofs.PacketForms.{packet_told}
 use Rattle.packed_journal.proofs.Forms.{bytes_told}
 use Rattle.packed_journal.proofs.Tells.{told}
 use Rattle.packed_journal.proofs.laws.law_read_words_are_written.Goals as goal
@@ -15,7 +16,7 @@ pub returns-clause-bytes : goal.returns-clause-bytes
 returns-clause-bytes c read bytes rest e = bytes_told read bytes rest e
 
 pub returns-clause-packet : goal.returns-clause-packet
-returns-clause-packet c read bytes rest e = told (λ read. packed (Packet read)) bytes (packet_at bytes) read rest (packet_tells bytes) e
+returns-clause-packet c read bytes rest e = packet_told bytes read rest e
 
 pub returns-clause-flags : goal.returns-clause-flags
 returns-clause-flags c flags bytes rest e = told (λ flags. packed (Flags flags)) bytes (flags_at bytes) flags rest (flags_tells bytes) e

@@ -1,5 +1,6 @@
 use Rattle.packed_journal.proofs.NumberLaws.{number_read, signed_read}
-use Rattle.packed_journal.proofs.PartLaws.{packet_read, flags_read, digest_read}
+use Rattle.packed_journal.proofs.PartLaws.{flags_read, digest_read}
+use Rattle.packed_journal.proofs.PacketForms.{packet_back}
 use Rattle.packed_journal.proofs.Forms.{bytes_back}
 use Rattle.packed_journal.proofs.laws.law_written_words_are_read.Goals as goal
 
@@ -13,7 +14,7 @@ pub returns-clause-bytes : goal.returns-clause-bytes
 returns-clause-bytes c bytes rest f = bytes_back bytes rest f
 
 pub returns-clause-packet : goal.returns-clause-packet
-returns-clause-packet c bytes rest f = packet_read bytes rest f
+returns-clause-packet c bytes rest f = packet_back bytes rest f
 
 pub returns-clause-flags : goal.returns-clause-flags
 returns-clause-flags c flags rest f = flags_read flags rest f
