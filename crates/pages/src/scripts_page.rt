@@ -57,7 +57,7 @@ Clients and objects go by their names in the policy; a name that isn't there sta
 | `revoke CLIENT KIND NAME RIGHT,RIGHT` | takes them back | `ok` |
 | `queue CLIENT AGENT SIZE PRODUCERS` | opens a queue with its ring: 2 to 4,096 slots, a power of two; 1 to 16 producers | `queue Q` |
 | `stop Q` | stops a queue | `ok` |
-| `close Q` | closes a queue: what it has in flight is released, uncompleted, and no line finds it from then on (`docs/barriers.md`) | `ok` |
+| `close Q` | closes a queue: what it has in flight is released, uncompleted, and no line finds it from then on ([barriers](barriers.md)) | `ok` |
 | `reserve Q PRODUCER` | a producer reserves an id (`Reserve`) | `ticket T` |
 | `room Q PRODUCER T` | it looks at the read index for a ticket (`LoadReadIndex`) | `read R` |
 | `word Q PRODUCER T K WORD` | it stores word K of the ticket's packet: of its body for 1 to 7 (`StoreBody`), its header for 0 (`StoreHeader`) | `ok` |
@@ -111,7 +111,7 @@ A refused line may be tried again once what it lacks is there. A denial, and a f
 | `refused 11 BadSize` | `queue`, `write`, `read` | a queue has 2 to 4,096 slots, a power of two, and 1 to 16 producers; a client writes and reads 1 to 65,536 bytes a line |
 | `refused 12 TooMany` | `queue` | 64 queues are open: use those, or `close` one |
 | `refused 13 UnknownObject` | `grant`, `revoke` | name an object of the policy of that kind, or declare it |
-| `refused 14 NotAStep` | lines on a ring | the producer or the processor may not make this step now: no packet was read whole for a `take`, or a header would be cleared before its packet is launched or denied, or as `docs/rings.md` says; a producer's number is 1 to that of the queue's producers |
+| `refused 14 NotAStep` | lines on a ring | the producer or the processor may not make this step now: no packet was read whole for a `take`, or a header would be cleared before its packet is launched or denied, or as [rings](rings.md) say; a producer's number is 1 to that of the queue's producers |
 | `refused 15 Spent` | `reserve`, `submit` | the producer has reserved 2^40 ids: use another |
 | `refused 16 OtherObjects` | `reload` | write the first policy once more, and change nothing in it but the rows on rights |
 
