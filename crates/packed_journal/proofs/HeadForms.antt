@@ -5,13 +5,12 @@ use Rattle.std.specs.Prelude.{◌==◌, Result, Ok, Err, if◌then◌else◌}
 use Rattle.packed_journal.specs.declared.heads.Head.{Head}
 use Rattle.packed_journal.specs.declared.unread.Unread.{Unread}
 use Rattle.packed_journal.specs.declared.unread.Unread.TheVariants.{Ended, Wrong}
-use Rattle.packed_journal.specs.declared.stepping.Headless.{Headless}
 use Rattle.packed_journal.specs.declared.stepping.Headless.TheVariants as headless
 use Rattle.packed_journal.specs.Words.{Word, Number, Digest, number_within, packed_number}
 use Rattle.packed_journal.specs.Readings.{Read, bytes_of, fit, both, read_digest, read_number}
 use Rattle.packed_journal.specs.Journals.{beginning, form_of_head, name, words_of_head}
 use Rattle.packed_journal.specs.JournalReadings.{Headed, and_first, begins_with, rest_behind, behind_name, if_first, if_read, of_version, read_beginning, read_head, read_told}
-use Rattle.packed_journal.proofs.NumberLaws.{both_second, is_same}
+use Rattle.packed_journal.proofs.NumberLaws.{is_same}
 use Rattle.packed_journal.proofs.Forms.{IsForm, WrittenSo, both_form, digest_form, made_form, number_form, one_word}
 use Rattle.packed_journal.proofs.JournalForms.{Stood, behind_back, behind_tells}
 

@@ -1,7 +1,7 @@
 -- A journal is read as it was written, and written as it was read.
-use Rattle.std.proofs.Common.{◌≡◌, ℕ, zero, suc, ◌+◌, ◌-◌, ◌*◌, ◌<◌, ◌≤◌, Bool, true, false, List, [], ◌∷◌, ◌++◌, length, refl, sym, ap, ◌∙◌, subst, arith, append_assoc, append-nil}
+use Rattle.std.proofs.Common.{◌≡◌, ℕ, zero, suc, ◌+◌, ◌-◌, ◌*◌, ◌<◌, ◌≤◌, Bool, true, false, List, [], ◌∷◌, ◌++◌, length, refl, sym, ap, ◌∙◌, subst, arith, append_assoc}
 use Rattle.std.specs.Bool.{⊤}
-use Rattle.std.specs.Prelude.{◌==◌, ◌^◌, ◌≢◌, map, Option, Some, None, Result, Ok, Err, if◌then◌else◌}
+use Rattle.std.specs.Prelude.{◌==◌, ◌^◌, ◌≢◌, map, Option, Result, Ok, Err, if◌then◌else◌}
 use Rattle.std.specs.Option.{unwrap_or}
 use Rattle.std.proofs.lemmas.Bool.Decides.{nat_tests}
 use Rattle.core_model.specs.declared.call.Call.TheVariants as call
@@ -12,7 +12,6 @@ use Rattle.packed_journal.specs.declared.unread.Unread.{Unread}
 use Rattle.packed_journal.specs.declared.unread.Unread.TheVariants.{Ended, Wrong}
 use Rattle.packed_journal.specs.declared.stepping.Step.{Step}
 use Rattle.packed_journal.specs.declared.stepping.Step.TheVariants as step
-use Rattle.packed_journal.specs.declared.stepping.Halt.{Halt}
 use Rattle.packed_journal.specs.declared.stepping.Halt.TheVariants as halt
 use Rattle.packed_journal.specs.Words.{Word}
 use Rattle.packed_journal.specs.Readings.{Read, bytes_of, fit, words_of_list}

@@ -13,4 +13,9 @@ mod Blocks
 mod JournalForms
 mod HeadForms
 mod WholeJournals
+mod Fronts
+mod PartFronts
+mod PacketFronts
+mod EntryFronts
+mod JournalFronts
 mod Ranges

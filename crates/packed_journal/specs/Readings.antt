@@ -1,5 +1,5 @@
 -- What is read at the front of some bytes, or why nothing is; and the words of a journal, read so (own).
-use Rattle.std.specs.Prelude.{ℕ, zero, suc, ◌/◌, ◌%◌, nat_lt, nat_le, ◌==◌, ℤ, Bool, true, ◌&&◌, List, [], ◌∷◌, length, flat_map, Some, None, Result, Ok, Err, if◌then◌else◌}
+use Rattle.std.specs.Prelude.{ℕ, zero, suc, ◌/◌, ◌%◌, nat_lt, nat_le, ◌==◌, ℤ, Bool, ◌&&◌, List, [], ◌∷◌, length, flat_map, Some, None, Result, Ok, Err, if◌then◌else◌}
 use Rattle.std.specs.List.{list_all}
 use denote.Ref.{Bor}
 use Rattle.aql_packet.specs.Words.{bytes_of as packet_of}

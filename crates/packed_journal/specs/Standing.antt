@@ -1,10 +1,10 @@
 -- How a writer or a reader keeps where a journal stands (own).
-use Rattle.std.specs.Prelude.{◌≡◌, Bool, true, false, Option, Some, None, Result, Ok, Err, if◌then◌else◌}
+use Rattle.std.specs.Prelude.{◌≡◌, Option, Some, None, if◌then◌else◌}
 use Rattle.core_model.specs.declared.entry.Entry.{Entry}
 use Rattle.sha2.specs.Hashers.{Holds512}
 use Rattle.packed_journal.specs.declared.chains.Chain.{Chain}
 use Rattle.packed_journal.specs.declared.entry_writing.Unwritten.{Unwritten}
-use Rattle.packed_journal.specs.declared.entry_writing.Unwritten.TheVariants.{NoForm, TooMany, OutOfMemory}
+use Rattle.packed_journal.specs.declared.entry_writing.Unwritten.TheVariants.{NoForm, TooMany}
 use Rattle.packed_journal.specs.Entries.{has_form}
 use Rattle.packed_journal.specs.Journals.{Place, is_last}
 

@@ -1,13 +1,14 @@
 //! The laws of a journal.
 
-ghost use Rattle.std.specs.Prelude.{◌≡◌, ◌++◌, ◌*◌, ◌-◌, ◌<◌, ◌≤◌, ◌^◌, ℕ, List, Ok, Some, Option, length, map, true, false};
+ghost use Rattle.std.specs.Prelude.{◌≡◌, ◌++◌, ◌∷◌, ◌*◌, ◌+◌, ◌-◌, ◌<◌, ◌≤◌, ◌^◌, ℕ, List, Err, Ok, Some, Option, length, map, true, false};
 ghost use Rattle.core_model.specs.declared.entry.Entry.{Entry};
 ghost use Rattle.packed_journal.specs.declared.heads.Head.{Head};
 ghost use Rattle.packed_journal.specs.declared.stepping.Step.{Step};
 ghost use Rattle.packed_journal.specs.declared.stepping.Step.TheVariants as step;
+ghost use Rattle.packed_journal.specs.declared.stepping.Halt.TheVariants as halt;
 ghost use Rattle.packed_journal.specs.Readings.{fit};
-ghost use Rattle.packed_journal.specs.Journals.{Place, is_full, journal, words_of_head};
-ghost use Rattle.packed_journal.specs.JournalReadings.{Told, all_fit, bytes_of_step, kept, read_journal, read_step, written};
+ghost use Rattle.packed_journal.specs.Journals.{Place, body, forms_of, is_full, journal, words_of_head};
+ghost use Rattle.packed_journal.specs.JournalReadings.{Told, all_fit, bytes_of_step, kept, read_body, read_journal, read_step, written};
 
 /// What was written of a journal, of words that fit, is read as the same head and entries, whatever stands behind it. So two
 /// journals whose heads or entries differ have forms that differ. It does nothing.
@@ -28,4 +29,10 @@ pub fn law_blocks_end_where_they_are_full()
     ensures block { (place : Place) (bytes rest : List ℕ) → read_step place bytes ≡ Ok (step.Block, rest) → is_full place ≡ true }
     ensures entry { (place : Place) (bytes : List ℕ) (entry : Entry) (policy : Option (List ℕ)) (rest : List ℕ) → read_step place bytes ≡ Ok (step.Entry entry policy, rest) → is_full place ≡ false }
     ensures end { (place : Place) (bytes rest : List ℕ) → read_step place bytes ≡ Ok (step.End, rest) → is_full place ≡ false }
+{}
+
+/// What was written behind a head, of words that fit, and cut anywhere before its end, is read as cut: neither an end nor harm is
+/// told, by however many steps it is read. It does nothing.
+pub fn law_cut_journals_are_read_as_cut()
+    ensures { (place : Place) (entries : List (Entry × List ℕ)) (steps : ℕ) (front more : List ℕ) (byte : ℕ) → all_fit entries ≡ true → is_full place ≡ false → place.number + length entries < 2 ^ 64 - 2 → body place (forms_of entries) ≡ front ++ byte ∷ more → read_body steps place front ≡ Err halt.Cut }
 {}

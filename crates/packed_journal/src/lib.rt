@@ -26,8 +26,8 @@ pub use entry_writing::{Unwritten, write_entry};
 pub use fitting::entry_is_read_back;
 pub use heads::{Head, read_head};
 pub use journal_laws::{
-    law_blocks_end_where_they_are_full, law_read_journals_are_written,
-    law_written_journals_are_read,
+    law_blocks_end_where_they_are_full, law_cut_journals_are_read_as_cut,
+    law_read_journals_are_written, law_written_journals_are_read,
 };
 pub use journal_reading::JournalReader;
 pub use journal_writing::JournalWriter;

@@ -1,6 +1,6 @@
 use Rattle.std.proofs.Common.{List, ℕ, ◌≡◌, ◌++◌, ◌-◌, ap, arith, length, subst, sym, drop, take, ◌∙◌}
 use Rattle.sha2.specs.Hashers.{Holds512}
-use Rattle.packed_journal.specs.Journals.{digest_of, mark}
+use Rattle.packed_journal.specs.Journals.{mark}
 use Rattle.packed_journal.specs.Words.{packed_number}
 use Rattle.packed_journal.proofs.Blocks.{digest_is, ended, mark_is}
 use Rattle.packed_journal.proofs.chains.put_end.Goals as goal
