@@ -1,7 +1,9 @@
 //! Words and entries as bytes, written by hand from the form's definition.
 
 use crate::{
-    Unread, law_read_entries_are_written, law_read_words_are_written, law_written_entries_are_read,
+    Head, JournalReader, JournalWriter, Step, Unread, law_blocks_end_where_they_are_full,
+    law_cut_journals_are_read_as_cut, law_read_entries_are_written, law_read_journals_are_written,
+    law_read_words_are_written, law_written_entries_are_read, law_written_journals_are_read,
     law_written_words_are_read, read_bytes, read_digest, read_entry, read_flags, read_number,
     read_packet, read_signed, read_small, read_tag, read_tiny, write_bytes, write_digest,
     write_entry, write_flags, write_number, write_packet, write_signed, write_tag,
@@ -33,6 +35,17 @@ const OPEN: [u8; 7] = [1, 1, 1, 2, 1, 2, 0];
 const RELOAD: [u8; 41] = [
     12, 7, 7, 7, 7, 7, 7, 7, 7, 7, 7, 7, 7, 7, 7, 7, 7, 7, 7, 7, 7, 7, 7, 7, 7, 7, 7, 7, 7, 7, 7,
     7, 7, 1, 0, 0, 1, 6, 0, 0, 0,
+];
+
+// A head of policy 7, 7 .. and an audit of 64 places; the packet's take and the close; and the end of the block, whose digest is
+// one of Python's hashlib.
+const JOURNAL: [u8; 134] = [
+    106, 111, 117, 114, 110, 97, 108, 2, 7, 7, 7, 7, 7, 7, 7, 7, 7, 7, 7, 7, 7, 7, 7, 7, 7, 7, 7,
+    7, 7, 7, 7, 7, 7, 7, 7, 7, 7, 7, 7, 7, 64, 1, 2, 1, 0, 157, 132, 168, 128, 128, 8, 128, 128,
+    128, 128, 16, 4, 90, 1, 2, 0, 6, 1, 0, 1, 2, 1, 0, 0, 26, 40, 154, 209, 45, 251, 18, 180, 82,
+    2, 66, 19, 42, 217, 53, 183, 244, 50, 221, 231, 174, 178, 255, 217, 222, 239, 195, 239, 188,
+    90, 162, 19, 199, 103, 210, 232, 200, 92, 87, 30, 119, 220, 91, 185, 71, 126, 48, 173, 182,
+    189, 55, 242, 231, 141, 167, 142, 189, 207, 174, 172, 66, 152, 80, 149, 11,
 ];
 
 // The packet of the words.
@@ -92,6 +105,62 @@ fn is_entry(alloc: Global, bytes: &[u8]) -> Result<bool, AllocError> {
     Ok(out.as_slice() == bytes)
 }
 
+// Writes the entry that some bytes are read as behind a journal.
+fn put(
+    alloc: Global,
+    writer: &mut JournalWriter,
+    out: &mut Vec<u8>,
+    bytes: &[u8],
+) -> Result<bool, AllocError> {
+    match read_entry(alloc, bytes)? {
+        Ok(((entry, policy), _)) => Ok(
+            writer
+                .write_entry(out, &entry, &policy.unwrap_or([0; 32]))
+                .is_ok(),
+        ),
+        Err(_) => Ok(false),
+    }
+}
+
+// Writes the journal.
+fn write_journal(alloc: Global, out: &mut Vec<u8>) -> Result<bool, AllocError> {
+    let head = Head {
+        policy: [7; 32],
+        room: 64,
+    };
+    let mut writer = JournalWriter::begin(out, &head)?;
+    let first = put(alloc, &mut writer, out, &TAKE)?;
+    let second = put(alloc, &mut writer, out, &CLOSE)?;
+    writer.end(out)?;
+    Ok(first && second)
+}
+
+// The bytes behind an entry, if one is read.
+fn behind_entry<'a>(
+    alloc: Global,
+    reader: &mut JournalReader,
+    bytes: &'a [u8],
+) -> Result<&'a [u8], AllocError> {
+    match reader.next(alloc, bytes)? {
+        Ok((Step::Entry(_, _), rest)) => Ok(rest),
+        _ => Ok(&[]),
+    }
+}
+
+// Whether two entries are read, and the end.
+fn is_journal(alloc: Global, bytes: &[u8]) -> Result<bool, AllocError> {
+    let Ok(((head, reader), rest)) = JournalReader::begin(alloc, bytes)? else {
+        return Ok(false);
+    };
+    let mut reader = reader;
+    let rest = behind_entry(alloc, &mut reader, rest)?;
+    let rest = behind_entry(alloc, &mut reader, rest)?;
+    match reader.next(alloc, rest)? {
+        Ok((Step::End, rest)) => Ok(head.room == 64 && rest.is_empty()),
+        _ => Ok(false),
+    }
+}
+
 #[test]
 fn words_are_written_as_by_hand(rt: HostRuntime) -> Result<(), Fail> {
     let mut out = Vec::new(rt.alloc());
@@ -128,10 +197,23 @@ fn entries_are_read_and_written_as_by_hand(rt: HostRuntime) -> Result<(), Fail> 
 }
 
 #[test]
+fn a_journal_is_written_and_read_as_by_hand(rt: HostRuntime) -> Result<(), Fail> {
+    let mut out = Vec::new(rt.alloc());
+    assert!(rt; write_journal(rt.alloc(), &mut out)?);
+    assert!(rt; out.as_slice() == JOURNAL.as_slice());
+    assert!(rt; is_journal(rt.alloc(), &JOURNAL)?);
+    Ok(())
+}
+
+#[test]
 fn laws_do_nothing(_rt: HostRuntime) -> Result<(), Fail> {
     law_written_words_are_read();
     law_read_words_are_written();
     law_written_entries_are_read();
     law_read_entries_are_written();
+    law_written_journals_are_read();
+    law_read_journals_are_written();
+    law_cut_journals_are_read_as_cut();
+    law_blocks_end_where_they_are_full();
     Ok(())
 }
