@@ -9,8 +9,8 @@ use Rattle.client_threads.specs.Running.{IsEndOf, IsLaneOf}
 use Rattle.threads_load.specs.Stages.{HaveShares}
 use Rattle.bench.proofs.wants.broker.settle_stage.Goals as goal
 
-pub returns-in-Err : goal.returns-in-Err
-returns-in-Err g c =
+pub returns : goal.returns
+returns g c =
     let back = c.in-Err.ensures.back in
     let rings : c.again.result ≡ c.args.stage.broker = c.again.ensures ∙ back.0 in
     record {
