@@ -38,8 +38,15 @@ impl PolicyText {
 }
 
 /// The further policies of a run, in their order.
-pub(crate) struct Further {
+pub struct Further {
     policies: Vec<Policy>,
+}
+
+/// Why further policies can't be read: the fault of the first that has one, and its place among them, from 0.
+#[derive(Clone, Copy)]
+pub struct FurtherFault {
+    pub place: usize,
+    pub why: ReadPolicyError,
 }
 
 // Written out, so that where the policies end stands one call, and not what ends each part of each of them.
@@ -59,6 +66,12 @@ impl Model for Further {
 }
 
 impl Further {
+    /// The policies, for a run, or for a journal.
+    pub fn into_policies(self) -> Vec<Policy> {
+        let Further { policies } = self;
+        policies
+    }
+
     /// The policies, for a run.
     pub fn policies(&self) -> &[Policy]
         ensures { result.now ≡ self.now }
@@ -76,14 +89,22 @@ fn put_policy(policies: &mut Vec<Policy>, policy: Policy) -> Result<(), AllocErr
 
 /// Reads texts in their order: what each declares, or the fault of the first that has one. Their kernels' texts
 /// aren't read.
-pub(crate) fn read_further(alloc: Global, texts: &[PolicyText]) -> Result<Further, ReadPolicyError>
+pub fn read_further(alloc: Global, texts: &[PolicyText]) -> Result<Further, FurtherFault>
     ensures passed { IfOk result (DeclareEach texts.now) }
-    ensures refused { IfErr result (AreUnread texts.now) }
+    ensures refused { IfErr result (λ fault. AreUnread texts.now fault.why) }
 {
     let mut policies = Vec::new(alloc);
-    for text in texts {
-        let policy = read_policy(alloc, text.bytes())?;
-        put_policy(&mut policies, policy)?;
+    for (place, text) in texts.iter().enumerate() {
+        let policy = match read_policy(alloc, text.bytes()) {
+            Ok(policy) => policy,
+            Err(why) => return Err(FurtherFault { place, why }),
+        };
+        if put_policy(&mut policies, policy).is_err() {
+            return Err(FurtherFault {
+                place,
+                why: ReadPolicyError::OutOfMemory,
+            });
+        }
     }
     Ok(Further { policies })
 }

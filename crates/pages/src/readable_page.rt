@@ -128,5 +128,5 @@ Which of them a line uses, that operands are read in the order above, and the ar
 
 A drain is a list of requests in turn. Each is that of a line `serve Q`, `run Q ID`, `poll Q ID` or `finish Q ID`, and is replied to as that line is. Its counts are just those of these replies (`drain` in `crates/readable`, its clauses `Makes` and `Drains`). That it goes on while something moves, and what it tells of what waits, is tested: `tests/readable.py`.
 
-A whole run by line, of readable lines or with replies as JSON, is a list of requests in turn as well. Each is done and replied to as a script's line is. Just their replies are handed over, and that to a drain begins with its counts (`run_by_line`, its clause `RunsByLine`). Which requests a readable line makes is tested, as above.
+Any readable line is a list of requests in turn as well. Each is done and replied to as a script's line is. Just their replies are told, and that to a drain begins with its counts (`Readable`, its `by_readable`). A run does its lines in turn by the same engine as any script. Which requests a readable line makes is tested, as above.
 ";

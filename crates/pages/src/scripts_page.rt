@@ -206,7 +206,12 @@ A page is that of a whole script or there is none. Where a line has no form, or 
 - `brokerd run POLICY --readable` takes packets in words, and `drain`, which serves, runs and finishes until nothing moves. `brokerd assemble POLICY` turns such lines into those above ([readable lines](assemble.md)).
 - `brokerd run POLICY --json` writes each reply as an object of JSON ([its members](json.md#replies)).
 - `brokerd run POLICY --audit N` has room for N entries, 1 to 1,048,576; without it for 65,536.
-- `brokerd run POLICY --journal FILE` writes [a journal](audit.md#a-journal) as it goes. It goes with `--strict` and `--explain`, and neither with `--readable` nor with `--json`.
+- `brokerd run POLICY --journal FILE` writes [a journal](audit.md#a-journal) as it goes.
+
+All options of a run go together. Of other commands two pairs contradict each other, and a command line with one of them ends with status 2:
+
+- `picture --journal FILE` and `--audit N`: nothing is run, so there is no audit of so many places.
+- `decode --slots FILE` and digits: the slots stand in place of the digits.
 
 ## Every form once
 

@@ -1,10 +1,10 @@
 pub mod Commas
 pub mod Audit
 pub mod Auditing
+pub mod Cutting
 pub mod Reading
 pub mod Running
 pub mod Submitting
-pub mod Watching
 pub mod Appending
 pub mod Writing
 pub mod Blocks
