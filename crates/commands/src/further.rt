@@ -1,6 +1,8 @@
 //! The further policies of a run, which its script may hand in.
 
 ghost use Rattle.std.specs.Prelude.{◌≡◌, ◌∷◌, [], ◌++◌, IfErr, IfOk, OnOk};
+ghost use Rattle.policy.specs.Format.{Declares, IsRefused};
+ghost use Rattle.policy.specs.Policy.{Declared};
 ghost use Rattle.commands.specs.Further.{AreUnread, DeclareEach};
 
 use policy::{Policy, ReadPolicyError, read_policy};
@@ -87,6 +89,24 @@ fn put_policy(policies: &mut Vec<Policy>, policy: Policy) -> Result<(), AllocErr
     Ok(policies.push(policy)?)
 }
 
+// Reads a text, and puts what it declares after the others.
+fn read_one(
+    alloc: Global,
+    text: &PolicyText,
+    policies: &mut Vec<Policy>,
+) -> Result<(), ReadPolicyError>
+    ensures read { OnOk result ((policy : Declared) × Declares text.now policy × (policies.new.items ≡ policies.old.items ++ policy ∷ [])) }
+    ensures refused { IfErr result (IsRefused text.now) }
+{
+    match read_policy(alloc, text.bytes()) {
+        Ok(policy) => match put_policy(policies, policy) {
+            Ok(()) => Ok(()),
+            Err(_) => Err(ReadPolicyError::OutOfMemory),
+        },
+        Err(why) => Err(why),
+    }
+}
+
 /// Reads texts in their order: what each declares, or the fault of the first that has one. Their kernels' texts
 /// aren't read.
 pub fn read_further(alloc: Global, texts: &[PolicyText]) -> Result<Further, FurtherFault>
@@ -94,15 +114,11 @@ pub fn read_further(alloc: Global, texts: &[PolicyText]) -> Result<Further, Furt
     ensures refused { IfErr result (λ fault. AreUnread texts.now fault.why) }
 {
     let mut policies = Vec::new(alloc);
-    for (place, text) in texts.iter().enumerate() {
-        let policy = match read_policy(alloc, text.bytes()) {
-            Ok(policy) => policy,
-            Err(why) => return Err(FurtherFault { place, why }),
-        };
-        if put_policy(&mut policies, policy).is_err() {
+    for text in texts {
+        if let Err(why) = read_one(alloc, text, &mut policies) {
             return Err(FurtherFault {
-                place,
-                why: ReadPolicyError::OutOfMemory,
+                place: policies.len(),
+                why,
             });
         }
     }

@@ -1,5 +1,6 @@
 -- Requests in turn and their replies, one behind the other.
-use Rattle.std.proofs.Common.{◌≡◌, ℕ, List, [], ◌∷◌, ◌++◌, map, flat_map, Option, Some, None, inl, inr, refl, sym, ap, subst, ◌∙◌, append_assoc, append-nil}
+use Rattle.std.proofs.Common.{◌≡◌, ℕ, List, [], ◌∷◌, ◌++◌, map, flat_map, Option, Some, None, Result, Ok, Err, inl, inr, refl, sym, ap, subst, ◌∙◌, append_assoc, append-nil}
+use Rattle.std.specs.Prelude.{◌⊎◌, MatchResult}
 use Rattle.policy.specs.Policy.{Declared}
 use Rattle.world.specs.States.{Joined}
 use Rattle.script.specs.declared.command.Command.{Command}
@@ -10,7 +11,7 @@ use Rattle.script.specs.declared.lines.Line.{Line}
 use Rattle.script.specs.declared.lines.Line.TheVariants as line
 use Rattle.script.specs.declared.watch.Flow.{Flow}
 use Rattle.script.specs.Expansions.{does}
-use Rattle.script.specs.Runs.{Cut, CutShort, Served, Telling, Told, Watching, answers_as, by_line, cuts_as, law, names, stands_for}
+use Rattle.script.specs.Runs.{Cut, CutShort, IsCutBy, Served, Telling, Told, Watching, answers_as, by_line, cuts_as, law, names, stands_for}
 use Rattle.readable.specs.declared.moves.Move.{Move}
 use Rattle.readable.specs.declared.moves.Move.TheVariants as move
 use Rattle.readable.specs.declared.tally.Tally.{Tally}
@@ -113,6 +114,15 @@ module _ (tells : Telling) (drains : TellingDrains) (later : List Declared) wher
     asked_one later old new command done.0 done.1,
   )
 
+  -- requests of a drain
+  drained : (old new : Joined) (tally : Tally) (text : List ℕ) → Drains old none_yet new tally → drains tally text → Replied tells drains later old text new
+  drained old new tally text made told =
+      replied_one old new (record { asked = map asked_of made.0; text = text }) (asked_made later old new made.0 made.1)
+      (inr (made.0, refl, subst (λ tally. drains tally text) made.2 told))
+
+  made_unsaid : (old new : Joined) → Makes old new → RepliedInPart tells drains later old [] new
+  made_unsaid old new made = (old, map asked_of made.0, replied_none old old [] refl refl, asked_made later old new made.0 made.1)
+
   module _ (watcher : Watching) where
     pub served_line : (old new : Joined) (line more before after : List ℕ) (said : Option Flow) →
         Served (law (by_line tells) watcher later) old new line before after said → Served (law (by_readable tells drains) watcher later) old new more before after said
@@ -130,58 +140,82 @@ module _ (tells : Telling) (drains : TellingDrains) (later : List Declared) wher
     cut_line old new line more before after (Script Write) cut = absurd cut
     cut_line old new line more before after (Watcher fault) cut = (cut.0, cut.1, cut.2, cut_off old new (stands_for later old line) cut.0 cut.3)
 
-    -- a further line behind one that was served
-    pub served_further : (old mid new : Joined) (line before between after : List ℕ) (first said last : Flow) →
-        Served (law (by_readable tells drains) watcher later) old mid line before between (Some first) →
-        Served (law (by_readable tells drains) watcher later) mid new line between after (Some said) → Served (law (by_readable tells drains) watcher later) old new line before after (Some last)
+    -- whichever line it is
+    pub any_line : {F : Type 0} (old new : Joined) (line more before after : List ℕ) (result : Result (Option Flow) (RunFault F)) →
+        MatchResult result (Served (law (by_readable tells drains) watcher later) old new line before after) (Cut (law (by_readable tells drains) watcher later) old new line before after) →
+        MatchResult result (Served (law (by_readable tells drains) watcher later) old new more before after) (Cut (law (by_readable tells drains) watcher later) old new more before after)
     unfolding law
-    served_further old mid new line before between after first said last one more = (
-      one.0 ++ more.0,
-      replied_more old mid new one.0 more.0 one.1 more.1,
-      more.2 ∙ ap (λ front. front ++ more.0) one.2 ∙ append_assoc before one.0 more.0,
-    )
+    any_line old new line more before after (Ok (Some said)) served = served
+    any_line old new line more before after (Ok None) served = served
+    any_line old new line more before after (Err (Script OutOfMemory)) cut = cut
+    any_line old new line more before after (Err (Script (BadLine bad))) cut = absurd cut
+    any_line old new line more before after (Err (Script Read)) cut = absurd cut
+    any_line old new line more before after (Err (Script Write)) cut = absurd cut
+    any_line old new line more before after (Err (Watcher fault)) cut = cut
 
-    -- one that has no form
-    pub served_alone : (old mid new : Joined) (line before between after : List ℕ) (first : Flow) →
-        Served (law (by_readable tells drains) watcher later) old mid line before between (Some first) →
-        Served (law (by_readable tells drains) watcher later) mid new line between after None → Served (law (by_readable tells drains) watcher later) old new line before after (Some first)
+    -- one of no form, which asks nothing
+    pub refused_line : {F : Type 0} (world : Joined) (line before : List ℕ) (result : Result (Option Flow) (RunFault F)) →
+        MatchResult result (λ said. said ≡ None) (λ fault. fault ≡ Script OutOfMemory) →
+        MatchResult result (Served (law (by_readable tells drains) watcher later) world world line before before) (Cut (law (by_readable tells drains) watcher later) world world line before before)
     unfolding law
-    served_alone old mid new line before between after first one none = (
+    refused_line world line before (Ok said) is =
+        subst (λ said. Served (law (by_readable tells drains) watcher later) world world line before before said) (sym is) (tt, refl, refl)
+    refused_line world line before (Err fault) is =
+        subst (λ fault. Cut (law (by_readable tells drains) watcher later) world world line before before fault) (sym is) ([], sym (append-nil before), inl (refl, refl))
+
+    -- a line behind one that was served, or none
+    pub served_next : (old mid new : Joined) (line next more before between after : List ℕ) (first said : Flow) →
+        Served (law (by_readable tells drains) watcher later) old mid line before between (Some first) →
+        ((said ≡ first) × (new ≡ mid) × (after ≡ between)) ⊎ ((flow : Flow) × Served (law (by_readable tells drains) watcher later) mid new next between after (Some flow)) →
+        Served (law (by_readable tells drains) watcher later) old new more before after (Some said)
+    unfolding law
+    served_next old mid new line next more before between after first said one (inl none) = (
       one.0,
       subst (λ world. Replied tells drains later old one.0 world) (sym none.1) one.1,
       none.2 ∙ one.2,
     )
+    served_next old mid new line next more before between after first said one (inr (flow, behind)) = (
+      one.0 ++ behind.0,
+      replied_more old mid new one.0 behind.0 one.1 behind.1,
+      behind.2 ∙ ap (λ front. front ++ behind.0) one.2 ∙ append_assoc before one.0 behind.0,
+    )
 
-    pub cut_further : {F : Type 0} (old mid new : Joined) (line before between after : List ℕ) (first : Flow) (fault : RunFault F) →
+    pub cut_next : {F : Type 0} (old mid new : Joined) (line next more before between after : List ℕ) (first : Flow) (fault : RunFault F) →
         Served (law (by_readable tells drains) watcher later) old mid line before between (Some first) →
-        Cut (law (by_readable tells drains) watcher later) mid new line between after fault → Cut (law (by_readable tells drains) watcher later) old new line before after fault
+        Cut (law (by_readable tells drains) watcher later) mid new next between after fault → Cut (law (by_readable tells drains) watcher later) old new more before after fault
     unfolding law
-    cut_further old mid new line before between after first (Script OutOfMemory) one (last, is, inl same) = (
+    cut_next old mid new line next more before between after first (Script OutOfMemory) one (last, is, inl same) = (
       one.0,
       is ∙ ap (λ last. between ++ last) same.1 ∙ append-nil between ∙ one.2,
       inr (mid, [], one.1, asked_same later mid new same.0),
     )
-    cut_further old mid new line before between after first (Script OutOfMemory) one (last, is, inr cut) = (
+    cut_next old mid new line next more before between after first (Script OutOfMemory) one (last, is, inr cut) = (
       one.0 ++ last,
       is ∙ ap (λ front. front ++ last) one.2 ∙ append_assoc before one.0 last,
       inr (part_more old mid new one.0 last one.1 cut),
     )
-    cut_further old mid new line before between after first (Script (BadLine bad)) one cut = absurd cut
-    cut_further old mid new line before between after first (Script Read) one cut = absurd cut
-    cut_further old mid new line before between after first (Script Write) one cut = absurd cut
-    cut_further old mid new line before between after first (Watcher fault) one cut = (
+    cut_next old mid new line next more before between after first (Script (BadLine bad)) one cut = absurd cut
+    cut_next old mid new line next more before between after first (Script Read) one cut = absurd cut
+    cut_next old mid new line next more before between after first (Script Write) one cut = absurd cut
+    cut_next old mid new line next more before between after first (Watcher fault) one cut = (
       one.0 ++ cut.0,
       cut.1 ∙ ap (λ front. front ++ cut.0) one.2 ∙ append_assoc before one.0 cut.0,
       cut.2,
       part_more old mid new one.0 cut.0 one.1 cut.3,
     )
 
-  -- ---- a drain
+    -- ---- a drain
 
-  pub drained : (old new : Joined) (tally : Tally) (text : List ℕ) → Drains old none_yet new tally → drains tally text → Replied tells drains later old text new
-  drained old new tally text made told =
-      replied_one old new (record { asked = map asked_of made.0; text = text }) (asked_made later old new made.0 made.1)
-      (inr (made.0, refl, subst (λ tally. drains tally text) made.2 told))
+    pub drained_line : (old new : Joined) (line before after : List ℕ) (tally : Tally) (said : Flow) → Drains old none_yet new tally →
+        ((text : List ℕ) × drains tally text × (after ≡ before ++ text)) → Served (law (by_readable tells drains) watcher later) old new line before after (Some said)
+    unfolding law
+    drained_line old new line before after tally said made told = (told.0, drained old new tally told.0 made told.1, told.2)
 
-  pub made_unsaid : (old new : Joined) → Makes old new → RepliedInPart tells drains later old [] new
-  made_unsaid old new made = (old, map asked_of made.0, replied_none old old [] refl refl, asked_made later old new made.0 made.1)
+    pub drained_unsaid : {F : Type 0} (old new : Joined) (line before after : List ℕ) (fault : RunFault F) → Makes old new → after ≡ before → IsCutBy watcher.may_fail fault →
+        Cut (law (by_readable tells drains) watcher later) old new line before after fault
+    unfolding law
+    drained_unsaid old new line before after (Script OutOfMemory) made same may = ([], same ∙ sym (append-nil before), inr (made_unsaid old new made))
+    drained_unsaid old new line before after (Script (BadLine number)) made same may = absurd may
+    drained_unsaid old new line before after (Script Read) made same may = absurd may
+    drained_unsaid old new line before after (Script Write) made same may = absurd may
+    drained_unsaid old new line before after (Watcher fault) made same may = ([], same ∙ sym (append-nil before), may, made_unsaid old new made)

@@ -2,6 +2,8 @@
 
 ghost use Rattle.std.specs.Prelude.{◌≡◌, ◌⊎◌, ◌++◌, ℕ, List, None, Some, IfErr, IfOk, MatchResult, OnErr, OnOk, string_bytes};
 ghost use Rattle.script.specs.Runs.{Cut, IsCutBy, Served, law};
+ghost use Rattle.script.specs.declared.fault.RunFault.TheVariants.{Script};
+ghost use Rattle.script.specs.declared.fault.ScriptFault.TheVariants.{OutOfMemory};
 ghost use Rattle.script.specs.declared.watch.Flow.{Flow};
 ghost use Rattle.readable.specs.Runs.{by_readable};
 
@@ -12,7 +14,7 @@ use aql_packet::QueueId;
 use assemble::{Book, LineError, Turned, fault_text, put_lines, without_comment};
 use json_replies::Json;
 use policy::Policy;
-use script::{Flow, RunFault, Style, Text, Voice, Watch, answer};
+use script::{Flow, RunFault, ScriptFault, Style, Text, Voice, Watch, answer};
 use std::alloc::{AllocError, Global};
 use world::World;
 
@@ -151,7 +153,7 @@ impl<'a, S: DrainVoice> Readable<'a, S> {
         )
     }
 
-    // Does the line behind one to whose reply so much was said.
+    // Does the line behind one to whose reply so much was said, unless that ends the run; one without a form is passed over.
     fn do_next<V: Watch>(
         &self,
         alloc: Global,
@@ -165,13 +167,17 @@ impl<'a, S: DrainVoice> Readable<'a, S> {
         out: &mut String,
     ) -> Result<Flow, RunFault<V::Fault>>
         ensures { MatchResult result
-            (λ said. ((said ≡ first) × Served (law (by_readable S.tells S.drains) V.watching later.now) world.old world.new line.now (string_bytes out.old) (string_bytes out.new) None)
+            (λ said. ((said ≡ first) × (world.new ≡ world.old) × (string_bytes out.new ≡ string_bytes out.old))
             ⊎ ((flow : Flow) × Served (law (by_readable S.tells S.drains) V.watching later.now) world.old world.new line.now (string_bytes out.old) (string_bytes out.new) (Some flow)))
             (Cut (law (by_readable S.tells S.drains) V.watching later.now) world.old world.new line.now (string_bytes out.old) (string_bytes out.new)) }
     {
-        match self.do_line(alloc, world, later, watcher, number, line, reply, out)? {
-            Some(second) => Ok(then(first, second)),
-            None => Ok(first),
+        if first == Flow::End {
+            return Ok(first);
+        }
+        match self.do_line(alloc, world, later, watcher, number, line, reply, out) {
+            Ok(Some(second)) => Ok(then(first, second)),
+            Ok(None) => Ok(first),
+            Err(fault) => Err(fault),
         }
     }
 
@@ -192,16 +198,17 @@ impl<'a, S: DrainVoice> Readable<'a, S> {
             (Cut (law (by_readable S.tells S.drains) V.watching later.now) world.old world.new lines.now (string_bytes out.old) (string_bytes out.new)) }
     {
         let (line, further) = split_line(lines);
-        let first = match self.do_line(alloc, world, later, watcher, number, line, reply, out)? {
-            None => return Ok(None),
-            Some(Flow::End) => return Ok(Some(Flow::End)),
-            Some(first) => first,
-        };
-        let (line, _) = split_line(further);
-        let said = self.do_next(
-            alloc, world, later, watcher, number, first, line, reply, out,
-        )?;
-        Ok(Some(said))
+        let (next, _) = split_line(further);
+        match self.do_line(alloc, world, later, watcher, number, line, reply, out) {
+            Ok(Some(first)) => match self.do_next(
+                alloc, world, later, watcher, number, first, next, reply, out,
+            ) {
+                Ok(said) => Ok(Some(said)),
+                Err(fault) => Err(fault),
+            },
+            Ok(None) => Ok(None),
+            Err(fault) => Err(fault),
+        }
     }
 
     // What is told of a drain.
@@ -256,25 +263,34 @@ impl<'a, S: DrainVoice> Readable<'a, S> {
             (Served (law (by_readable S.tells S.drains) V.watching later.now) world.old world.new line.now (string_bytes out.old) (string_bytes out.new))
             (Cut (law (by_readable S.tells S.drains) V.watching later.now) world.old world.new line.now (string_bytes out.old) (string_bytes out.new)) }
     {
-        let drained = drain(alloc, world, queue)?;
-        let flow = self.reply_to_drain(alloc, world, watcher, number, &drained, out)?;
-        Ok(Some(flow))
+        match drain(alloc, world, queue) {
+            Ok(drained) => match self.reply_to_drain(alloc, world, watcher, number, &drained, out) {
+                Ok(flow) => Ok(Some(flow)),
+                Err(fault) => Err(fault),
+            },
+            Err(_) => Err(RunFault::Script(ScriptFault::OutOfMemory)),
+        }
     }
 
     // Keeps what is wanted in a line of no form.
-    fn refuse(
+    fn refuse<F>(
         &mut self,
         alloc: Global,
         number: u64,
         line: &[u8],
         error: LineError,
-    ) -> Result<Option<Flow>, AllocError> {
-        match error {
-            LineError::Fault(fault) => {
-                self.wanted = fault_text(alloc, number, line, fault)?;
+    ) -> Result<Option<Flow>, RunFault<F>>
+        ensures { MatchResult result (λ said. said ≡ None) (λ fault. fault ≡ Script OutOfMemory) }
+    {
+        let LineError::Fault(fault) = error else {
+            return Err(RunFault::Script(ScriptFault::OutOfMemory));
+        };
+        match fault_text(alloc, number, line, fault) {
+            Ok(text) => {
+                self.wanted = text;
                 Ok(None)
             }
-            LineError::OutOfMemory => Err(AllocError),
+            Err(_) => Err(RunFault::Script(ScriptFault::OutOfMemory)),
         }
     }
 }
@@ -309,7 +325,7 @@ impl<'a, S: DrainVoice> Style for Readable<'a, S> {
             Ok(Turned::Drain(queue)) => {
                 self.do_drain(alloc, world, later, watcher, number, line, queue, out)
             }
-            Err(error) => Ok(self.refuse(alloc, number, line, error)?),
+            Err(error) => self.refuse(alloc, number, line, error),
         }
     }
 

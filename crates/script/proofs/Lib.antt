@@ -10,5 +10,6 @@ pub mod Writing
 pub mod Blocks
 pub mod Joining
 pub mod Reaching
+pub mod Rotating
 pub mod Fitting
 pub mod Formed

@@ -49,10 +49,8 @@ fn rotate(alloc: Global, world: &mut World) -> bool
     ensures kept { result ≡ false → world.new ≡ world.old }
 {
     law_refusals_change_nothing();
-    match world.serve(alloc, Request::Rotate) {
-        Ok(_) => true,
-        Err(_) => false,
-    }
+    let reply = world.serve(alloc, Request::Rotate);
+    reply.is_ok()
 }
 
 // The watcher has its turn, between two lines, unless it said that the run goes on.
