@@ -67,9 +67,10 @@ fn of_kernel(
 ) -> Result<String, AllocError> {
     match failure {
         Failure::Kernel(fault) => kernel_told(alloc, file, policy, fault),
-        Failure::NoEntry(kernel) => {
-            no_entry(alloc, file.name, file.text, policy, kernel.0 as u32)
-        }
+        Failure::NoEntry(kernel) => match u32::try_from(kernel.0) {
+            Ok(number) => no_entry(alloc, file.name, file.text, policy, number),
+            Err(_) => Ok(String::new(alloc)),
+        },
         _ => Ok(String::new(alloc)),
     }
 }

@@ -6,4 +6,4 @@ pub returns-in-Ok : goal.returns-in-Ok
 returns-in-Ok c = (Ok c.in-Ok.later, c.in-Ok.ensures.passed, refl)
 
 pub returns-in-Err : goal.returns-in-Err
-returns-in-Err c = (Err c.in-Err.fault.why, c.in-Err.ensures.refused, c.saturating_add.result, rw c.of_reading.ensures refl)
+returns-in-Err c = (Err c.in-Err.fault.why, c.in-Err.ensures.refused, (c.saturating_add.result, rw c.of_reading.ensures refl))
