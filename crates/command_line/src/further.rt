@@ -12,7 +12,7 @@ use commands::{Opened, PolicyText, Span, Status, draw_audit, run_over, tell_run}
 use journal_commands::{JournalFault, JournalWriter};
 use json_replies::Json;
 use readable::Readable;
-use script::{Both, Noted, Plain, RunFault, Silent, Strict, Style, Text};
+use script::{Both, Nobody, Noted, Plain, RunFault, Silent, Strict, Style, Text};
 use std::alloc::Global;
 use std::fs::File;
 use std::io::{self, IsTerminal};
@@ -118,6 +118,41 @@ fn run_in<L: Style, R: io::Read>(
     }
 }
 
+// Whether nothing is told beside the replies of a run, and nothing ends it before its script does.
+fn is_unwatched(manner: Manner) -> bool {
+    !(manner.is_explaining || manner.is_session || manner.is_strict)
+}
+
+// Runs a script in a style over a world that was opened, with nobody who watches.
+fn run_unwatched<L: Style, R: io::Read>(
+    rt: &HostRuntime,
+    opened: &mut Opened,
+    style: &mut L,
+    script: &mut R,
+) -> Status {
+    let alloc = rt.alloc();
+    let out = &mut Noted::new(rt.stdout());
+    let script = &mut Noted::new(script);
+    let ended = run_over(alloc, opened, style, &mut Nobody, script, out);
+    tell_run(alloc, ended, &mut Noted::new(rt.stderr()))
+}
+
+// Runs a script each of whose lines is one of a script: with nobody who watches, unless something else is asked for.
+fn run_plain<L: Style, R: io::Read>(
+    rt: &HostRuntime,
+    manner: Manner,
+    opened: &mut Opened,
+    style: &mut L,
+    recorder: Option<Recorder<'_, File>>,
+    script: &mut R,
+) -> Status {
+    if recorder.is_none() && is_unwatched(manner) {
+        run_unwatched(rt, opened, style, script)
+    } else {
+        run_in(rt, manner, opened, style, recorder, script)
+    }
+}
+
 // Runs a script of readable lines.
 fn run_readable<R: io::Read>(
     rt: &HostRuntime,
@@ -158,10 +193,10 @@ fn run_as_asked<R: io::Read>(
         run_readable(rt, text, manner, opened, recorder, script)
     } else if manner.reads.is_json {
         let style = &mut Plain { voice: Json };
-        run_in(rt, manner, opened, style, recorder, script)
+        run_plain(rt, manner, opened, style, recorder, script)
     } else {
         let style = &mut Plain { voice: Text };
-        run_in(rt, manner, opened, style, recorder, script)
+        run_plain(rt, manner, opened, style, recorder, script)
     }
 }
 
