@@ -2,8 +2,8 @@
 
      c_emptied MEBIBYTES TIMES
 
-   Over a region of 64 KB and so many MiB of others 4 KB are written by sixteen writes, and the audit is emptied by hd_truncate; so
-   often. */
+   Over a region of 64 KB, or so many MiB of regions of 16 MiB each, 4 KB are written by sixteen writes, and the audit is emptied by
+   hd_truncate; so often. */
 #include <stdio.h>
 #include <stdlib.h>
 #include <string.h>
@@ -22,11 +22,11 @@ static void must(hd_status status, const char *call)
 }
 #define MUST(call) must((call), #call)
 
-/* A policy with the region of 64 KB, and behind it others of 16 MiB. */
+/* A policy with the region of 64 KB, or with regions of 16 MiB each. */
 static size_t put_policy(char *policy, size_t room, long mebibytes)
 {
-    int length = snprintf(policy, room, "[[client]]\nname = \"c\"\n[[region]]\nname = \"r\"\nlength = 65536\n");
-    for (long others = 0; others < mebibytes / 16; others++)
+    int length = snprintf(policy, room, "[[client]]\nname = \"c\"\n[[region]]\nname = \"r\"\nlength = %d\n", mebibytes ? 16777216 : 65536);
+    for (long others = 1; others < mebibytes / 16; others++)
         length += snprintf(policy + length, room - (size_t)length, "[[region]]\nname = \"r%ld\"\nlength = 16777216\n", others);
     length += snprintf(policy + length, room - (size_t)length, "[[allow]]\nclient = \"c\"\nkind = \"region\"\nobject = \"r\"\nrights = [\"READ\", \"WRITE\"]\n");
     return (size_t)length;
