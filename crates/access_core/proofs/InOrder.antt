@@ -8,6 +8,7 @@ use Rattle.std.proofs.lemmas.List.Elements.{All-contains, Contains-append_left, 
 use Rattle.core_model.specs.declared.origin.PacketOrigin.{PacketOrigin}
 use Rattle.access_core.specs.inner.ArgumentBlocks.{Ascend, by_number}
 use Rattle.access_core.specs.inner.Origins.{AreInOrder, packet_origin, sooner}
+use Rattle.access_core.specs.inner.Ready.{later}
 use Rattle.access_core.proofs.Ascending.{filter-every, filter-none}
 use Rattle.access_core.proofs.Lying.{all-alike, contains-cases}
 use Rattle.access_core.proofs.Terms.{All-head, All-nil, All-push, All-tail, All-weaker, ArgumentBlock, Queue, all_blocks, append-nil, ltb-false, ltb-true}
@@ -75,9 +76,6 @@ module _ (from : ℕ) where
   soonest-is bs = steps [] bs None (All-nil Past)
 
 -- ---- those that aren't told yet
-
-abbrev pub later : ℕ → List ArgumentBlock → List ArgumentBlock
-later from bs = filter (λ (b : ArgumentBlock). nat_le from b.number) bs
 
 le-false : (m n : ℕ) → n < m → nat_le m n ≡ false
 le-false m n less = grind arith

@@ -12,6 +12,7 @@ use Rattle.access_core.specs.declared.fresh.Fresh.{Fresh}
 use Rattle.access_core.specs.inner.MovingOn.{IsIndexIn, MayTell}
 use Rattle.access_core.specs.inner.Origins.{AreInOrder, packet_origin, sooner}
 use Rattle.access_core.specs.inner.Ready.{Fits, HasLists, HasRoomFor, IsTold, LeavesOthers, Spends, WasTold, later}
+use Rattle.access_core.proofs.Rotated.{All-both}
 use Rattle.access_core.proofs.InOrder.{AreTold, later-all, next-left, told-next, told-none}
 use Rattle.access_core.proofs.Terms.{All-cons, All-filter, All-head, All-nil, All-tail, All-weaker, ArgumentBlock, PacketId, Queue, QueueId, all_blocks}
 
@@ -99,11 +100,6 @@ max-right m n up = grind arith
 
 max-left : (m n : ℕ) → n ≤ m → max m n ≡ m
 max-left m n down = grind arith
-
--- what holds of each and also holds of each holds both
-All-both : {X : Type 0} (P Q : X → Type 0) (xs : List X) → All P xs → All Q xs → All (λ x. P x × Q x) xs
-All-both P Q [] ps qs = All-nil (λ x. P x × Q x)
-All-both P Q (x ∷ xs) ps qs = All-cons (λ x. P x × Q x) x xs (All-head P x xs ps, All-head Q x xs qs) (All-both P Q xs (All-tail P x xs ps) (All-tail Q x xs qs))
 
 -- those from a number on lie among all, and none comes before it
 lie-later : (from : ℕ) (bs : List ArgumentBlock) → All (λ (b : ArgumentBlock). Contains bs b × (from ≤ b.number)) (later from bs)

@@ -1,10 +1,11 @@
 -- What a core's fields tell is what its history goes on from: the state behind its audit.
-use Rattle.std.proofs.Common.{◌≡◌, ℕ, ◌+◌, List, [], ◌∷◌, length, map, refl, sym, ◌∙◌, ap, Bool, true, false, Option, Some, None}
+use Rattle.std.proofs.Common.{◌≡◌, ℕ, ◌+◌, List, [], ◌∷◌, length, map, refl, sym, ◌∙◌, ap, subst, arith, Bool, true, false, Option, Some, None}
 use Rattle.std.specs.Prelude.{◌&&◌, ◌||◌, ◌==◌, All, find, fold, option_map, if◌then◌else◌}
 use Rattle.std.specs.List.{cons_option, filter_map, list_any}
 use Rattle.std.specs.Option.{unwrap_or}
 use Rattle.std.proofs.lemmas.Bool.{and_parts, eqb-true}
-use Rattle.std.proofs.lemmas.List.Elements.{All-head, All-tail, All-weaker}
+use Rattle.std.proofs.lemmas.List.Elements.{All-cons, All-head, All-nil, All-tail, All-weaker}
+use Rattle.access_core.specs.inner.Ready.{IsTold}
 use Rattle.aql_packet.specs.Ids.{same_packet}
 use Rattle.core_model.specs.History.{OpenQueue, Openings, begin, no_queue, open_queue, packet_holds, packet_in, queue_in}
 use Rattle.access_core.specs.inner.Numbers.{has_number, queue_in as find_queue}
@@ -52,6 +53,33 @@ told_errors (Some q) = refl
 told_stopped : (o : Option Queue) → (unwrap_or (option_map queue_origin o) no_queue).stopped ≡ (cached_view o).stopped
 told_stopped None = refl
 told_stopped (Some q) = refl
+
+-- what holds of each and also holds of each holds both
+pub All-both : {X : Type 0} (P Q : X → Type 0) (xs : List X) → All P xs → All Q xs → All (λ x. P x × Q x) xs
+All-both P Q [] ps qs = All-nil (λ x. P x × Q x)
+All-both P Q (x ∷ xs) ps qs = All-cons (λ x. P x × Q x) x xs (All-head P x xs ps, All-head Q x xs qs) (All-both P Q xs (All-tail P x xs ps) (All-tail Q x xs qs))
+
+-- where no packet in flight has a name no block has it
+others-named : (queue : QueueId) (id : PacketId) (fs : List InFlight) (bs : List ArgumentBlock) → map packet_of bs ≡ map name_of fs → list_any (is_packet queue id) fs ≡ false
+    → All (λ (b : ArgumentBlock). same_packet queue id b.queue b.packet ≡ false) bs
+others-named queue id [] [] names none = All-nil (λ (b : ArgumentBlock). same_packet queue id b.queue b.packet ≡ false)
+others-named queue id [] (b ∷ bs) names none = absurd cc
+others-named queue id (f ∷ fs) [] names none = absurd cc
+others-named queue id (f ∷ fs) (b ∷ bs) names none =
+    let head : packet_of b ≡ name_of f = cc in
+    let rest : map packet_of bs ≡ map name_of fs = cc in
+    let other = or_none (is_packet queue id f) (list_any (is_packet queue id) fs) none in
+    All-cons (λ (b : ArgumentBlock). same_packet queue id b.queue b.packet ≡ false) b bs (not_it head other.0) (others-named queue id fs bs rest other.1)
+  where
+    or_none : (x y : Bool) → (x || y) ≡ false → (x ≡ false) × (y ≡ false)
+    or_none false y is = (refl, is)
+    or_none true y is = absurd cc
+
+    not_it : packet_of b ≡ name_of f → is_packet queue id f ≡ false → same_packet queue id b.queue b.packet ≡ false
+    not_it head other =
+        let same_queue : b.queue.0 ≡ f.queue.0 = ap (λ n. n.0.0) head in
+        let same_id : b.packet.0 ≡ f.id.0 = ap (λ n. n.1.0) head in
+        grind (arith, same_queue, same_id, other)
 
 module _ (a : Inside) (kept : IsCached a) where
   abbrev Now : Start
@@ -284,6 +312,33 @@ module _ (a : Inside) (kept : IsCached a) where
       ap (λ packets. packet_holds client on right (packet_in packets queue id)) packets-are
       ∙ held-told queue id client on right Flying kept.blocks kept.blocks_are apart
       ∙ kept.held queue id client on right
+
+  -- each is told of by its name
+  told-there : (fs : List InFlight) (blocks : List ArgumentBlock) → map packet_of blocks ≡ map name_of fs → AreApart fs → All (IsTold (told_all fs blocks)) blocks
+  told-there [] [] names apart = All-nil (IsTold [])
+  told-there [] (block ∷ blocks) names apart = absurd cc
+  told-there (f ∷ fs) [] names apart = All-nil (IsTold (told_all (f ∷ fs) []))
+  told-there (f ∷ fs) (block ∷ blocks) names apart =
+      let head : packet_of block ≡ name_of f = cc in
+      let rest : map packet_of blocks ≡ map name_of fs = cc in
+      All-cons (IsTold (told_of f block ∷ told_all fs blocks)) block blocks
+      (record { told = told_of f block; found = by_test (same_packet f.queue f.id block.queue block.packet) (its_own head); client = refl; rights = refl; arguments = refl })
+      (All-weaker (λ (b : ArgumentBlock). IsTold (told_all fs blocks) b × (same_packet f.queue f.id b.queue b.packet ≡ false)) (IsTold (told_of f block ∷ told_all fs blocks))
+      (λ b so. record { told = so.0.told; found = ap (λ (x : Bool). if x then Some (told_of f block) else packet_in (told_all fs blocks) b.queue b.packet) so.1 ∙ so.0.found; client = so.0.client; rights = so.0.rights; arguments = so.0.arguments })
+      blocks (All-both (IsTold (told_all fs blocks)) (λ (b : ArgumentBlock). same_packet f.queue f.id b.queue b.packet ≡ false) blocks (told-there fs blocks rest apart.1) (others-named f.queue f.id fs blocks rest apart.0)))
+    where
+      its_own : packet_of block ≡ name_of f → same_packet f.queue f.id block.queue block.packet ≡ true
+      its_own head =
+          let queue : block.queue.0 ≡ f.queue.0 = ap (λ n. n.0.0) head in
+          let id : block.packet.0 ≡ f.id.0 = ap (λ n. n.1.0) head in
+          grind (arith, queue, id)
+
+      by_test : (x : Bool) → x ≡ true → (if x then Some (told_of f block) else packet_in (told_all fs blocks) block.queue block.packet) ≡ Some (told_of f block)
+      by_test true is = refl
+      by_test false is = absurd cc
+
+  pub all-told : All (IsTold (filter_map (packet_origin a.queues.items) kept.blocks)) kept.blocks
+  all-told = subst (λ (ps : List PacketOrigin). All (IsTold ps) kept.blocks) (sym packets-are) (told-there Flying kept.blocks kept.blocks_are apart)
 
   -- ---- all of it
 

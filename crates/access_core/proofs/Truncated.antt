@@ -16,8 +16,12 @@ use Rattle.regions.proofs.Laws.{byte_at-inside}
 use Rattle.regions.specs.Memory.{lengths_of}
 use Rattle.grants.specs.Ledger as ledger
 use Rattle.access_core.specs.inner.Cached.{IsKeptStart}
-use Rattle.access_core.specs.declared.access.truncating.Told.{Told}
-use Rattle.access_core.specs.inner.MovingOn.{GoesOn, MayMove, MovesOn}
+use Rattle.access_core.specs.declared.fresh.Fresh.{Fresh}
+use Rattle.access_core.specs.inner.MovingOn.{MayMove, MovesOn}
+use Rattle.access_core.specs.inner.Ready.{AreReady, Fits, IsTold, Spends, WasTold, later}
+use Rattle.access_core.proofs.InOrder.{later-none}
+use Rattle.access_core.proofs.Rotated.{all-told}
+use Rattle.core_model.specs.declared.origin.PacketOrigin.{PacketOrigin}
 use Rattle.access_core.specs.inner.Origins.{SameInForce, packet_origin, queue_origin}
 use Rattle.access_core.proofs.Rotating.{IsCached-rotated, copied-behind, few-behind}
 use Rattle.access_core.proofs.Terms.{history_of, IsCached, Inside, Ledger, Rules, are_region_lengths, byte_at, lies_in_region, program_of, region_lengths, rules_in, rules_of, start_of}
@@ -73,6 +77,7 @@ module _ (a : Inside) (kept : IsCached a) (fit : are_region_lengths (region_leng
         few = kept.few;
         start_kept = kept.start_kept;
         before = kept.before;
+        ready = kept.ready;
         legal = kept.legal;
       },
       refl,
@@ -100,55 +105,70 @@ module _ (a : Inside) (kept : IsCached a) (fit : are_region_lengths (region_leng
       lengths = ap lengths_of memory ∙ is.lengths ∙ kept.start_kept.lengths ∙ sym (ap region_lengths policy);
     }
 
-  -- ---- all of it, where the start went on with what is told of queues and packets
+    -- ---- all of it, where the start that moved on has what is told of queues and packets
 
-  module _ (told : Told) (new : Origin) (queues : told.queues ≡ map queue_origin a.queues.items) (packets : told.packets ≡ filter_map (packet_origin a.queues.items) kept.blocks)
-      (opened : told.opened ≡ a.opened) (before : told.before ≡ a.start.before + length a.audit.items) (went : GoesOn a.start a.audit.items told new) where
-    pub policy-stays : new.policy ≡ a.start.policy
-    policy-stays = ap (λ (o : Origin). o.policy) went.others ∙ ap (λ (o : Origin). o.policy) went.moved.others
+    module _ (new : Origin) (others : new ≡ record moved { opened = a.opened; queues = map queue_origin a.queues.items; packets = filter_map (packet_origin a.queues.items) kept.blocks; before = a.start.before + length a.audit.items }) where
+      pub policy-stays : new.policy ≡ a.start.policy
+      policy-stays = ap (λ (o : Origin). o.policy) others ∙ ap (λ (o : Origin). o.policy) is.others
 
-    pub begins-behind : begin (map program_of a.kernels.items) new ≡ state_after (start_of a) a.audit.items
-    begins-behind =
-        moved-behind went.mid went.moved new policy-stays
-        (ap (λ (o : Origin). o.grants) went.others) (ap (λ (o : Origin). o.memory) went.others) (ap (λ (o : Origin). o.signals) went.others)
-        (ap (λ (o : Origin). o.opened) went.others ∙ opened) (ap (λ (o : Origin). o.queues) went.others ∙ queues)
-        (ap (λ (o : Origin). o.packets) went.others ∙ packets) (ap (λ (o : Origin). o.before) went.others ∙ before)
+      pub begins-behind : begin (map program_of a.kernels.items) new ≡ state_after (start_of a) a.audit.items
+      begins-behind =
+          moved-behind new policy-stays
+          (ap (λ (o : Origin). o.grants) others) (ap (λ (o : Origin). o.memory) others) (ap (λ (o : Origin). o.signals) others)
+          (ap (λ (o : Origin). o.opened) others) (ap (λ (o : Origin). o.queues) others)
+          (ap (λ (o : Origin). o.packets) others) (ap (λ (o : Origin). o.before) others)
 
-    pub stays-kept : IsKeptStart new
-    stays-kept = moved-kept went.mid went.moved new policy-stays (ap (λ (o : Origin). o.grants) went.others) (ap (λ (o : Origin). o.memory) went.others)
+      pub stays-kept : IsKeptStart new
+      stays-kept = moved-kept new policy-stays (ap (λ (o : Origin). o.grants) others) (ap (λ (o : Origin). o.memory) others)
 
-    lengths-stay : lengths_of new.memory ≡ region_lengths a.start.policy
-    lengths-stay = ap (λ (o : Origin). lengths_of o.memory) went.others ∙ went.moved.lengths ∙ kept.start_kept.lengths
+      lengths-stay : lengths_of new.memory ≡ region_lengths a.start.policy
+      lengths-stay = ap (λ (o : Origin). lengths_of o.memory) others ∙ is.lengths ∙ kept.start_kept.lengths
 
-    module _ (near : lies_too_far (history_of a) ≡ false) (audit : Roomy Entry) (empty : audit.items ≡ []) where
-      -- what is kept beside the audit is again what the history says
-      pub truncated-cached : audit.room ≡ a.capacity → IsCached (record a { start = new; audit = audit })
-      truncated-cached room = IsCached-rotated a kept new audit begins-behind empty room (few-behind a kept new near begins-behind) stays-kept
+      -- each packet in flight is told of from now on
+      told-now : (fresh : Fresh) → Spends a.in_flight_count a.fresh fresh → AreReady fresh new.before new kept.blocks
+      told-now fresh spent =
+          let before_is : new.before ≡ a.start.before + length a.audit.items = ap (λ (o : Origin). o.before) others in
+          let none : length (later new.before kept.blocks) ≡ 0 =
+          ap length (later-none new.before kept.blocks
+          (All-weaker (λ (b : ArgumentBlock). b.number < a.start.before + length a.audit.items) (λ (b : ArgumentBlock). b.number < new.before) (λ b less. omega (arith, less, before_is)) kept.blocks kept.laid.before)) in
+          record {
+            before = omega arith;
+            were_told = All-weaker (IsTold new.packets) (WasTold new.before new.packets) (λ b told less. told) kept.blocks
+                (subst (λ (ps : List PacketOrigin). All (IsTold ps) kept.blocks) (sym (ap (λ (o : Origin). o.packets) others)) (all-told a kept));
+            fit = All-weaker (Fits a.fresh) (Fits fresh) (λ b fit. (subst (λ n. length b.rights ≤ n) (sym spent.rights_each) fit.0, subst (λ n. length b.bytes ≤ n) (sym spent.bytes_each) fit.1)) kept.blocks kept.ready.fit;
+            room = (omega (arith, none), omega (arith, none));
+          }
 
-      -- and it is a rotation with its part dropped
-      pub is-truncated : Truncates (history_of a) (Ok tt) (history_of (record a { start = new; audit = audit }))
-      is-truncated = (
-        record { start = a.start; entries = a.audit.items; end = new },
-        near,
-        record {
-          start_is = refl;
-          entries_are = refl;
-          end_is = begins-behind;
-          lengths = lengths-stay;
-          declared = (policy-stays, policy-stays);
-          goes_on = record {
-            policy = refl;
-            granted = λ client on right. refl;
-            held = λ queue id client on right. refl;
-            memory = refl;
-            signals = refl;
-            opened = refl;
-            queues = refl;
-            packets = refl;
-            before = refl;
-          };
-          kernels_are = refl;
-          capacity_is = refl;
-          empty = empty;
-        },
-      )
+      module _ (near : lies_too_far (history_of a) ≡ false) (audit : Roomy Entry) (empty : audit.items ≡ []) where
+        -- what is kept beside the audit is again what the history says
+        pub truncated-cached : (fresh : Fresh) → Spends a.in_flight_count a.fresh fresh → audit.room ≡ a.capacity → IsCached (record a { start = new; audit = audit; fresh = fresh; told = new.before })
+        truncated-cached fresh spent room =
+            IsCached-rotated a kept new audit fresh new.before (told-now fresh spent) begins-behind empty room (few-behind a kept new near begins-behind) stays-kept
+
+        -- and it is a rotation with its part dropped
+        pub is-truncated : Truncates (history_of a) (Ok tt) (history_of (record a { start = new; audit = audit }))
+        is-truncated = (
+          record { start = a.start; entries = a.audit.items; end = new },
+          near,
+          record {
+            start_is = refl;
+            entries_are = refl;
+            end_is = begins-behind;
+            lengths = lengths-stay;
+            declared = (policy-stays, policy-stays);
+            goes_on = record {
+              policy = refl;
+              granted = λ client on right. refl;
+              held = λ queue id client on right. refl;
+              memory = refl;
+              signals = refl;
+              opened = refl;
+              queues = refl;
+              packets = refl;
+              before = refl;
+            };
+            kernels_are = refl;
+            capacity_is = refl;
+            empty = empty;
+          },
+        )
