@@ -187,3 +187,9 @@ none-found queues count blocks are origins from turns less none was =
     let before = was.left in
     let all = are.are_all in
     omega (arith, empty, before, all, less)
+
+-- it isn't before the number
+pub found-late : (queues : List Queue) (from : ℕ) (one : ArgumentBlock) → fold (sooner from) None (all_blocks queues) ≡ Some one → from ≤ one.number
+found-late queues from one found =
+    let is : IsSoonest from (all_blocks queues) (Some one) = subst (IsSoonest from (all_blocks queues)) found (soonest-is from (all_blocks queues)) in
+    is.1

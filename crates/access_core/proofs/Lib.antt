@@ -45,6 +45,8 @@ pub mod Opened
 pub mod Rotated
 mod Rotating
 mod MovingLemmas
+mod FewInFlight
 mod Retelling
+mod TellingAgain
 mod Truncated
 pub mod PolicyRows

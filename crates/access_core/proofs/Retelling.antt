@@ -53,6 +53,20 @@ others-stay (p ∷ ps) queue id (suc k) one at found q i other =
           All-tail (λ (x : PacketOrigin). is_told_of queue id x ≡ false) p (take k ps) at.2,
         )
 
+-- a packet that is told of is so at an index inside
+pub index-inside : (ps : List PacketOrigin) (queue : QueueId) (id : PacketId) (index : ℕ) (one : PacketOrigin) → IsIndexIn ps queue id index → packet_in ps queue id ≡ Some one → index < length ps
+index-inside [] queue id index one at found = absurd cc
+index-inside (p ∷ ps) queue id index one at found =
+    let there : slice_get (p ∷ ps) index ≡ Some one = at.0 ∙ found in
+    grind (arith, there)
+
+-- and it is the one that lies there
+pub the-one : (ps : List PacketOrigin) (queue : QueueId) (id : PacketId) (index : ℕ) (one taken : PacketOrigin) → IsIndexIn ps queue id index → packet_in ps queue id ≡ Some one → slice_get ps index ≡ Some taken
+    → taken ≡ one
+the-one ps queue id index one taken at found lies =
+    let same : Some taken ≡ Some one = sym lies ∙ at.0 ∙ found in
+    cc
+
 -- ---- those that aren't told yet
 
 later-later : (m n : ℕ) (bs : List ArgumentBlock) → m ≤ n → later n (later m bs) ≡ later n bs

@@ -60,7 +60,7 @@ All-both P Q [] ps qs = All-nil (λ x. P x × Q x)
 All-both P Q (x ∷ xs) ps qs = All-cons (λ x. P x × Q x) x xs (All-head P x xs ps, All-head Q x xs qs) (All-both P Q xs (All-tail P x xs ps) (All-tail Q x xs qs))
 
 -- where no packet in flight has a name no block has it
-others-named : (queue : QueueId) (id : PacketId) (fs : List InFlight) (bs : List ArgumentBlock) → map packet_of bs ≡ map name_of fs → list_any (is_packet queue id) fs ≡ false
+pub others-named : (queue : QueueId) (id : PacketId) (fs : List InFlight) (bs : List ArgumentBlock) → map packet_of bs ≡ map name_of fs → list_any (is_packet queue id) fs ≡ false
     → All (λ (b : ArgumentBlock). same_packet queue id b.queue b.packet ≡ false) bs
 others-named queue id [] [] names none = All-nil (λ (b : ArgumentBlock). same_packet queue id b.queue b.packet ≡ false)
 others-named queue id [] (b ∷ bs) names none = absurd cc
