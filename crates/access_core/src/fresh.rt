@@ -83,7 +83,9 @@ impl Fresh {
     {
         if let Some(told) = self.packets.pop() {
             let PacketOrigin {
-                rights, arguments, ..
+                rights,
+                arguments,
+                ..
             } = told;
             self.rights.keep(rights);
             self.bytes.keep(arguments);

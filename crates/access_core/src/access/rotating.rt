@@ -138,10 +138,7 @@ pub(crate) fn tell_queues(origins: &mut Ample<QueueOrigin, QUEUES>, queues: &[Qu
 }
 
 // What is kept of all queues.
-fn queue_origins(
-    alloc: Global,
-    queues: &[Queue],
-) -> Result<Ample<QueueOrigin, QUEUES>, AllocError>
+fn queue_origins(alloc: Global, queues: &[Queue]) -> Result<Ample<QueueOrigin, QUEUES>, AllocError>
     requires few { length queues.now ≤ QUEUES }
     requires sound { All IsSound queues.now }
     ensures { IfOk result (λ origins. origins ≡ map queue_origin queues.now) }
