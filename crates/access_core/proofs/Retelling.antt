@@ -1,6 +1,6 @@
 -- What was told of packets in flight is told anew: of those that were launched before a number in the memory that it has, of the others in
 -- room that was got.
-use Rattle.std.proofs.Common.{◌≡◌, ℕ, zero, suc, ◌+◌, ◌-◌, ◌<◌, ◌≤◌, ◌⊎◌, inl, inr, Bool, true, false, List, [], ◌∷◌, ◌++◌, length, length-append, filter, find, fold, max, refl, sym, ◌∙◌, ap, subst, Option, Some, None, arith, All, nat_le, remove, slice_get, take, if◌then◌else◌}
+use Rattle.std.proofs.Common.{◌≡◌, ℕ, zero, suc, ◌+◌, ◌-◌, ◌<◌, ◌≤◌, ◌⊎◌, inl, inr, Bool, true, false, List, [], ◌∷◌, ◌++◌, length, length-append, filter, find, fold, max, refl, sym, ◌∙◌, ap, subst, Option, Some, None, arith, All, get_or, nat_le, remove, slice_get, take, if◌then◌else◌}
 use Rattle.std.specs.List.{Contains, filter_map}
 use Rattle.std.specs.Prelude.{option_to_list}
 use Rattle.std.proofs.lemmas.List.Elements.{All-contains_itself}
@@ -26,17 +26,53 @@ is_told_of queue id p = same_packet p.flying.queue p.flying.id queue id
 two-names : (p : PacketOrigin) (queue q : QueueId) (id i : PacketId) → is_told_of queue id p ≡ true → same_packet queue id q i ≡ false → is_told_of q i p ≡ false
 two-names p queue q id i is other = grind arith
 
+-- one that is found has the name
+pub found-named : (ps : List PacketOrigin) (queue : QueueId) (id : PacketId) (one : PacketOrigin) → packet_in ps queue id ≡ Some one → is_told_of queue id one ≡ true
+found-named [] queue id one found = absurd cc
+found-named (p ∷ ps) queue id one found = by_test (found-named ps queue id one) (is_told_of queue id p) refl found
+  where
+    by_test : (packet_in ps queue id ≡ Some one → is_told_of queue id one ≡ true) → (b : Bool) → is_told_of queue id p ≡ b → (if b then Some p else packet_in ps queue id) ≡ Some one → is_told_of queue id one ≡ true
+    by_test more true is same = let first : p ≡ one = cc in ap (is_told_of queue id) (sym first) ∙ is
+    by_test more false is rest = more rest
+
+-- the index at which it is found, where none before it has the name
+pub index-found : (ps : List PacketOrigin) (queue : QueueId) (id : PacketId) (i : ℕ) (x : PacketOrigin) → i < length ps → x ≡ get_or ps i x → is_told_of queue id x ≡ true
+    → ((k : ℕ) (d : PacketOrigin) → k < i → is_told_of queue id (get_or ps k d) ≡ false) → IsIndexIn ps queue id i
+index-found [] queue id i x less is named before = absurd (omega (arith, less))
+index-found (p ∷ ps) queue id zero x less is named before =
+    let there : is_told_of queue id p ≡ true = ap (is_told_of queue id) (sym is) ∙ named in (
+      sym (ap (λ (b : Bool). if b then Some p else packet_in ps queue id) there),
+      omega arith,
+      All-nil (λ (y : PacketOrigin). is_told_of queue id y ≡ false),
+    )
+index-found (p ∷ ps) queue id (suc k) x less is named before =
+    let past : is_told_of queue id p ≡ false = before 0 p (omega arith) in
+    let rest = index-found ps queue id k x (omega (arith, less)) is named (λ j d below. before (suc j) d (omega (arith, below))) in
+    let within = rest.1 in (
+      rest.0 ∙ sym (ap (λ (b : Bool). if b then Some p else packet_in ps queue id) past),
+      omega (arith, within),
+      All-cons (λ (y : PacketOrigin). is_told_of queue id y ≡ false) p (take k ps) past rest.2,
+    )
+
+pub index-none : (ps : List PacketOrigin) (queue : QueueId) (id : PacketId) → ((k : ℕ) (d : PacketOrigin) → k < length ps → is_told_of queue id (get_or ps k d) ≡ false) → IsIndexIn ps queue id (length ps)
+index-none [] queue id before = (refl, omega arith, All-nil (λ (y : PacketOrigin). is_told_of queue id y ≡ false))
+index-none (p ∷ ps) queue id before =
+    let past : is_told_of queue id p ≡ false = before 0 p (omega arith) in
+    let rest = index-none ps queue id (λ j d below. before (suc j) d (omega (arith, below))) in (
+      rest.0 ∙ sym (ap (λ (b : Bool). if b then Some p else packet_in ps queue id) past),
+      omega arith,
+      All-cons (λ (y : PacketOrigin). is_told_of queue id y ≡ false) p (take (length ps) ps) past rest.2,
+    )
+
 -- where one is taken out, others are told of as before
 pub others-stay : (ps : List PacketOrigin) (queue : QueueId) (id : PacketId) (index : ℕ) (one : PacketOrigin) → IsIndexIn ps queue id index → packet_in ps queue id ≡ Some one
     → (q : QueueId) (i : PacketId) → same_packet queue id q i ≡ false → packet_in (remove ps index) q i ≡ packet_in ps q i
 others-stay [] queue id index one at found q i other = absurd cc
 others-stay (p ∷ ps) queue id zero one at found q i other =
     let first : Some p ≡ Some one = at.0 ∙ found in
-    let named : is_told_of queue id p ≡ true = here (is_told_of queue id p) refl first in
+    let same : p ≡ one = cc in
+    let named : is_told_of queue id p ≡ true = ap (is_told_of queue id) same ∙ found-named (p ∷ ps) queue id one found in
     ap (λ (b : Bool). if b then Some p else packet_in ps q i) (sym (two-names p queue q id i named other))
-  where
-    here : (b : Bool) → is_told_of queue id p ≡ b → Some p ≡ Some one → b ≡ true
-    here b is first = grind (arith, found)
 others-stay (p ∷ ps) queue id (suc k) one at found q i other =
     let past : is_told_of queue id p ≡ false = All-head (λ (x : PacketOrigin). is_told_of queue id x ≡ false) p (take k ps) at.2 in
     let rest = others-stay ps queue id k one (behind past) (skipped past) q i other in
@@ -53,12 +89,16 @@ others-stay (p ∷ ps) queue id (suc k) one at found q i other =
           All-tail (λ (x : PacketOrigin). is_told_of queue id x ≡ false) p (take k ps) at.2,
         )
 
+-- what lies at an index lies inside
+lies-inside : (ps : List PacketOrigin) (index : ℕ) (one : PacketOrigin) → slice_get ps index ≡ Some one → index < length ps
+lies-inside [] zero one is = absurd cc
+lies-inside [] (suc k) one is = absurd cc
+lies-inside (p ∷ ps) zero one is = omega arith
+lies-inside (p ∷ ps) (suc k) one is = let rest = lies-inside ps k one is in omega (arith, rest)
+
 -- a packet that is told of is so at an index inside
 pub index-inside : (ps : List PacketOrigin) (queue : QueueId) (id : PacketId) (index : ℕ) (one : PacketOrigin) → IsIndexIn ps queue id index → packet_in ps queue id ≡ Some one → index < length ps
-index-inside [] queue id index one at found = absurd cc
-index-inside (p ∷ ps) queue id index one at found =
-    let there : slice_get (p ∷ ps) index ≡ Some one = at.0 ∙ found in
-    grind (arith, there)
+index-inside ps queue id index one at found = lies-inside ps index one (at.0 ∙ found)
 
 -- and it is the one that lies there
 pub the-one : (ps : List PacketOrigin) (queue : QueueId) (id : PacketId) (index : ℕ) (one taken : PacketOrigin) → IsIndexIn ps queue id index → packet_in ps queue id ≡ Some one → slice_get ps index ≡ Some taken
@@ -73,17 +113,20 @@ later-later : (m n : ℕ) (bs : List ArgumentBlock) → m ≤ n → later n (lat
 later-later m n [] up = refl
 later-later m n (b ∷ bs) up = grind (arith, later-later m n bs up)
 
+later-under : (m n : ℕ) (bs : List ArgumentBlock) → m ≤ n → later m (later n bs) ≡ later n bs
+later-under m n [] up = refl
+later-under m n (b ∷ bs) up = grind (arith, later-under m n bs up)
+
+since-le : (m n : ℕ) → m ≤ n → nat_le m n ≡ true
+since-le m n up = grind arith
+
 -- one that is next, and not before a number, is the next from that number on
 pub next-since : (told from : ℕ) (bs : List ArgumentBlock) (one : ArgumentBlock) → later from bs ≡ one ∷ later (one.number + 1) bs → from ≤ told → told ≤ one.number
     → later told bs ≡ one ∷ later (one.number + 1) bs
 next-since told from bs one next up since =
-    sym (later-later from told bs up) ∙ ap (later told) next ∙ kept
-  where
-    kept : later told (one ∷ later (one.number + 1) bs) ≡ one ∷ later (one.number + 1) bs
-    kept = grind (arith, all-since (later (one.number + 1) bs))
-      where
-        all-since : (xs : List ArgumentBlock) → later told xs ≡ later told xs
-        all-since xs = refl
+    sym (later-later from told bs up) ∙ ap (later told) next
+    ∙ ap (λ (b : Bool). if b then one ∷ later told (later (one.number + 1) bs) else later told (later (one.number + 1) bs)) (since-le told one.number since)
+    ∙ ap (λ xs. one ∷ xs) (later-under told (one.number + 1) bs (omega (arith, since)))
 
 -- where those are that were launched before a number or aren't told yet
 since-max : (told from : ℕ) (bs : List ArgumentBlock) (one : ArgumentBlock) → later from bs ≡ one ∷ later (one.number + 1) bs → from ≤ one.number → told ≤ one.number
@@ -123,11 +166,11 @@ lie-later from bs =
   where
     up : (xs : List ArgumentBlock) → All (λ (b : ArgumentBlock). from ≤ b.number) (later from xs)
     up [] = All-nil (λ (b : ArgumentBlock). from ≤ b.number)
-    up (x ∷ xs) = by_test (nat_le from x.number) refl
+    up (x ∷ xs) = by_test (up xs) (nat_le from x.number) refl
       where
-        by_test : (b : Bool) → nat_le from x.number ≡ b → All (λ (b : ArgumentBlock). from ≤ b.number) (if b then x ∷ later from xs else later from xs)
-        by_test true is = All-cons (λ (b : ArgumentBlock). from ≤ b.number) x (later from xs) (le-of from x.number is) (up xs)
-        by_test false is = up xs
+        by_test : All (λ (b : ArgumentBlock). from ≤ b.number) (later from xs) → (b : Bool) → nat_le from x.number ≡ b → All (λ (b : ArgumentBlock). from ≤ b.number) (if b then x ∷ later from xs else later from xs)
+        by_test rest true is = All-cons (λ (b : ArgumentBlock). from ≤ b.number) x (later from xs) (le-of from x.number is) rest
+        by_test rest false is = rest
 
 -- Of packets in flight those so far are told anew.
 pub record AreRetold (queues : List Queue) (told : ℕ) (blocks : List ArgumentBlock) (origins : List PacketOrigin) (first fresh : Fresh) (from turns : ℕ) : Type 0 where
@@ -144,7 +187,7 @@ module _ (queues : List Queue) (count told : ℕ) (packets : List PacketOrigin) 
     so_far = told-none queues blocks;
     few = omega arith;
     were_told = subst (All (WasTold told first.packets)) (sym (later-all blocks)) (subst (λ (ps : List PacketOrigin). All (WasTold told ps) blocks) (sym same) may.were_told);
-    room = may.room;
+    room = subst (λ n. HasLists first (length (later n blocks))) (sym (max-left told 0 (omega arith))) may.room;
     spent = record { rights_each = refl; bytes_each = refl; rights = omega arith; bytes = omega arith };
   }
 

@@ -2,6 +2,7 @@
 
 ghost use Rattle.std.specs.Prelude.{◌≡◌, ◌+◌, ◌<◌, ◌≤◌, [], ◌++◌, List, length, option_to_list};
 ghost use Rattle.std.specs.List.{filter_map};
+ghost use Rattle.aql_packet.specs.Ids.{same_packet};
 ghost use Rattle.core_model.specs.Rotation.{Truncates};
 ghost use Rattle.core_model.specs.declared.limits.TheConstants.{ALL_IN_FLIGHT};
 ghost use Rattle.access_core.specs.declared.argument_blocks.ArgumentBlock.{ArgumentBlock};
@@ -161,12 +162,19 @@ fn told_again(
     }
 }
 
+// Whether a packet is told of here.
+fn is_told_of(told: &PacketOrigin, queue: QueueId, packet: PacketId) -> bool
+    ensures { result ≡ same_packet told.now.flying.queue told.now.flying.id queue packet }
+{
+    told.flying.queue == queue && told.flying.id == packet
+}
+
 // At which index a packet is told of, of these; behind the last it isn't.
 fn index_in(packets: &[PacketOrigin], queue: QueueId, packet: PacketId) -> usize
     ensures { IsIndexIn packets.now queue packet result }
 {
     'packets: for (index, told) in packets.iter().enumerate() {
-        if told.flying.queue == queue && told.flying.id == packet {
+        if is_told_of(told, queue, packet) {
             return index;
         }
     }

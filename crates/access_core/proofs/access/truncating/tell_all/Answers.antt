@@ -43,8 +43,7 @@ tell_packet-requires-clause-room c = λ since.
     let fit = All-contains (λ (b : ArgumentBlock). Fits c.args.fresh.now b) c.requires.ready.0 c.in-Some.block.now may.fit there in (
       next-room c.args.queues.now c.args.count c.args.told c.args.fresh.now.packets c.args.fresh.now c.requires.ready.0 may c.loop-turns.origins c.loop-turns.fresh c.loop-turns.from c.loop-turns.turns was
           c.in-Some.block.now found (found-late c.args.queues.now c.loop-turns.from c.in-Some.block.now found) since,
-      subst (λ n. length c.in-Some.block.now.rights ≤ n) (sym was.spent.rights_each) fit.0,
-      subst (λ n. length c.in-Some.block.now.bytes ≤ n) (sym was.spent.bytes_each) fit.1,
+      (subst (λ n. length c.in-Some.block.now.rights ≤ n) (sym was.spent.rights_each) fit.0, subst (λ n. length c.in-Some.block.now.bytes ≤ n) (sym was.spent.bytes_each) fit.1),
     )
 
 pub loop-turns-preserved : goal.loop-turns-preserved

@@ -7,9 +7,11 @@ use Rattle.access_core.proofs.Retelling.{index-inside, others-stay, the-one}
 use Rattle.access_core.proofs.access.truncating.told_again.Goals as goal
 
 pub remove-before-requires : goal.remove-before-requires
-remove-before-requires c =
-    index-inside c.args.packets.now c.args.block.now.queue c.args.block.now.packet c.index_in-index.result c.requires.told
-    (subst (λ ps. IsIndexIn ps c.args.block.now.queue c.args.block.now.packet c.index_in-index.result) c.as_slice.ensures.items c.index_in-index.ensures) c.requires.found
+remove-before-requires c = (
+  omega arith,
+  index-inside c.args.packets.now c.args.block.now.queue c.args.block.now.packet c.index_in-index.result c.requires.told
+    (subst (λ ps. IsIndexIn ps c.args.block.now.queue c.args.block.now.packet c.index_in-index.result) c.as_slice.ensures.items c.index_in-index.ensures) c.requires.found,
+)
 
 pub returns-clause-origin : goal.returns-clause-origin
 returns-clause-origin c =
