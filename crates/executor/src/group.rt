@@ -134,9 +134,10 @@ fn run_program(
         arguments: dispatch.arguments,
         view,
         location: Place::new(&location),
+        program,
     };
     let mut memory = blank(alloc, dispatch.group_segment_size)?;
-    if let Err(fault) = run_items(alloc, &context, program, count, &mut memory) {
+    if let Err(fault) = run_items(alloc, &context, count, &mut memory) {
         return Err(fault);
     }
     let runs = memory.written.runs(alloc)?;

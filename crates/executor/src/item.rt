@@ -10,6 +10,7 @@ use crate::limits::BUDGET;
 use crate::location::Place;
 use crate::registers::Registers;
 use crate::view::View;
+use kernel_check::Program;
 
 /// A work-item between two instructions.
 #[derive(Clone, Copy)]
@@ -93,4 +94,6 @@ pub struct ItemContext<'a> {
     /// The regions that the packet holds.
     pub view: &'a View<'a>,
     pub location: Place,
+    /// The program that it runs.
+    pub program: &'a Program,
 }

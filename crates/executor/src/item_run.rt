@@ -77,18 +77,12 @@ fn line_of(program: &Program, step: usize) -> u32
 
 /// One turn of an item that has not used up its budget.
 #[inline(always)]
-fn turn(
-    alloc: Global,
-    context: &ItemContext<'_>,
-    program: &Program,
-    item: &mut Item,
-    memory: &mut Memory,
-) -> Outcome
-    requires { length context.now.arguments.now ≡ program.now.argument_bytes }
+fn turn(alloc: Global, context: &ItemContext<'_>, item: &mut Item, memory: &mut Memory) -> Outcome
+    requires { length context.now.arguments.now ≡ context.now.program.now.argument_bytes }
     ensures { (executed : ℕ) → executed < BUDGET
-        → Acts (turn (surroundings context.now) program.now.steps item.old executed (contents memory.old)) result item.new (contents memory.new) }
+        → Acts (turn (surroundings context.now) context.now.program.now.steps item.old executed (contents memory.old)) result item.new (contents memory.new) }
 {
-    match program.steps().get(item.next) {
+    match context.program.steps().get(item.next) {
         None => Outcome::Ended,
         Some(step) => act(alloc, context, item, memory, step),
     }
@@ -98,19 +92,18 @@ fn turn(
 pub fn run_item(
     alloc: Global,
     context: &ItemContext<'_>,
-    program: &Program,
     number: u32,
     stopped: &mut StoppedItem,
     memory: &mut Memory,
     broken: &mut RunFault,
 ) -> bool
-    requires arguments { length context.now.arguments.now ≡ program.now.argument_bytes }
+    requires arguments { length context.now.arguments.now ≡ context.now.program.now.argument_bytes }
     requires item { context.now.location.item ≡ id_of context.now.location.current_size number }
-    ensures comes { ItemComes (surroundings context.now) program.now number
+    ensures comes { ItemComes (surroundings context.now) context.now.program.now number
         (ready stopped.old.item (executed_by stopped.old)) (contents memory.old) result (standing stopped.new) (contents memory.new) broken.new }
-    ensures rest { LeavesRest program.now.steps result stopped.old.item.registers stopped.new.item.registers }
+    ensures rest { LeavesRest context.now.program.now.steps result stopped.old.item.registers stopped.new.item.registers }
 {
-    let flat_steps = program.flat_steps();
+    let flat_steps = context.program.flat_steps();
     let mut left = stopped.left.min(BUDGET);
     let mut next = stopped.item.next;
     'turns: while left > 0 {
@@ -140,11 +133,11 @@ pub fn run_item(
                 return true;
             }
             Gone::BrokeGlobal(rule, address) => {
-                tell_global(broken, program, number, next, rule, address);
+                tell_global(broken, context.program, number, next, rule, address);
                 return false;
             }
             Gone::BrokeGroup(rule, address) => {
-                tell_group(broken, program, number, next, rule, address);
+                tell_group(broken, context.program, number, next, rule, address);
                 return false;
             }
             Gone::OutOfMemory => {
@@ -153,7 +146,7 @@ pub fn run_item(
             }
             Gone::Other => {
                 stopped.item.next = next;
-                match turn(alloc, context, program, &mut stopped.item, memory) {
+                match turn(alloc, context, &mut stopped.item, memory) {
                     Outcome::GoesOn => next = stopped.item.next,
                     Outcome::Arrived => {
                         stopped.left = left;
@@ -166,7 +159,7 @@ pub fn run_item(
                         return true;
                     }
                     Outcome::Broke(rule, address) => {
-                        tell(broken, program, number, next, rule, address);
+                        tell(broken, context.program, number, next, rule, address);
                         return false;
                     }
                     Outcome::OutOfMemory => {
@@ -177,8 +170,8 @@ pub fn run_item(
             }
         }
     }
-    if next < program.steps().len() {
-        tell_spent(broken, program, number, next);
+    if next < context.program.steps().len() {
+        tell_spent(broken, context.program, number, next);
         return false;
     }
     stopped.stop = Stop::End;

@@ -32,17 +32,16 @@ pub struct Waiter {
 pub fn run_items(
     alloc: Global,
     context: &ItemContext<'_>,
-    program: &Program,
     count: u32,
     memory: &mut Memory,
 ) -> Result<(), RunFault>
-    requires arguments { length context.now.arguments.now ≡ program.now.argument_bytes }
+    requires arguments { length context.now.arguments.now ≡ context.now.program.now.argument_bytes }
     requires count { count ≡ count_of context.now.location.current_size }
     requires few { count ≤ MOST_GROUP_ITEMS }
-    ensures ok { OnOk result (Leads (surroundings context.now) program.now (beginning count (contents memory.old)) (done (contents memory.new))) }
-    ensures err { IfErr result (Fails (surroundings context.now) program.now (beginning count (contents memory.old))) }
+    ensures ok { OnOk result (Leads (surroundings context.now) context.now.program.now (beginning count (contents memory.old)) (done (contents memory.new))) }
+    ensures err { IfErr result (Fails (surroundings context.now) context.now.program.now (beginning count (contents memory.old))) }
 {
-    let mut stopped = run_to_first_barrier(alloc, context, program, count, memory)?;
+    let mut stopped = run_to_first_barrier(alloc, context, count, memory)?;
     let ended = count - stopped.len() as u32;
     'rounds: loop {
         let Some(waiter) = least_waiting(ended, stopped.as_slice()) else {
@@ -50,15 +49,9 @@ pub fn run_items(
         };
         if !wait_together(ended, stopped.as_slice(), waiter.next) {
             let barrier = waiter.next.saturating_sub(1);
-            return Err(fault(program, waiter.number, barrier, Rule::A6, None));
+            return Err(fault(context.program, waiter.number, barrier, Rule::A6, None));
         }
-        if let Err(fault) = run_past_barrier(
-            alloc,
-            context,
-            program,
-            stopped.as_mut_slice(),
-            memory,
-        ) {
+        if let Err(fault) = run_past_barrier(alloc, context, stopped.as_mut_slice(), memory) {
             return Err(fault);
         }
     }
@@ -69,26 +62,25 @@ pub fn run_items(
 fn run_to_first_barrier(
     alloc: Global,
     context: &ItemContext<'_>,
-    program: &Program,
     count: u32,
     memory: &mut Memory,
 ) -> Result<Vec<StoppedItem>, RunFault>
-    requires arguments { length context.now.arguments.now ≡ program.now.argument_bytes }
+    requires arguments { length context.now.arguments.now ≡ context.now.program.now.argument_bytes }
     requires count { count ≡ count_of context.now.location.current_size }
     requires few { count ≤ MOST_GROUP_ITEMS }
-    ensures ok { IfOk result (λ stopped. Leads (surroundings context.now) program.now (beginning count (contents memory.old))
+    ensures ok { IfOk result (λ stopped. Leads (surroundings context.now) context.now.program.now (beginning count (contents memory.old))
         (running (after (count - length stopped.items) (map standing stopped.items)) (contents memory.new))) }
     ensures few { IfOk result (λ stopped. length stopped.items ≤ count) }
-    ensures err { IfErr result (Fails (surroundings context.now) program.now (beginning count (contents memory.old))) }
+    ensures err { IfErr result (Fails (surroundings context.now) context.now.program.now (beginning count (contents memory.old))) }
 {
     let mut stopped: Vec<StoppedItem> = Vec::new(alloc);
     let mut own = first_of(context);
     let mut broken = RunFault::OutOfMemory;
-    let few = sets_few(program, count);
+    let few = sets_few(context.program, count);
     let mut item = StoppedItem::fresh();
     'items: for number in 0..count {
         item.begin_anew(few);
-        if !run_item(alloc, &own, program, number, &mut item, memory, &mut broken) {
+        if !run_item(alloc, &own, number, &mut item, memory, &mut broken) {
             return Err(broken);
         }
         keep_stopped(&mut stopped, &item)?;
@@ -117,6 +109,7 @@ fn first_of<'a>(context: &ItemContext<'a>) -> ItemContext<'a>
         arguments: context.arguments,
         view: context.view,
         location: context.location.first(),
+        program: context.program,
     }
 }
 
@@ -134,32 +127,23 @@ fn keep_stopped(stopped: &mut Vec<StoppedItem>, item: &StoppedItem) -> Result<()
 fn run_past_barrier(
     alloc: Global,
     context: &ItemContext<'_>,
-    program: &Program,
     stopped: &mut [StoppedItem],
     memory: &mut Memory,
 ) -> Result<(), RunFault>
-    requires arguments { length context.now.arguments.now ≡ program.now.argument_bytes }
+    requires arguments { length context.now.arguments.now ≡ context.now.program.now.argument_bytes }
     requires count { length stopped.old ≡ count_of context.now.location.current_size }
     requires few { length stopped.old ≤ MOST_GROUP_ITEMS }
     requires can { CanGoOnFrom 0 stopped.old }
-    ensures ok { OnOk result (Leads (surroundings context.now) program.now (running (stopped_again 0 stopped.old) (contents memory.old))
+    ensures ok { OnOk result (Leads (surroundings context.now) context.now.program.now (running (stopped_again 0 stopped.old) (contents memory.old))
         (running (map standing stopped.new) (contents memory.new))) }
     ensures count { OnOk result (length stopped.new ≡ length stopped.old) }
-    ensures err { IfErr result (Fails (surroundings context.now) program.now (running (stopped_again 0 stopped.old) (contents memory.old))) }
+    ensures err { IfErr result (Fails (surroundings context.now) context.now.program.now (running (stopped_again 0 stopped.old) (contents memory.old))) }
 {
     let mut own = first_of(context);
     let mut broken = RunFault::OutOfMemory;
     'items: for number in 0..stopped.len() {
         let item = &mut stopped[number];
-        if !run_item(
-            alloc,
-            &own,
-            program,
-            number as u32,
-            item,
-            memory,
-            &mut broken,
-        ) {
+        if !run_item(alloc, &own, number as u32, item, memory, &mut broken) {
             return Err(broken);
         }
         let item_behind = id_behind(&own.location.current_size(), &own.location.item_id());
