@@ -1,0 +1,1 @@
+import tcost,sys,io,contextlib
