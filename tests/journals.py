@@ -276,7 +276,6 @@ def shown(trials, program, room):
         (["explain", f"{room}/nothing", "--journal", fill], 3),
         (["run", SAMPLE, "--journal", "/dev/full"], 3),
         (["run", SAMPLE, "--journal", f"{room}/nothing/there"], 3),
-        (["run", SAMPLE, "--readable", "--journal", fill], 2),
     ]
     trials.every("what can't be shown or written ends with its status", lambda it: None if (ended := run([program, *it[0]], b"list bob\n")).status == it[1] else f"{ended}", wrong)
 

@@ -3,6 +3,7 @@
 use crate::fault::Fault;
 use aql_packet::{Address, AgentDispatch, Header, Packet, Scope, SignalHandle, encode};
 use commands::{Status, run_policy};
+use script::Noted;
 use std::alloc::{AllocError, Global};
 use std::time::{Clock, Duration, Instant};
 
@@ -93,7 +94,15 @@ fn run(alloc: Global, script: &str) -> Result<Vec<u8>, Fault> {
     let mut out = Vec::new(alloc);
     let mut err = Vec::new(alloc);
     let policy = POLICY.as_bytes();
-    match run_policy(alloc, policy, PLACES, &mut reader, &mut out, &mut err) {
+    let ended = run_policy(
+        alloc,
+        policy,
+        PLACES,
+        &mut Noted::new(&mut reader),
+        &mut Noted::new(&mut out),
+        &mut Noted::new(&mut err),
+    );
+    match ended {
         Status::Done => Ok(out),
         _ => Err(Fault::Script),
     }

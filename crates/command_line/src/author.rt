@@ -9,6 +9,7 @@ use assemble::{AssembleError, Book, BookError, assemble_script};
 use commands::{Status, check_policy};
 use explain::text_help;
 use kernel_listing::{Form, Listing, TextFault, list, told as fault_told};
+use script::Noted;
 use std::alloc::{AllocError, Global};
 use std::io;
 use std::io::Write;
@@ -148,7 +149,12 @@ pub fn assemble_policy<R: io::Read, O: io::Write, E: io::Write>(
     out: &mut O,
     err: &mut E,
 ) -> Status {
-    match check_policy(alloc, policy, &mut Nowhere, err) {
+    match check_policy(
+        alloc,
+        policy,
+        &mut Noted::new(Nowhere),
+        &mut Noted::new(&mut *err),
+    ) {
         Status::Done => assemble_checked(alloc, policy, script, out, err),
         status => status,
     }

@@ -1,11 +1,12 @@
 //! A check that tells beside a policy's fault where it lies, and what mends it.
 
-use crate::policies::{Judged, entries_told, judge, name_blame};
-use commands::{CommandLog, KernelCause, KernelFault, Status, count_rows};
+use crate::policies::{entries_told, judge, name_blame};
+use commands::{KernelCause, KernelFault, Setup, Status, count_rows};
 use explain::{kernel_fault, policy_fault};
 use kernel_listing::TextFault;
 use pages::rows_of;
 use policy::{Policy, PolicyCause, PolicyFault};
+use script::Noted;
 use std::alloc::{AllocError, Global};
 use std::io;
 use std::io::Write;
@@ -101,11 +102,16 @@ pub fn tell<E: io::Write>(err: &mut E, told: Result<String, AllocError>, status:
 fn count_and_tell<O: io::Write, E: io::Write>(
     alloc: Global,
     file: PolicyFile<'_>,
-    judged: &Judged,
+    judged: &Setup,
     out: &mut O,
     err: &mut E,
 ) -> Status {
-    match count_rows(alloc, &judged.policy, out, err, &mut CommandLog::none()) {
+    match count_rows(
+        alloc,
+        &judged.policy,
+        &mut Noted::new(&mut *out),
+        &mut Noted::new(&mut *err),
+    ) {
         Status::Failed => Status::Failed,
         status => tell(err, entries_told(alloc, file, judged), status),
     }

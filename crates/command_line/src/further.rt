@@ -1,18 +1,25 @@
 //! Runs the script on standard input over the policy in a file, with the policies in further files after it.
 
-use crate::drawing::{Drawn, draw_explaining};
-use crate::explained_run::run_explaining;
 use crate::explaining::PolicyFile;
-use crate::perform::{read_file, unread};
-use crate::policies::Further;
+use crate::perform::{failed, read_file, unmade, unread};
+use crate::policies::{Further, name_blame, open_run};
 use crate::request::Reads;
 use crate::session::GREETING;
 use crate::terminal::{Beside, TerminalReader};
-use commands::{PolicyText, Span, Status, draw_policies, run_policies, run_strictly};
+use crate::watchers::{Recorder, Teller, Telling};
+use assemble::{Book, BookError};
+use commands::{Opened, PolicyText, Span, Status, draw_audit, run_over, tell_run};
+use journal_commands::{JournalFault, JournalWriter};
+use json_replies::Json;
+use readable::Readable;
+use script::{Both, Nobody, Noted, Plain, RunFault, Silent, Strict, Style, Text};
+use std::alloc::Global;
+use std::fs::File;
 use std::io::{self, IsTerminal};
+use world::World;
 
-// Lines are those of scripts, and replies are text.
-const AS_SCRIPTS: Reads = Reads {
+/// Lines are those of scripts, and replies are text.
+pub const AS_SCRIPTS: Reads = Reads {
     is_readable: false,
     is_json: false,
 };
@@ -31,56 +38,6 @@ pub struct Manner {
     pub drawn: Option<Span>,
 }
 
-impl Manner {
-    /// Neither strict nor explaining.
-    pub fn plain(places: usize) -> Manner {
-        Manner {
-            places,
-            is_strict: false,
-            is_explaining: false,
-            is_session: false,
-            reads: AS_SCRIPTS,
-            drawn: None,
-        }
-    }
-
-    /// Strict, and not explaining.
-    pub fn strict(places: usize) -> Manner {
-        Manner {
-            places,
-            is_strict: true,
-            is_explaining: false,
-            is_session: false,
-            reads: AS_SCRIPTS,
-            drawn: None,
-        }
-    }
-
-    /// Explaining.
-    pub fn explaining(places: usize, is_strict: bool) -> Manner {
-        Manner {
-            places,
-            is_strict,
-            is_explaining: true,
-            is_session: false,
-            reads: AS_SCRIPTS,
-            drawn: None,
-        }
-    }
-
-    /// With a picture of these entries; explaining, if so.
-    pub fn drawing(places: usize, span: Span, is_explaining: bool) -> Manner {
-        Manner {
-            places,
-            is_strict: false,
-            is_explaining,
-            is_session: false,
-            reads: AS_SCRIPTS,
-            drawn: Some(span),
-        }
-    }
-}
-
 /// Reads files in their order, up to the first that can't be read.
 pub fn read_files(rt: &HostRuntime, files: &[&str], texts: &mut Vec<PolicyText>) -> io::Result<()> {
     for file in files {
@@ -90,86 +47,191 @@ pub fn read_files(rt: &HostRuntime, files: &[&str], texts: &mut Vec<PolicyText>)
     Ok(())
 }
 
-// Runs a script over the policies in texts, with nothing beside its replies or its picture.
-fn run_plainly<R: io::Read>(
-    rt: &HostRuntime,
-    text: &[u8],
-    further: &[PolicyText],
-    manner: Manner,
-    script: &mut R,
-) -> Status {
-    let places = manner.places;
-    let mut out = rt.stdout();
-    let mut err = rt.stderr();
-    if let Some(span) = manner.drawn {
-        draw_policies(
-            rt.alloc(),
-            text,
-            further,
-            places,
-            span,
-            script,
-            &mut out,
-            &mut err,
-        )
-    } else if manner.is_strict {
-        run_strictly(
-            rt.alloc(),
-            text,
-            further,
-            places,
-            script,
-            &mut out,
-            &mut err,
-        )
-    } else {
-        run_policies(
-            rt.alloc(),
-            text,
-            further,
-            places,
-            script,
-            &mut out,
-            &mut err,
-        )
+// Begins the journal that is asked for.
+fn begin_journal<'a>(
+    alloc: Global,
+    file: PolicyFile<'_>,
+    further: Further<'_>,
+    places: usize,
+    journal: Option<&'a mut File>,
+) -> Result<Option<Recorder<'a, File>>, JournalFault> {
+    let Some(journal) = journal else {
+        return Ok(None);
+    };
+    let begun = JournalWriter::begin(alloc, file.text, further.texts, places, journal)?;
+    Ok(Some(Recorder::new(begun, places)))
+}
+
+// What is told of a run beside its replies.
+fn telling_of(manner: Manner) -> Telling {
+    Telling {
+        of_replies: manner.is_explaining && manner.drawn.is_none(),
+        of_lines: manner.is_explaining,
+        goes_on: manner.is_session && !manner.is_strict,
     }
 }
 
-// Runs a script over the policies in texts, which have these names.
-fn run_over<R: io::Read>(
+// Draws what a world's audit tells, if that is asked for and the run has come to its end.
+fn draw_behind<F: Drop>(
+    rt: &HostRuntime,
+    world: &World,
+    drawn: Option<Span>,
+    ended: Result<(), RunFault<F>>,
+) -> Result<(), RunFault<F>> {
+    match (ended, drawn) {
+        (Ok(()), Some(span)) => {
+            let out = &mut Noted::new(rt.stdout());
+            match draw_audit(rt.alloc(), world, span, out) {
+                Ok(()) => Ok(()),
+                Err(fault) => Err(RunFault::Script(fault)),
+            }
+        }
+        (ended, _) => ended,
+    }
+}
+
+// Runs a script in a style over a world that was opened.
+fn run_in<L: Style, R: io::Read>(
+    rt: &HostRuntime,
+    manner: Manner,
+    opened: &mut Opened,
+    style: &mut L,
+    recorder: Option<Recorder<'_, File>>,
+    script: &mut R,
+) -> Status {
+    let alloc = rt.alloc();
+    let mut beside = rt.stderr();
+    let mut err = rt.stderr();
+    let later = opened.later.policies().len();
+    let strict = if manner.is_strict { Some(Strict) } else { None };
+    let teller = Teller::new(alloc, telling_of(manner), later, &mut beside);
+    let mut watcher = Both::new(teller, Both::new(recorder, strict));
+    let out = &mut Noted::new(rt.stdout());
+    let script = &mut Noted::new(script);
+    let ended = run_over(alloc, opened, style, &mut watcher, script, out);
+    let ended = draw_behind(rt, &opened.world, manner.drawn, ended);
+    let status = tell_run(alloc, ended, &mut Noted::new(&mut err));
+    let status = watcher.first.end(status);
+    match &mut watcher.second.first {
+        Some(recorder) => recorder.end(alloc, &opened.world, &mut err, status),
+        None => status,
+    }
+}
+
+// Whether nothing is told beside the replies of a run, and nothing ends it before its script does.
+fn is_unwatched(manner: Manner) -> bool {
+    !(manner.is_explaining || manner.is_session || manner.is_strict)
+}
+
+// Runs a script in a style over a world that was opened, with nobody who watches.
+fn run_unwatched<L: Style, R: io::Read>(
+    rt: &HostRuntime,
+    opened: &mut Opened,
+    style: &mut L,
+    script: &mut R,
+) -> Status {
+    let alloc = rt.alloc();
+    let out = &mut Noted::new(rt.stdout());
+    let script = &mut Noted::new(script);
+    let ended = run_over(alloc, opened, style, &mut Nobody, script, out);
+    tell_run(alloc, ended, &mut Noted::new(rt.stderr()))
+}
+
+// Runs a script each of whose lines is one of a script: with nobody who watches, unless something else is asked for.
+fn run_plain<L: Style, R: io::Read>(
+    rt: &HostRuntime,
+    manner: Manner,
+    opened: &mut Opened,
+    style: &mut L,
+    recorder: Option<Recorder<'_, File>>,
+    script: &mut R,
+) -> Status {
+    if recorder.is_none() && is_unwatched(manner) {
+        run_unwatched(rt, opened, style, script)
+    } else {
+        run_in(rt, manner, opened, style, recorder, script)
+    }
+}
+
+// Runs a script of readable lines.
+fn run_readable<R: io::Read>(
+    rt: &HostRuntime,
+    text: &[u8],
+    manner: Manner,
+    opened: &mut Opened,
+    recorder: Option<Recorder<'_, File>>,
+    script: &mut R,
+) -> Status {
+    let alloc = rt.alloc();
+    let book = match Book::read(alloc, text) {
+        Ok(book) => book,
+        Err(BookError::OutOfMemory) => return failed(rt, "no memory"),
+        Err(BookError::Refused) => return Status::Refused,
+    };
+    if manner.reads.is_json {
+        let style = &mut Readable::new(alloc, &book, Json);
+        run_in(rt, manner, opened, style, recorder, script)
+    } else {
+        let style = &mut Readable::new(alloc, &book, Text);
+        run_in(rt, manner, opened, style, recorder, script)
+    }
+}
+
+// Runs a script, read and replied to as is asked.
+fn run_as_asked<R: io::Read>(
+    rt: &HostRuntime,
+    text: &[u8],
+    manner: Manner,
+    opened: &mut Opened,
+    recorder: Option<Recorder<'_, File>>,
+    script: &mut R,
+) -> Status {
+    if manner.drawn.is_some() {
+        let style = &mut Plain { voice: Silent };
+        run_in(rt, manner, opened, style, recorder, script)
+    } else if manner.reads.is_readable {
+        run_readable(rt, text, manner, opened, recorder, script)
+    } else if manner.reads.is_json {
+        let style = &mut Plain { voice: Json };
+        run_plain(rt, manner, opened, style, recorder, script)
+    } else {
+        let style = &mut Plain { voice: Text };
+        run_plain(rt, manner, opened, style, recorder, script)
+    }
+}
+
+// Opens a world over the policies in texts.
+fn open(
     rt: &HostRuntime,
     file: PolicyFile<'_>,
     further: Further<'_>,
     manner: Manner,
+) -> Result<Opened, Status> {
+    let explains = manner.is_explaining;
+    match open_run(rt.alloc(), file, further, explains, manner.places) {
+        Ok(opened) => Ok(opened),
+        Err(blame) => Err(name_blame(rt.alloc(), blame, &mut rt.stderr())),
+    }
+}
+
+// Runs a script over the policies in texts, which have these names.
+fn run_policies_of<R: io::Read>(
+    rt: &HostRuntime,
+    file: PolicyFile<'_>,
+    further: Further<'_>,
+    manner: Manner,
+    journal: Option<&mut File>,
     script: &mut R,
 ) -> Status {
-    let is_by_line = manner.reads != AS_SCRIPTS;
-    if !manner.is_explaining && !manner.is_session && !is_by_line {
-        return run_plainly(rt, file.text, further.texts, manner, script);
+    let mut opened = match open(rt, file, further, manner) {
+        Ok(opened) => opened,
+        Err(status) => return status,
+    };
+    match begin_journal(rt.alloc(), file, further, manner.places, journal) {
+        Ok(recorder) => run_as_asked(rt, file.text, manner, &mut opened, recorder, script),
+        Err(JournalFault::OutOfMemory) => failed(rt, "no memory"),
+        Err(JournalFault::Write) => failed(rt, "write fault"),
     }
-    if let Some(span) = manner.drawn {
-        return draw_explaining(
-            rt.alloc(),
-            file,
-            further,
-            Drawn {
-                places: manner.places,
-                span,
-            },
-            script,
-            &mut rt.stdout(),
-            &mut rt.stderr(),
-        );
-    }
-    run_explaining(
-        rt.alloc(),
-        file,
-        further,
-        manner,
-        script,
-        &mut rt.stdout(),
-        &mut rt.stderr(),
-    )
 }
 
 // Tells the first fault of the policies before one that can't be read, and where they have none, why it can't.
@@ -180,22 +242,23 @@ fn tell_unread(
     manner: Manner,
     error: &io::Error,
 ) -> Status {
-    let mut nothing = "".as_bytes();
-    let undrawn = Manner {
-        drawn: None,
-        ..manner
-    };
-    match run_over(rt, file, before, undrawn, &mut nothing) {
-        Status::Done => {
+    match open(rt, file, before, manner) {
+        Ok(_) => {
             let name = before.names.get(before.texts.len()).unwrap_or(&file.name);
             unread(rt, name, manner.is_explaining, error)
         }
-        status => status,
+        Err(status) => status,
     }
 }
 
 // The same over the policy in a text.
-fn run_behind(rt: &HostRuntime, file: PolicyFile<'_>, names: &[&str], manner: Manner) -> Status {
+fn run_behind(
+    rt: &HostRuntime,
+    file: PolicyFile<'_>,
+    names: &[&str],
+    manner: Manner,
+    journal: Option<&str>,
+) -> Status {
     let mut texts = Vec::new(rt.alloc());
     let read = read_files(rt, names, &mut texts);
     let further = Further {
@@ -203,7 +266,7 @@ fn run_behind(rt: &HostRuntime, file: PolicyFile<'_>, names: &[&str], manner: Ma
         texts: texts.as_slice(),
     };
     match read {
-        Ok(()) => run_input(rt, file, further, manner),
+        Ok(()) => run_into(rt, file, further, manner, journal),
         Err(error) => tell_unread(rt, file, further, manner, &error),
     }
 }
@@ -226,14 +289,15 @@ fn beside(rt: &HostRuntime) -> Beside {
     }
 }
 
-// Runs the script that a person types in, or one that is counted.
-fn run_beside(
+// Runs the script on standard input over the policies in texts, and prompts a person for it, or counts it.
+fn run_input(
     rt: &HostRuntime,
     file: PolicyFile<'_>,
     further: Further<'_>,
     manner: Manner,
-    beside: Beside,
+    journal: Option<&mut File>,
 ) -> Status {
+    let beside = beside(rt);
     let is_session = beside == Beside::Prompt && manner.drawn.is_none();
     if is_session {
         let _ = eprintln!(rt; "{GREETING}");
@@ -245,32 +309,42 @@ fn run_beside(
     let mut stdin = rt.stdin();
     let mut err = rt.stderr();
     let mut script = TerminalReader::new(rt.alloc(), &mut stdin, &mut err, beside);
-    run_over(rt, file, further, manner, &mut script)
+    run_policies_of(rt, file, further, manner, journal, &mut script)
 }
 
-// Runs the script on standard input over the policies in texts.
-fn run_input(
+// Runs it, with a journal in a file that is there already or is made, if one is named.
+fn run_into(
     rt: &HostRuntime,
     file: PolicyFile<'_>,
     further: Further<'_>,
     manner: Manner,
+    journal: Option<&str>,
 ) -> Status {
-    match beside(rt) {
-        Beside::Nothing => run_over(rt, file, further, manner, &mut rt.stdin()),
-        beside => run_beside(rt, file, further, manner, beside),
+    let Some(name) = journal else {
+        return run_input(rt, file, further, manner, None);
+    };
+    match File::create(rt, name) {
+        Ok(mut journal) => run_input(rt, file, further, manner, Some(&mut journal)),
+        Err(error) => unmade(rt, &error),
     }
 }
 
-/// Runs the script on standard input over the policy in a file. Faults are told in the order of the policies, before
-/// any reply.
-pub fn run(rt: &HostRuntime, policy: &str, further: &[&str], manner: Manner) -> Status {
+/// Runs the script on standard input over the policy in a file, and writes its history into a journal, if one is named.
+/// Faults are told in the order of the policies, before any reply.
+pub fn run(
+    rt: &HostRuntime,
+    policy: &str,
+    further: &[&str],
+    manner: Manner,
+    journal: Option<&str>,
+) -> Status {
     match read_file(rt, policy) {
         Ok(text) => {
             let file = PolicyFile {
                 name: policy,
                 text: text.as_slice(),
             };
-            run_behind(rt, file, further, manner)
+            run_behind(rt, file, further, manner, journal)
         }
         Err(error) => unread(rt, policy, manner.is_explaining, &error),
     }

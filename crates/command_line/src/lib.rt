@@ -11,17 +11,13 @@
 mod author;
 mod completions;
 mod decoding;
-mod drawing;
-mod explained_run;
 mod explaining;
 mod further;
 mod help;
-mod line_reader;
 mod listing;
 mod meanings;
 mod perform;
 mod policies;
-mod recording;
 mod replayed;
 mod request;
 mod retelling;
@@ -29,6 +25,7 @@ mod session;
 mod syntax;
 mod terminal;
 mod threads;
+mod watchers;
 mod writers;
 
 pub use perform::{obey, out_of_memory};

@@ -4,10 +4,9 @@ use crate::author::{assemble_input, explain, kernel, told};
 use crate::completions::{Shell, completions};
 use crate::decoding::{MOST_DUMP, decode_digits, decode_slots};
 use crate::explaining::{PolicyFile, check_explaining};
-use crate::further::{Manner, run};
+use crate::further::run;
 use crate::listing::{ListForm, list_policy};
-use crate::recording::Recorded;
-use crate::replayed::{Shown, run_with_journal, show_journal};
+use crate::replayed::{Shown, show_journal};
 use crate::request::{Asked, Invocation, Unread, read_words};
 use crate::retelling::replay_telling;
 use crate::syntax::MOST_NEXT;
@@ -16,6 +15,7 @@ use clap::Error;
 use commands::{Status, check_policy};
 use pages::{Page, rows_of};
 use policy::MOST_POLICY_BYTES;
+use script::Noted;
 use std::fs::File;
 use std::io::{self, IsTerminal, Read};
 use std::sync::Wait;
@@ -23,12 +23,6 @@ use std::thread::Threads;
 
 /// The exit status for a command line that isn't understood.
 const NOT_UNDERSTOOD: u8 = 2;
-
-/// What is told of a run by line that is to write a journal.
-const JOURNAL_BY_LINE: &str = "--journal doesn't go with --readable or --json";
-
-/// What is told of a journal's picture for which an audit's places are asked: it has no audit of its own.
-const AUDIT_OF_JOURNAL: &str = "--audit doesn't go with the --journal of a picture";
 
 /// What is told of several words that are to be explained.
 const WORDS_BEHIND: &str = "explain takes one WORD, or policies with --journal FILE";
@@ -73,8 +67,8 @@ fn check(rt: &HostRuntime, policy: &str) -> Status {
         Ok(text) => check_policy(
             rt.alloc(),
             text.as_slice(),
-            &mut rt.stdout(),
-            &mut rt.stderr(),
+            &mut Noted::new(rt.stdout()),
+            &mut Noted::new(rt.stderr()),
         ),
         Err(error) => unread_file(rt, &error),
     }
@@ -179,8 +173,8 @@ fn decode(rt: &HostRuntime, slots: Option<&str>, digits: &[&str], explains: bool
     })
 }
 
-// Tells that a file couldn't be made.
-fn unmade(rt: &HostRuntime, error: &io::Error) -> Status {
+/// Tells that a file couldn't be made.
+pub fn unmade(rt: &HostRuntime, error: &io::Error) -> Status {
     match error.kind() {
         io::ErrorKind::OutOfMemory => failed(rt, "no memory"),
         _ => failed(rt, "write fault"),
@@ -276,42 +270,6 @@ fn print_completions(rt: &HostRuntime, shell: Shell) -> Status {
     }
 }
 
-// Runs a script as is asked, or draws its run.
-fn perform_run(rt: &HostRuntime, asked: &Asked<'_>) -> Option<Status> {
-    let (policy, manner) = match asked.request {
-        Invocation::Run { policy, places } => (policy, Manner::plain(places)),
-        Invocation::RunStrictly { policy, places } => (policy, Manner::strict(places)),
-        Invocation::RunExplaining {
-            policy,
-            places,
-            is_strict,
-        } => (policy, Manner::explaining(places, is_strict)),
-        Invocation::RunByLine {
-            policy,
-            places,
-            is_strict,
-            explains,
-            reads,
-        } => (
-            policy,
-            Manner {
-                is_strict,
-                is_explaining: explains,
-                reads,
-                ..Manner::plain(places)
-            },
-        ),
-        Invocation::Picture {
-            policy,
-            places,
-            span,
-            explains,
-        } => (policy, Manner::drawing(places, span, explains)),
-        _ => return None,
-    };
-    Some(run(rt, policy, asked.further.as_slice(), manner))
-}
-
 // Draws a journal, or tells it.
 fn perform_shown(rt: &HostRuntime, asked: &Asked<'_>) -> Option<Status> {
     let (policy, shown, explains, journal) = match asked.request {
@@ -332,24 +290,15 @@ fn perform_shown(rt: &HostRuntime, asked: &Asked<'_>) -> Option<Status> {
     Some(show_journal(rt, policy, further, shown, explains, journal))
 }
 
-// Runs a script with a journal, replays one, or shows one.
-fn perform_journal(rt: &HostRuntime, asked: &Asked<'_>) -> Option<Status> {
+// Runs a script or draws its run, replays a journal, or shows one.
+fn perform_run(rt: &HostRuntime, asked: &Asked<'_>) -> Option<Status> {
     let further = asked.further.as_slice();
     match asked.request {
-        Invocation::RunRecording {
+        Invocation::Run {
             policy,
-            places,
-            is_strict,
-            explains,
+            manner,
             journal,
-        } => {
-            let manner = Recorded {
-                places,
-                is_strict,
-                explains,
-            };
-            Some(run_with_journal(rt, policy, further, manner, journal))
-        }
+        } => Some(run(rt, policy, further, manner, journal)),
         Invocation::Replay {
             policy,
             tells_state,
@@ -403,9 +352,6 @@ fn perform<R: Threads + Wait + Sync>(rt: &HostRuntime, threads: &R, asked: &Aske
             is_counted: rt.stderr().is_terminal(),
         };
         return run_load_of(rt, threads, policy, load, journal).number();
-    }
-    if let Some(status) = perform_journal(rt, asked) {
-        return status.number();
     }
     match perform_run(rt, asked) {
         Some(status) => status.number(),
@@ -465,8 +411,6 @@ pub fn obey<R: Threads + Wait + Sync>(rt: &HostRuntime, threads: &R, words: &[St
         Err(Unread::Text(error)) => tell(rt, &error),
         Err(Unread::NoCommand) => NOT_UNDERSTOOD,
         Err(Unread::TooManyPolicies) => too_many_policies(rt),
-        Err(Unread::JournalByLine) => misused(rt, JOURNAL_BY_LINE),
-        Err(Unread::AuditOfJournal) => misused(rt, AUDIT_OF_JOURNAL),
         Err(Unread::WordsBehind) => misused(rt, WORDS_BEHIND),
         Err(Unread::OutOfMemory) => out_of_memory(rt),
     }

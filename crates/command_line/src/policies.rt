@@ -1,16 +1,18 @@
-//! The policies of a command that may tell why: each is read once, and a fault is told while what was read is at hand.
+//! The policies of a command that may tell why: where they keep it from its work, what is wrong is looked for once more.
 
 use crate::explaining::{PolicyFile, fault_told, kernel_told, tell};
 use access_core::Kernel;
 use aql_packet::KernelObject;
-use commands::{Failure, KernelError, PolicyText, Status, check_kernels, name_failure};
+use commands::{
+    Failure, Opened, PolicyText, Setup, Status, Unopened, judge as judge_text, name_failure,
+    open_policies, read_further,
+};
 use explain::{no_entry, policy_fault};
 use journal_commands::JournalPolicies;
-use policy::{Policy, ReadPolicyError, read_policy};
-use script::IoLog;
+use policy::{Policy, PolicyFault, read_policy};
+use script::Noted;
 use std::alloc::{AllocError, Global};
 use std::io;
-use world::World;
 
 /// The further policies of a run: what their files are called, and the texts of those that were read, in order.
 #[derive(Clone, Copy)]
@@ -19,11 +21,14 @@ pub struct Further<'a> {
     pub texts: &'a [PolicyText],
 }
 
-/// A policy that was let pass, with what packets may launch by its kernels.
-#[derive(Drop)]
-pub struct Judged {
-    pub policy: Policy,
-    pub kernels: Vec<Kernel>,
+impl<'a> Further<'a> {
+    // None.
+    fn none() -> Further<'a> {
+        Further {
+            names: &[],
+            texts: &[],
+        }
+    }
 }
 
 /// Why its policies keep a command from its work, and what is told of that, if it is told why.
@@ -33,92 +38,112 @@ pub struct Blame {
     told: Result<String, AllocError>,
 }
 
-impl Blame {
-    // A failure of which nothing more is told.
-    fn of(alloc: Global, failure: Failure) -> Blame {
-        Blame {
-            failure,
-            told: Ok(String::new(alloc)),
-        }
-    }
-}
-
-// Why a policy can't be read.
-fn unread(alloc: Global, file: PolicyFile<'_>, explains: bool, why: ReadPolicyError) -> Blame {
-    let told = match why {
-        ReadPolicyError::Fault(fault) if explains => fault_told(alloc, file, &fault),
-        _ => Ok(String::new(alloc)),
-    };
-    Blame {
-        failure: Failure::of_reading(why),
-        told,
-    }
-}
-
-// Why a further policy can't be read.
-fn unread_further(
+// What is told of the fault of the policy of a place.
+fn policy_told(
     alloc: Global,
     file: PolicyFile<'_>,
-    explains: bool,
-    why: ReadPolicyError,
-) -> Blame {
-    let told = match why {
-        ReadPolicyError::Fault(fault) if explains => {
-            policy_fault(alloc, file.name, file.text, &fault)
-        }
-        _ => Ok(String::new(alloc)),
+    further: Further<'_>,
+    place: usize,
+    fault: &PolicyFault,
+) -> Result<String, AllocError> {
+    let Some(before) = place.checked_sub(1) else {
+        return fault_told(alloc, file, fault);
     };
-    Blame {
-        failure: Failure::of_reading(why),
-        told,
+    match further.texts.get(before) {
+        Some(text) => {
+            let name = further.names.get(before).copied().unwrap_or("");
+            policy_fault(alloc, name, text.bytes(), fault)
+        }
+        None => Ok(String::new(alloc)),
     }
 }
 
-// Why a policy's kernels aren't let pass.
-fn unchecked(
+// What is told of a kernel of a policy.
+fn of_kernel(
     alloc: Global,
     file: PolicyFile<'_>,
-    explains: bool,
     policy: &Policy,
-    why: KernelError,
-) -> Blame {
-    let told = match why {
-        KernelError::Fault(fault) if explains => kernel_told(alloc, file, policy, fault),
+    failure: Failure,
+) -> Result<String, AllocError> {
+    match failure {
+        Failure::Kernel(fault) => kernel_told(alloc, file, policy, fault),
+        Failure::NoEntry(kernel) => match u32::try_from(kernel.0) {
+            Ok(number) => no_entry(alloc, file.name, file.text, policy, number),
+            Err(_) => Ok(String::new(alloc)),
+        },
         _ => Ok(String::new(alloc)),
+    }
+}
+
+// What is told of a failure of policies.
+fn told_of(
+    alloc: Global,
+    file: PolicyFile<'_>,
+    further: Further<'_>,
+    why: Unopened,
+) -> Result<String, AllocError> {
+    if let Failure::Policy(fault) = why.failure {
+        return policy_told(alloc, file, further, why.place, &fault);
+    }
+    match read_policy(alloc, file.text) {
+        Ok(policy) => of_kernel(alloc, file, &policy, why.failure),
+        Err(_) => Ok(String::new(alloc)),
+    }
+}
+
+// Why its policies keep a command from its work.
+fn blame_with(
+    alloc: Global,
+    file: PolicyFile<'_>,
+    further: Further<'_>,
+    explains: bool,
+    why: Unopened,
+) -> Blame {
+    let told = if explains {
+        told_of(alloc, file, further, why)
+    } else {
+        Ok(String::new(alloc))
     };
     Blame {
-        failure: Failure::of_kernels(why),
+        failure: why.failure,
         told,
     }
 }
 
-// A policy with its kernels, where these are let pass.
-fn with_kernels(
-    alloc: Global,
-    file: PolicyFile<'_>,
-    explains: bool,
-    policy: Policy,
-) -> Result<Judged, Blame> {
-    match check_kernels(alloc, &policy) {
-        Ok(kernels) => Ok(Judged { policy, kernels }),
-        Err(why) => Err(unchecked(alloc, file, explains, &policy, why)),
-    }
+// The same of the first policy alone.
+fn blame_first(alloc: Global, file: PolicyFile<'_>, explains: bool, failure: Failure) -> Blame {
+    let why = Unopened { failure, place: 0 };
+    blame_with(alloc, file, Further::none(), explains, why)
 }
 
 /// Reads the policy in a file, and checks its kernels.
-pub fn judge(alloc: Global, file: PolicyFile<'_>, explains: bool) -> Result<Judged, Blame> {
-    match read_policy(alloc, file.text) {
-        Ok(policy) => with_kernels(alloc, file, explains, policy),
-        Err(why) => Err(unread(alloc, file, explains, why)),
+pub fn judge(alloc: Global, file: PolicyFile<'_>, explains: bool) -> Result<Setup, Blame> {
+    match judge_text(alloc, file.text) {
+        Ok(setup) => Ok(setup),
+        Err(failure) => Err(blame_first(alloc, file, explains, failure)),
     }
 }
 
-// The number of the first kernel, from 1, whose text has none of its entry's name.
-fn without_entry(kernels: &[Kernel]) -> Option<u32> {
-    let mut number = 1u32;
+/// Opens a world over the policy in a file, and reads the further policies.
+pub fn open_run(
+    alloc: Global,
+    file: PolicyFile<'_>,
+    further: Further<'_>,
+    explains: bool,
+    places: usize,
+) -> Result<Opened, Blame> {
+    match open_policies(alloc, file.text, further.texts, places) {
+        Ok(opened) => Ok(opened),
+        Err(why) => Err(blame_with(alloc, file, further, explains, why)),
+    }
+}
+
+// The first kernel whose text has none of its entry's name.
+fn without_entry(kernels: &[Kernel]) -> Option<KernelObject> {
+    let mut number = 1u64;
     for kernel in kernels {
         if !kernel.has_entry() {
-            return Some(number);
+            return Some(KernelObject(number));
         }
         number = number.saturating_add(1);
     }
@@ -129,104 +154,40 @@ fn without_entry(kernels: &[Kernel]) -> Option<u32> {
 pub fn entries_told(
     alloc: Global,
     file: PolicyFile<'_>,
-    judged: &Judged,
+    setup: &Setup,
 ) -> Result<String, AllocError> {
-    match without_entry(judged.kernels.as_slice()) {
-        Some(kernel) => no_entry(alloc, file.name, file.text, &judged.policy, kernel),
+    match without_entry(setup.kernels.as_slice()) {
+        Some(kernel) => of_kernel(alloc, file, &setup.policy, Failure::NoEntry(kernel)),
         None => Ok(String::new(alloc)),
     }
 }
 
-// Why a policy can't be opened, a kernel of which has none of its entry's name.
-fn unentered(
+// The policies of a journal, or the first failure of them.
+fn journal_policies(
     alloc: Global,
-    file: PolicyFile<'_>,
-    explains: bool,
-    policy: &Policy,
-    kernel: u32,
-) -> Blame {
-    let told = if explains {
-        no_entry(alloc, file.name, file.text, policy, kernel)
-    } else {
-        Ok(String::new(alloc))
-    };
-    Blame {
-        failure: Failure::NoEntry(KernelObject(kernel as u64)),
-        told,
+    text: &[u8],
+    further: &[PolicyText],
+    setup: Setup,
+) -> Result<JournalPolicies, Unopened> {
+    let Setup { policy, kernels } = setup;
+    if let Some(kernel) = without_entry(kernels.as_slice()) {
+        return Err(Unopened {
+            failure: Failure::NoEntry(kernel),
+            place: 0,
+        });
     }
-}
-
-// The policy in a file, whose kernels have each one of its entry's name.
-fn judge_whole(alloc: Global, file: PolicyFile<'_>, explains: bool) -> Result<Judged, Blame> {
-    let judged = judge(alloc, file, explains)?;
-    match without_entry(judged.kernels.as_slice()) {
-        Some(kernel) => Err(unentered(alloc, file, explains, &judged.policy, kernel)),
-        None => Ok(judged),
-    }
-}
-
-// Opens a world over a policy.
-fn open(alloc: Global, judged: Judged, places: usize) -> Result<World, Blame> {
-    let Judged { policy, kernels } = judged;
-    match World::open(alloc, policy, kernels, places) {
-        Ok(world) => Ok(world),
-        Err(why) => Err(Blame::of(alloc, Failure::of_opening(why))),
-    }
-}
-
-/// Opens a world over the policy in a file.
-pub fn open_world(
-    alloc: Global,
-    file: PolicyFile<'_>,
-    explains: bool,
-    places: usize,
-) -> Result<World, Blame> {
-    match judge_whole(alloc, file, explains) {
-        Ok(judged) => open(alloc, judged, places),
-        Err(blame) => Err(blame),
-    }
-}
-
-// Reads a further policy, and puts it after the others.
-fn read_one(alloc: Global, text: &[u8], later: &mut Vec<Policy>) -> Result<(), ReadPolicyError> {
-    let policy = read_policy(alloc, text)?;
-    match later.push(policy) {
-        Ok(()) => Ok(()),
-        Err(_) => Err(ReadPolicyError::OutOfMemory),
-    }
-}
-
-/// Reads the further policies, up to the first with a fault.
-pub fn read_later(
-    alloc: Global,
-    further: Further<'_>,
-    explains: bool,
-    later: &mut Vec<Policy>,
-) -> Result<(), Blame> {
-    for (place, text) in further.texts.iter().enumerate() {
-        if let Err(why) = read_one(alloc, text.bytes(), later) {
-            let file = PolicyFile {
-                name: further.names.get(place).copied().unwrap_or(""),
-                text: text.bytes(),
-            };
-            return Err(unread_further(alloc, file, explains, why));
+    let later = match read_further(alloc, further) {
+        Ok(later) => later.into_policies(),
+        Err(fault) => {
+            return Err(Unopened {
+                failure: Failure::of_reading(fault.why),
+                place: fault.place.saturating_add(1),
+            });
         }
-    }
-    Ok(())
-}
-
-// The policies of a journal.
-fn with_later(
-    alloc: Global,
-    file: PolicyFile<'_>,
-    further: Further<'_>,
-    judged: Judged,
-    later: Vec<Policy>,
-) -> Result<JournalPolicies, Blame> {
-    let Judged { policy, kernels } = judged;
-    match JournalPolicies::open(alloc, file.text, further.texts, policy, kernels, later) {
+    };
+    match JournalPolicies::open(alloc, text, further, policy, kernels, later) {
         Ok(policies) => Ok(policies),
-        Err(failure) => Err(Blame::of(alloc, failure)),
+        Err(failure) => Err(Unopened { failure, place: 0 }),
     }
 }
 
@@ -237,18 +198,17 @@ pub fn read_policies(
     further: Further<'_>,
     explains: bool,
 ) -> Result<JournalPolicies, Blame> {
-    let mut later = Vec::new(alloc);
-    let judged = judge_whole(alloc, file, explains)?;
-    match read_later(alloc, further, explains, &mut later) {
-        Ok(()) => with_later(alloc, file, further, judged, later),
-        Err(blame) => Err(blame),
+    let setup = judge(alloc, file, explains)?;
+    match journal_policies(alloc, file.text, further.texts, setup) {
+        Ok(policies) => Ok(policies),
+        Err(why) => Err(blame_with(alloc, file, further, explains, why)),
     }
 }
 
 /// Names why its policies keep a command from its work, tells what is known of it, and says how the command ends.
 pub fn name_blame<E: io::Write>(alloc: Global, blame: Blame, err: &mut E) -> Status {
     let Blame { failure, told } = blame;
-    match name_failure(alloc, failure, err, &mut IoLog::none()) {
+    match name_failure(alloc, failure, &mut Noted::new(&mut *err)) {
         Status::Refused => tell(err, told, Status::Refused),
         status => status,
     }

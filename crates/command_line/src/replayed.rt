@@ -1,13 +1,11 @@
 //! Journals in files, and on standard input.
 
-use crate::drawing::{draw_recorded, tell_recorded};
 use crate::explaining::PolicyFile;
-use crate::further::{beside_input, read_files};
-use crate::perform::{STANDARD_INPUT, failed, read_file, unread};
-use crate::policies::Further;
-use crate::recording::{Recorded, run_recording};
-use crate::terminal::TerminalReader;
+use crate::further::read_files;
+use crate::perform::{STANDARD_INPUT, read_file, unread};
+use crate::policies::{Further, name_blame, read_policies};
 use commands::{PolicyText, Span, Status};
+use journal_commands::{draw_journal, tell_journal};
 use std::fs::File;
 use std::io;
 
@@ -16,6 +14,13 @@ use std::io;
 pub enum Shown {
     Drawn { span: Span },
     Told,
+}
+
+impl Shown {
+    // Whether all is told, and so of a policy's fault what is wrong there.
+    fn is_told(self) -> bool {
+        matches!(self, Shown::Told)
+    }
 }
 
 // Reads the further policies after a policy: the name of the file that can't be read, and why.
@@ -30,63 +35,6 @@ fn read_further<'a>(
     }
 }
 
-// Runs a script, with a journal in a file that is there already or is made.
-fn run_into<R: io::Read>(
-    rt: &HostRuntime,
-    file: PolicyFile<'_>,
-    further: Further<'_>,
-    manner: Recorded,
-    journal: &str,
-    script: &mut R,
-) -> Status {
-    match File::create(rt, journal) {
-        Ok(mut journal) => run_recording(
-            rt.alloc(),
-            file,
-            further,
-            manner,
-            script,
-            &mut rt.stdout(),
-            &mut rt.stderr(),
-            &mut journal,
-        ),
-        Err(error) => match error.kind() {
-            io::ErrorKind::OutOfMemory => failed(rt, "no memory"),
-            _ => failed(rt, "write fault"),
-        },
-    }
-}
-
-/// Runs the script on standard input over the policy in a file, and writes its history into a journal.
-pub fn run_with_journal(
-    rt: &HostRuntime,
-    policy: &str,
-    names: &[&str],
-    manner: Recorded,
-    journal: &str,
-) -> Status {
-    let text = match read_file(rt, policy) {
-        Ok(text) => text,
-        Err(error) => return unread(rt, policy, manner.explains, &error),
-    };
-    let mut texts = Vec::new(rt.alloc());
-    if let Err((name, error)) = read_further(rt, names, &mut texts) {
-        return unread(rt, name.unwrap_or(policy), manner.explains, &error);
-    }
-    let file = PolicyFile {
-        name: policy,
-        text: text.as_slice(),
-    };
-    let further = Further {
-        names,
-        texts: texts.as_slice(),
-    };
-    let mut stdin = rt.stdin();
-    let mut err = rt.stderr();
-    let mut script = TerminalReader::new(rt.alloc(), &mut stdin, &mut err, beside_input(rt));
-    run_into(rt, file, further, manner, journal, &mut script)
-}
-
 // Shows a journal over the policies in files.
 fn show_over<R: io::Read>(
     rt: &HostRuntime,
@@ -96,20 +44,17 @@ fn show_over<R: io::Read>(
     explains: bool,
     journal: &mut R,
 ) -> Status {
+    let alloc = rt.alloc();
     let mut out = rt.stdout();
     let mut err = rt.stderr();
-    match shown {
-        Shown::Drawn { span } => draw_recorded(
-            rt.alloc(),
-            file,
-            further,
-            span,
-            explains,
-            journal,
-            &mut out,
-            &mut err,
-        ),
-        Shown::Told => tell_recorded(rt.alloc(), file, further, journal, &mut out, &mut err),
+    match read_policies(alloc, file, further, explains || shown.is_told()) {
+        Ok(policies) => match shown {
+            Shown::Drawn { span } => draw_journal(
+                alloc, policies, span, journal, &mut out, &mut err,
+            ),
+            Shown::Told => tell_journal(alloc, policies, journal, &mut out, &mut err),
+        },
+        Err(blame) => name_blame(alloc, blame, &mut err),
     }
 }
 

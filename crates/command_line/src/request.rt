@@ -1,6 +1,7 @@
 //! What the words of a command line ask for.
 
 use crate::completions::Shell;
+use crate::further::{AS_SCRIPTS, Manner};
 use crate::help::further_help;
 use crate::listing::ListForm;
 use crate::syntax::{
@@ -40,57 +41,22 @@ pub enum Invocation<'a> {
         form: ListForm,
         explains: bool,
     },
-    /// `run POLICY [NEXT..] [--audit N]`: to run the script on standard input over the policy in this file, with places
-    /// for so many entries in the audit, 1 to 1,048,576.
+    /// `run POLICY [NEXT..] ..`: to run the script on standard input over the policy in this file, in this manner, and to
+    /// write its history into a file, if one is named. `picture POLICY [NEXT..] ..` with a picture in place of its replies.
     Run {
         policy: &'a str,
-        places: usize,
-    },
-    /// `run POLICY [NEXT..] --strict [--audit N]`: the same, up to the first line that isn't done.
-    RunStrictly {
-        policy: &'a str,
-        places: usize,
+        manner: Manner,
+        journal: Option<&'a str>,
     },
     /// `check POLICY --explain`: to check a policy, and to tell where its fault lies.
     CheckExplaining {
         policy: &'a str,
-    },
-    /// `run POLICY [NEXT..] --explain [--strict] [--audit N]`: to run the script, and to tell beside its replies why.
-    RunExplaining {
-        policy: &'a str,
-        places: usize,
-        is_strict: bool,
-    },
-    /// `run POLICY [NEXT..] --readable --json ..`: the same, with lines of readable scripts too, or with replies as JSON.
-    RunByLine {
-        policy: &'a str,
-        places: usize,
-        is_strict: bool,
-        explains: bool,
-        reads: Reads,
-    },
-    /// `run POLICY [NEXT..] --journal FILE [--strict] [--explain] [--audit N]`: to run the script, to write its history into a
-    /// file, and, if it explains, to tell beside its replies why.
-    RunRecording {
-        policy: &'a str,
-        places: usize,
-        is_strict: bool,
-        explains: bool,
-        journal: &'a str,
     },
     /// `replay POLICY [NEXT..] [--state] [--explain]`: to replay the journal on standard input, and to print the state that
     /// it leads to, if that is asked for.
     Replay {
         policy: &'a str,
         tells_state: bool,
-        explains: bool,
-    },
-    /// `picture POLICY [NEXT..] [--audit N] [--from N] [--to N]`: to run it the same way, and to draw what the audit tells
-    /// in place of the replies, of which the entries from one number to another.
-    Picture {
-        policy: &'a str,
-        places: usize,
-        span: Span,
         explains: bool,
     },
     /// `picture POLICY [NEXT..] --journal FILE [--from N] [--to N]`: to draw the journal in a file, without running it.
@@ -172,10 +138,6 @@ pub enum Unread {
     NoCommand,
     /// They name more further policies than a run may have.
     TooManyPolicies,
-    /// They ask for a journal of a run by line, which writes none.
-    JournalByLine,
-    /// They ask for room in the audit of a journal that is drawn.
-    AuditOfJournal,
     /// They have words after the one that is to be explained, and no journal.
     WordsBehind,
 }
@@ -217,41 +179,27 @@ fn explains_in(asked: &ArgMatches<'_>, unasked: bool) -> bool {
     }
 }
 
+// The manner of a run: strict, explaining, by readable lines and with replies as JSON as is asked.
+fn manner_in(asked: &ArgMatches<'_>, explains: bool) -> Manner {
+    Manner {
+        places: places_in(asked),
+        is_strict: asked.get_flag(STRICT),
+        is_explaining: explains,
+        is_session: false,
+        reads: Reads {
+            is_readable: asked.get_flag(READABLE),
+            is_json: asked.get_flag(JSON),
+        },
+        drawn: None,
+    }
+}
+
 // The request of `run` with its arguments.
 fn run_request<'a>(policy: &'a str, asked: &ArgMatches<'a>, explains: bool) -> Invocation<'a> {
-    let places = places_in(asked);
-    let is_strict = asked.get_flag(STRICT);
-    if let Some(journal) = asked.get_str(JOURNAL) {
-        return Invocation::RunRecording {
-            policy,
-            places,
-            is_strict,
-            explains,
-            journal,
-        };
-    }
-    let reads = Reads {
-        is_readable: asked.get_flag(READABLE),
-        is_json: asked.get_flag(JSON),
-    };
-    if reads.is_readable || reads.is_json {
-        Invocation::RunByLine {
-            policy,
-            places,
-            is_strict,
-            explains,
-            reads,
-        }
-    } else if explains {
-        Invocation::RunExplaining {
-            policy,
-            places,
-            is_strict,
-        }
-    } else if is_strict {
-        Invocation::RunStrictly { policy, places }
-    } else {
-        Invocation::Run { policy, places }
+    Invocation::Run {
+        policy,
+        manner: manner_in(asked, explains),
+        journal: asked.get_str(JOURNAL),
     }
 }
 
@@ -265,11 +213,17 @@ fn picture_request<'a>(policy: &'a str, asked: &ArgMatches<'a>, explains: bool) 
             explains,
             journal,
         },
-        None => Invocation::Picture {
+        None => Invocation::Run {
             policy,
-            places: places_in(asked),
-            span,
-            explains,
+            manner: Manner {
+                places: places_in(asked),
+                is_strict: false,
+                is_explaining: explains,
+                is_session: false,
+                reads: AS_SCRIPTS,
+                drawn: Some(span),
+            },
+            journal: None,
         },
     }
 }
@@ -383,31 +337,9 @@ fn words_of<'a>(
     Ok(words)
 }
 
-// Whether a run is asked for a journal beside readable lines or replies as JSON.
-fn asks_for_journal_by_line(asked: &ArgMatches<'_>) -> bool {
-    asked.get_str(JOURNAL).is_some() && (asked.get_flag(READABLE) || asked.get_flag(JSON))
-}
-
-// Whether a picture is asked for of a journal, and for room in an audit.
-fn asks_for_room_of_journal(asked: &ArgMatches<'_>) -> bool {
-    let places: Option<usize> = asked.get_one(AUDIT);
-    asked.get_str(JOURNAL).is_some() && places.is_some()
-}
-
 // Whether a word is explained alone, and further words stand after it.
 fn has_words_behind(request: &Invocation<'_>, further: &[&str]) -> bool {
     matches!(request, Invocation::Explain { .. }) && !further.is_empty()
-}
-
-// Why the arguments of a command don't go together, if they don't.
-fn clash_in(command: &str, asked: &ArgMatches<'_>) -> Result<(), Unread> {
-    if command == RUN && asks_for_journal_by_line(asked) {
-        Err(Unread::JournalByLine)
-    } else if command == PICTURE && asks_for_room_of_journal(asked) {
-        Err(Unread::AuditOfJournal)
-    } else {
-        Ok(())
-    }
 }
 
 // Whether a request takes these further words; the digits of a packet are as many as the command line takes.
@@ -450,7 +382,6 @@ fn asked_by<'a>(
     let Some(request) = request_of(command, asked, unasked) else {
         return Err(Unread::NoCommand);
     };
-    clash_in(command, asked)?;
     match words_of(alloc, further_of(command), asked) {
         Ok(further) => with_words(command, request, further),
         Err(_) => Err(Unread::OutOfMemory),

@@ -159,17 +159,22 @@ pub enum Takes {
     Shell,
 }
 
-/// An argument: its name, that of an option too; what it takes; and what the help says of it.
+/// An argument: its name, that of an option too; what it takes; what the help says of it; and the argument that it
+/// contradicts, if there is one.
 #[derive(Clone, Copy)]
 pub struct Argument {
     pub name: &'static str,
     pub takes: Takes,
     pub help: &'static str,
+    pub contradicts: Option<&'static str>,
 }
 
 macro_rules! argument {
     ($name:expr, $takes:expr, $help:literal) => {
-        Argument { name: $name, takes: $takes, help: $help }
+        Argument { name: $name, takes: $takes, help: $help, contradicts: None }
+    };
+    ($name:expr, $takes:expr, $help:literal, not with $other:expr) => {
+        Argument { name: $name, takes: $takes, help: $help, contradicts: Some($other) }
     };
 }
 
@@ -263,7 +268,8 @@ const PICTURE_ARGUMENTS: [Argument; 7] = [
     argument!(
         JOURNAL,
         Takes::Value("FILE"),
-        "Draws the journal in this file in place of a script's run; nothing is run"
+        "Draws the journal in this file in place of a script's run; nothing is run",
+        not with AUDIT
     ),
     EXPLAINING,
 ];
@@ -307,7 +313,8 @@ const DECODE_ARGUMENTS: [Argument; 3] = [
     argument!(
         SLOTS,
         Takes::Value("FILE"),
-        "Reads in their place the slots of a ring, 64 bytes each, from a file"
+        "Reads in their place the slots of a ring, 64 bytes each, from a file",
+        not with DIGITS
     ),
     EXPLAINING,
 ];
@@ -384,8 +391,8 @@ fn when<'a>(alloc: Global, name: &'a str, help: &'a str) -> Arg<'a> {
         .value_parser(ValueParser::Names(&[NEVER, ALWAYS]))
 }
 
-// An argument as clap has it.
-fn made<'a>(alloc: Global, argument: &Argument) -> Arg<'a> {
+// An argument as clap has it, but for what it contradicts.
+fn made_alone<'a>(alloc: Global, argument: &Argument) -> Arg<'a> {
     let name = argument.name;
     let help = argument.help;
     match argument.takes {
@@ -397,6 +404,15 @@ fn made<'a>(alloc: Global, argument: &Argument) -> Arg<'a> {
         Takes::Count(most) => count(alloc, name, most, help),
         Takes::When => when(alloc, name, help),
         Takes::Shell => word(alloc, name, help).value_parser(ValueParser::Names(&SHELLS)),
+    }
+}
+
+// An argument as clap has it.
+fn made<'a>(alloc: Global, argument: &Argument) -> Result<Arg<'a>, Error> {
+    let made = made_alone(alloc, argument);
+    match argument.contradicts {
+        Some(other) => Ok(made.conflicts_with(other)?),
+        None => Ok(made),
     }
 }
 
@@ -413,7 +429,7 @@ fn with_arguments<'a>(
 ) -> Result<Command<'a>, Error> {
     let mut command = command;
     for argument in arguments {
-        command = with_argument(command, made(alloc, argument))?;
+        command = with_argument(command, made(alloc, argument)?)?;
     }
     Ok(command)
 }
@@ -434,7 +450,7 @@ const COMPLETIONS_ARGUMENTS: [Argument; 1] = [argument!(
     "The shell: bash, zsh or fish"
 )];
 
-/// A command: its name, what the help says of it, and its arguments.
+/// A command of the program: its name, what the help says of it, and its arguments.
 #[derive(Clone, Copy)]
 pub struct Described {
     pub name: &'static str,
@@ -442,74 +458,25 @@ pub struct Described {
     pub arguments: &'static [Argument],
 }
 
-macro_rules! described {
-    ($name:expr, $about:literal, $arguments:expr) => {
-        Described { name: $name, about: $about, arguments: &$arguments }
+macro_rules! commands {
+    ($($name:ident $about:literal $arguments:ident;)*) => {
+        [$(Described { name: $name, about: $about, arguments: &$arguments }),*]
     };
 }
 
 /// The commands, in the order in which the help has them.
-pub const DESCRIBED: [Described; 10] = [
-    described!(
-        CHECK,
-        "Checks a policy: counts its rows, or names its first fault",
-        CHECK_ARGUMENTS
-    ),
-    described!(
-        RUN,
-        "Runs the script on standard input over a policy, and writes the replies",
-        RUN_ARGUMENTS
-    ),
-    described!(
-        PICTURE,
-        "Runs the script on standard input over a policy, and writes a picture of the run, an SVG page",
-        PICTURE_ARGUMENTS
-    ),
-    described!(
-        KERNEL,
-        "Reads and checks a kernel's text, and lists its kernels with their layout and steps",
-        KERNEL_ARGUMENTS
-    ),
-    described!(
-        ASSEMBLE,
-        "Turns a script with readable packets, on standard input, into one that run takes",
-        ASSEMBLE_ARGUMENTS
-    ),
-    described!(
-        REPLAY,
-        "Replays the journal on standard input, and tells whether it is a legal history",
-        REPLAY_ARGUMENTS
-    ),
-    described!(
-        EXPLAIN,
-        "Tells what a rule, a refusal or a cause of a fault means, or what happened in a journal",
-        EXPLAIN_ARGUMENTS
-    ),
-    described!(
-        DECODE,
-        "Tells a packet's 64 bytes field by field, and the first of L1 to L3 that they break",
-        DECODE_ARGUMENTS
-    ),
-    described!(
-        THREADS,
-        "Runs producers and lanes on threads over a policy, and reports what came of it",
-        THREADS_ARGUMENTS
-    ),
-    described!(
-        COMPLETIONS,
-        "Prints a text by which a shell completes commands and options of this program",
-        COMPLETIONS_ARGUMENTS
-    ),
-];
-
-// A command as clap has it.
-fn command<'a>(alloc: Global, described: &Described) -> Result<Command<'a>, Error> {
-    with_arguments(
-        alloc,
-        named(alloc, described.name, described.about),
-        described.arguments,
-    )
-}
+pub const DESCRIBED: [Described; 10] = commands! {
+    CHECK "Checks a policy: counts its rows, or names its first fault" CHECK_ARGUMENTS;
+    RUN "Runs the script on standard input over a policy, and writes the replies" RUN_ARGUMENTS;
+    PICTURE "Runs the script on standard input over a policy, and writes a picture of the run, an SVG page" PICTURE_ARGUMENTS;
+    KERNEL "Reads and checks a kernel's text, and lists its kernels with their layout and steps" KERNEL_ARGUMENTS;
+    ASSEMBLE "Turns a script with readable packets, on standard input, into one that run takes" ASSEMBLE_ARGUMENTS;
+    REPLAY "Replays the journal on standard input, and tells whether it is a legal history" REPLAY_ARGUMENTS;
+    EXPLAIN "Tells what a rule, a refusal or a cause of a fault means, or what happened in a journal" EXPLAIN_ARGUMENTS;
+    DECODE "Tells a packet's 64 bytes field by field, and the first of L1 to L3 that they break" DECODE_ARGUMENTS;
+    THREADS "Runs producers and lanes on threads over a policy, and reports what came of it" THREADS_ARGUMENTS;
+    COMPLETIONS "Prints a text by which a shell completes commands and options of this program" COMPLETIONS_ARGUMENTS;
+};
 
 // A program with one command more.
 fn with<'a>(
@@ -517,10 +484,11 @@ fn with<'a>(
     program: Command<'a>,
     described: &Described,
 ) -> Result<Command<'a>, Error> {
-    match command(alloc, described) {
-        Ok(command) => with_command(program, command),
-        Err(error) => Err(error),
-    }
+    let command = named(alloc, described.name, described.about);
+    with_command(
+        program,
+        with_arguments(alloc, command, described.arguments)?,
+    )
 }
 
 // A program with these commands more, in their order.

@@ -1,6 +1,7 @@
 //! A reader of a script that a person may wait for: it prompts for each line, or tells now and then how many were read.
 
-use crate::line_reader::at_most;
+ghost use Rattle.std.specs.Prelude.{◌≤◌};
+
 use std::alloc::Global;
 use std::io;
 use std::io::Write;
@@ -98,6 +99,13 @@ impl<'a, R: io::Read, E: io::Write> TerminalReader<'a, R, E> {
             Beside::Count => self.note_counted(bytes),
         }
     }
+}
+
+// A count, or a limit that it is above.
+fn at_most(count: usize, limit: usize) -> usize
+    ensures { result ≤ limit }
+{
+    if count <= limit { count } else { limit }
 }
 
 // How many lines end in some bytes.

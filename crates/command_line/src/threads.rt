@@ -2,10 +2,10 @@
 
 use crate::author::{fails, told};
 use crate::explaining::{PolicyFile, tell};
-use crate::policies::{Judged, judge, name_blame};
+use crate::policies::{judge, name_blame};
 use access_core::Kernel;
 use aql_packet::{PacketId, QueueId};
-use commands::{Failure, Status};
+use commands::{Failure, Setup, Status};
 use core_model::{Call, Entry, Event};
 use journal_commands::{JournalFault, JournalWriter};
 use policy::Policy;
@@ -340,13 +340,13 @@ fn run_judged<R: Threads + Wait + Sync, C: Clock, J: io::Write, O: io::Write, E:
     clock: &C,
     alloc: Global,
     text: &[u8],
-    judged: Judged,
+    judged: Setup,
     asked: AskedLoad,
     journal: Option<&mut J>,
     out: &mut O,
     err: &mut E,
 ) -> Status {
-    let Judged { policy, kernels } = judged;
+    let Setup { policy, kernels } = judged;
     match run_over(rt, clock, alloc, text, policy, kernels, asked, journal, err) {
         Ok(ran) => report(alloc, &ran, asked, out, err),
         Err(why) => unreported(alloc, err, why),

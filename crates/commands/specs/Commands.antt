@@ -1,7 +1,6 @@
 -- What the commands come to (own).
-use Rattle.std.specs.Prelude.{ℕ, ◌≡◌, ◌⊎◌, true, false, List, [], ◌∷◌, ◌++◌, codes, length, Option, Result, Ok, Err, IfErr, OnOk, ⊤}
+use Rattle.std.specs.Prelude.{ℕ, ◌≡◌, ◌⊎◌, List, [], ◌∷◌, ◌++◌, codes, length, Result, Ok, Err, ⊤}
 use Rattle.std.specs.Fmt.{decimal}
-use Rattle.std.specs.Io.KnownBytes.{Appends}
 use Rattle.policy.specs.Format.{Declares, HasFault, IsRefused}
 use Rattle.policy.specs.Policy.{Declared}
 use Rattle.policy.specs.declared.row.RightsRow.{RightsRow}
@@ -10,23 +9,24 @@ use Rattle.policy.specs.declared.version.Version.TheVariants.{First, Second}
 use Rattle.policy.specs.declared.fault.ReadPolicyError.{ReadPolicyError}
 use Rattle.policy.specs.declared.fault.ReadPolicyError.TheVariants as reading
 use Rattle.access_core.specs.declared.access.OpenFault.{OpenFault}
-use Rattle.access_core.specs.declared.kernel.Kernel as cores
-use Rattle.script.specs.declared.io_log.IoLog.{IoLog}
 use Rattle.script.specs.declared.fault.ScriptFault.{ScriptFault}
 use Rattle.script.specs.declared.fault.ScriptFault.TheVariants as why
-use Rattle.script.specs.IoLogs.{AppendsBeginning, IsCaused, NoneFailed, none_yet}
-use Rattle.script.specs.declared.watch.Flow.{Flow}
-use Rattle.script.specs.Runs.{Told, watched}
-use Rattle.script.specs.Scripts.{RunsScript}
+use Rattle.script.specs.declared.fault.RunFault.TheVariants.{Script, Watcher}
+use Rattle.script.specs.Runs.{Law, as_text, by_line, law}
+use Rattle.script.specs.Scripts.{Ending, HasCause, RunsScript}
+use Rattle.script.specs.Watchers.{strict}
 use Rattle.world.specs.Starting.{Begins}
 use Rattle.world.specs.States.{Joined}
-use Rattle.commands.specs.declared.command_log.CommandLog.{CommandLog}
 use Rattle.commands.specs.declared.failure.Failure.{Failure}
 use Rattle.commands.specs.declared.check.Setup.{Setup}
 use Rattle.commands.specs.declared.failure.Failure.TheVariants.{OutOfMemory, Policy, Kernel, KernelCount, NoEntry, Capacity, Line, Read, Write}
 use Rattle.commands.specs.declared.status.Status.{Status}
-use Rattle.commands.specs.declared.status.Status.TheVariants.{Done}
-use Rattle.commands.specs.Failures.{NamesFailure, TellsFailure, failure_of_opening, failure_of_reading, failure_of_script}
+use Rattle.commands.specs.declared.failure.Stop.{Stop}
+use Rattle.commands.specs.declared.failure.Stop.TheVariants.{Quiet, Named}
+use Rattle.commands.specs.declared.run.Opened.{Opened}
+use Rattle.commands.specs.declared.run.Unopened.{Unopened}
+use Rattle.commands.specs.declared.status.Status.TheVariants.{Done, Refused}
+use Rattle.commands.specs.Failures.{IsBegun, IsWritten, NamesFailure, Stream, failure_of_opening, failure_of_reading, failure_of_script}
 use Rattle.commands.specs.Further.{ReadsEach}
 use Rattle.commands.specs.Kernels.{AreLaunchable, IsFirstRefused, IsWantedAt}
 
@@ -58,14 +58,10 @@ PassesPolicy policy (Err (Line number)) = ⊥
 PassesPolicy policy (Err Read) = ⊥
 PassesPolicy policy (Err Write) = ⊥
 
--- neither the reader of the script nor a writer was asked yet
-abbrev pub none_noted : CommandLog
-none_noted = record { asked = none_yet; faults = none_yet }
-
--- how what was asked ended: all is done, a failure is named, or whoever watches ended it and nothing is told
-abbrev pub TellsEnd : Result ⊤ ScriptFault → IoLog → (before after : Option (List ℕ)) → Status → Type 0
-TellsEnd (Ok done) faults before after status = (after ≡ before) × (status ≡ Done)
-TellsEnd (Err fault) faults before after status = TellsFailure (failure_of_script fault) faults before after status
+-- how what was asked ended: all is done, or a failure is named
+abbrev pub TellsEnd : Result ⊤ ScriptFault → Stream → Stream → Status → Type 0
+TellsEnd (Ok done) before after status = (after ≡ before) × (status ≡ Done)
+TellsEnd (Err fault) before after status = NamesFailure (failure_of_script fault) before after status
 
 -- ---- `check`
 
@@ -88,97 +84,112 @@ text_of_counts policy =
 
 -- how the writing of a text ended: it is written and nothing else; or memory was wanted for it, and nothing is written; or the writer
 -- failed behind a beginning of it
-abbrev pub WritesText : List ℕ → Result ⊤ ScriptFault → IoLog → (before after : Option (List ℕ)) → Type 0
-WritesText text (Ok done) answers before after = Appends before after text × (answers.write_failed ≡ false)
-WritesText text (Err why.OutOfMemory) answers before after = after ≡ before
-WritesText text (Err why.Write) answers before after = AppendsBeginning before after text × (answers.write_failed ≡ true)
-WritesText text (Err why.Read) answers before after = ⊥
-WritesText text (Err (why.BadLine number)) answers before after = ⊥
-WritesText text (Err (why.Stopped number)) answers before after = ⊥
+abbrev pub WritesText : List ℕ → Result ⊤ ScriptFault → Stream → Stream → Type 0
+WritesText text (Ok done) before after = IsWritten text before after
+WritesText text (Err why.OutOfMemory) before after = after ≡ before
+WritesText text (Err why.Write) before after = IsBegun text before after
+WritesText text (Err why.Read) before after = ⊥
+WritesText text (Err (why.BadLine number)) before after = ⊥
 
 -- the counts are written, or it is named why they aren't
-abbrev pub TellsCounts : Declared → CommandLog → (out counted err named : Option (List ℕ)) → Status → Type 0
-TellsCounts policy noted out counted err named status =
-    (ended : Result ⊤ ScriptFault) × WritesText (text_of_counts policy) ended noted.asked out counted × TellsEnd ended noted.faults err named status
+abbrev pub TellsCounts : Declared → (out counted err named : Stream) → Status → Type 0
+TellsCounts policy out counted err named status =
+    (ended : Result ⊤ ScriptFault) × WritesText (text_of_counts policy) ended out counted × TellsEnd ended err named status
 
 -- the counts of a good policy are told, or the failure of another
-abbrev pub TellsVerdict : Result Setup Failure → CommandLog → (out counted err named : Option (List ℕ)) → Status → Type 0
-TellsVerdict (Ok setup) noted out counted err named status = TellsCounts setup.policy noted out counted err named status
-TellsVerdict (Err failure) noted out counted err named status = (counted ≡ out) × NamesFailure failure noted.faults err named status
+abbrev pub TellsVerdict : Result Setup Failure → (out counted err named : Stream) → Status → Type 0
+TellsVerdict (Ok setup) out counted err named status = TellsCounts setup.policy out counted err named status
+TellsVerdict (Err failure) out counted err named status = (counted ≡ out) × NamesFailure failure err named status
 
--- a policy is judged, and its counts or its failure told: what the writers answered, and their bytes before and after
-abbrev pub ChecksPolicy : List ℕ → CommandLog → (out counted err named : Option (List ℕ)) → Status → Type 0
-ChecksPolicy text noted out counted err named status =
-    (verdict : Result Setup Failure) × JudgesPolicy text verdict × TellsVerdict verdict noted out counted err named status
+-- a policy is judged, and its counts or its failure told: what is known of the writers before and after
+abbrev pub ChecksPolicy : List ℕ → (out counted err named : Stream) → Status → Type 0
+ChecksPolicy text out counted err named status =
+    (verdict : Result Setup Failure) × JudgesPolicy text verdict × TellsVerdict verdict out counted err named status
+
+-- ---- the policies of a run
+
+-- what keeps the first policy from a run
+abbrev pub of_first : Failure → Unopened
+of_first failure = record { failure = failure; place = 0 }
+
+-- the further policies behind a world: they are read, or one of them isn't
+abbrev pub OpensBehind : Joined → Result (List Declared) ReadPolicyError → Result Opened Unopened → Type 0
+OpensBehind world (Ok later) result = result ≡ Ok (record { world = world; later = later })
+OpensBehind world (Err why) result = (place : ℕ) × (result ≡ Err (record { failure = failure_of_reading why; place = place }))
+
+-- where a world was opened, the texts of the further policies are read in order
+abbrev pub OpensWorld : Result Joined OpenFault → List (List ℕ) → Result Opened Unopened → Type 0
+OpensWorld (Ok world) further result = (read : Result (List Declared) ReadPolicyError) × ReadsEach further read × OpensBehind world read result
+OpensWorld (Err fault) further result = result ≡ Err (of_first (failure_of_opening fault))
+
+-- where the policy is good, a world is opened under it, with what packets may launch and so many places in its audit
+abbrev pub OpensVerdict : Result Setup Failure → List (List ℕ) → ℕ → Result Opened Unopened → Type 0
+OpensVerdict (Ok setup) further places result =
+    (opened : Result Joined OpenFault) × Begins setup.policy setup.kernels.items places opened × OpensWorld opened further result
+OpensVerdict (Err failure) further places result = result ≡ Err (of_first failure)
+
+-- a policy is judged, a world opened under it, and further policies are read; else the first failure is told
+abbrev pub OpensPolicies : List ℕ → List (List ℕ) → ℕ → Result Opened Unopened → Type 0
+OpensPolicies text further places result = (verdict : Result Setup Failure) × JudgesPolicy text verdict × OpensVerdict verdict further places result
 
 -- ---- `run`
 
--- the bytes of a run's reader and writers, where they are known: what the script still has, the replies, and the faults
+-- what is known of a run's reader and writers: of the script, of the replies and of the faults
 pub record Streams : Type 0 where
-  pub script : Option (List ℕ)
-  pub replies : Option (List ℕ)
-  pub faults : Option (List ℕ)
+  pub script : Stream
+  pub replies : Stream
+  pub faults : Stream
 
-abbrev pub streams : Option (List ℕ) → Option (List ℕ) → Option (List ℕ) → Streams
+abbrev pub streams : Stream → Stream → Stream → Streams
 streams script replies faults = record { script = script; replies = replies; faults = faults }
 
--- what a watcher may say to a reply
-abbrev pub Saying : Type 1
-Saying = Told → Flow → Type 0
+-- who serves the lines of a run, by its further policies
+abbrev pub Serving : Type 1
+Serving = List Declared → Law Joined
 
--- a script runs over a world with these further policies, once, and a watcher that may say so: what is left of it, and its replies
-unfoldable pub RunsOver : Saying → List Declared → Joined → Joined → (script left replies replied : Option (List ℕ)) → Result ⊤ ScriptFault → Type 0
-RunsOver says later old new script left replies replied ended =
-    RunsScript (watched says later) old new replies replied script left ended
+-- how a command ends whose run a watcher ended
+abbrev pub EndsBy : Stop → Stream → Stream → Status → Type 0
+EndsBy (Quiet ending) before after status = (after ≡ before) × (status ≡ ending)
+EndsBy (Named failure) before after status = NamesFailure failure before after status
 
--- the same, whatever becomes of the world
-abbrev pub RunsFrom : Saying → List Declared → Joined → (script left replies replied : Option (List ℕ)) → Result ⊤ ScriptFault → Type 0
-RunsFrom says later old script left replies replied ended = (new : Joined) × RunsOver says later old new script left replies replied ended
+-- how a run ended: all is done, a failure is named, or whoever watches ended it, who may say how the command ends then
+abbrev pub TellsRun : {F : Type 0} → (Stop → Type 0) → Ending F → Stream → Stream → Status → Type 0
+TellsRun stops (Ok done) before after status = (after ≡ before) × (status ≡ Done)
+TellsRun stops (Err (Script fault)) before after status = NamesFailure (failure_of_script fault) before after status
+TellsRun stops (Err (Watcher fault)) before after status = (stop : Stop) × stops stop × EndsBy stop before after status
 
--- nothing was read and no reply written, and a failure is named
-abbrev pub StopsBefore : Failure → CommandLog → (before after : Streams) → Status → Type 0
-StopsBefore failure noted before after status =
-    (after.script ≡ before.script) × (after.replies ≡ before.replies) × NamesFailure failure noted.faults before.faults after.faults status
-
--- what is told of the reader and the writer of a script is so: a fault has its cause, and where all was done neither failed
-abbrev pub IsTold : Result ⊤ ScriptFault → IoLog → Type 0
-IsTold ended asked = IfErr ended (IsCaused asked) × OnOk ended (NoneFailed asked)
+-- a script runs over a world, once: what is left of it, and its replies; and each fault has its cause
+unfoldable pub RunsOver : {F : Type 0} → Law Joined → Joined → Joined → (script left replies replied : Stream) → Ending F → Type 0
+RunsOver law old new script left replies replied ended =
+    RunsScript law old new replies.bytes replied.bytes script.bytes left.bytes ended
+    × HasCause script.failed left.failed replies.failed replied.failed ended
 
 -- a script runs over a world that is newly open, with these further policies
-abbrev pub RunsIn : Saying → List Declared → Joined → CommandLog → (before after : Streams) → Status → Type 0
-RunsIn says later world noted before after status =
-    (ended : Result ⊤ ScriptFault) × RunsFrom says later world before.script after.script before.replies after.replies ended
-    × IsTold ended noted.asked × TellsEnd ended noted.faults before.faults after.faults status
+abbrev pub RunsIn : (F : Type 0) → Serving → (Stop → Type 0) → Opened → (before after : Streams) → Status → Type 0
+RunsIn F law stops opened before after status =
+    (new : Joined) × (ended : Ending F) × RunsOver (law opened.later) opened.world new before.script after.script before.replies after.replies ended
+    × TellsRun stops ended before.faults after.faults status
 
--- the script runs over a world with the further policies, where they are read; else it is named why they aren't
-abbrev pub RunsLater : Saying → Joined → Result (List Declared) ReadPolicyError → CommandLog → (before after : Streams) → Status → Type 0
-RunsLater says world (Ok later) noted before after status = RunsIn says later world noted before after status
-RunsLater says world (Err why) noted before after status = StopsBefore (failure_of_reading why) noted before after status
+-- the script runs over what was opened; else nothing is read and no reply written, and it is named why
+abbrev pub RunsOpened : (F : Type 0) → Serving → (Stop → Type 0) → Result Opened Unopened → (before after : Streams) → Status → Type 0
+RunsOpened F law stops (Ok opened) before after status = RunsIn F law stops opened before after status
+RunsOpened F law stops (Err why) before after status =
+    (after.script ≡ before.script) × (after.replies ≡ before.replies) × NamesFailure why.failure before.faults after.faults status
 
--- the texts of the further policies are read in order, and the script runs over a world that is newly open
-abbrev pub RunsBehind : Saying → Joined → List (List ℕ) → CommandLog → (before after : Streams) → Status → Type 0
-RunsBehind says world further noted before after status =
-    (read : Result (List Declared) ReadPolicyError) × ReadsEach further read × RunsLater says world read noted before after status
+-- a world is opened over policies, and the script runs, or the first failure is named: what is known of the reader and the writers
+-- before and after; `F` has the faults of whoever watches
+abbrev pub RunsPolicies : (F : Type 0) → Serving → (Stop → Type 0) → List ℕ → List (List ℕ) → ℕ → (before after : Streams) → Status → Type 0
+RunsPolicies F law stops text further places before after status =
+    (opened : Result Opened Unopened) × OpensPolicies text further places opened × RunsOpened F law stops opened before after status
 
--- the further policies are read, and the script runs over the world, where one was opened; else the failure is named: that of the first
--- kernel without its entry, where there is one
-abbrev pub RunsWorld : Saying → Result Joined OpenFault → List (List ℕ) → CommandLog → (before after : Streams) → Status → Type 0
-RunsWorld says (Ok world) further noted before after status = RunsBehind says world further noted before after status
-RunsWorld says (Err fault) further noted before after status = StopsBefore (failure_of_opening fault) noted before after status
+-- a run that nobody watches is ended by nobody
+abbrev pub no_stop : Stop → Type 0
+no_stop stop = ⊥
 
--- a world is opened under a policy, with what packets may launch and so many places in its audit, and the script runs over it
-abbrev pub RunsUnder : Saying → Declared → List cores.Kernel → List (List ℕ) → ℕ → CommandLog → (before after : Streams) → Status → Type 0
-RunsUnder says policy kernels further places noted before after status =
-    (opened : Result Joined OpenFault) × Begins policy kernels places opened × RunsWorld says opened further noted before after status
+-- a run that ends as a line isn't done ends as refused, and nothing is told
+abbrev pub refused_quietly : Stop → Type 0
+refused_quietly stop = stop ≡ Quiet Refused
 
--- the same, where the policy is good
-abbrev pub RunsVerdict : Saying → Result Setup Failure → List (List ℕ) → ℕ → CommandLog → (before after : Streams) → Status → Type 0
-RunsVerdict says (Ok setup) further places noted before after status =
-    RunsUnder says setup.policy setup.kernels.items further places noted before after status
-RunsVerdict says (Err failure) further places noted before after status = StopsBefore failure noted before after status
-
--- a policy is judged, then further ones are read, and the script runs, or the first failure is named: what the reader and the writers
--- answered, and their bytes before and after
-abbrev pub RunsPolicies : Saying → List ℕ → List (List ℕ) → ℕ → CommandLog → (before after : Streams) → Status → Type 0
-RunsPolicies says text further places noted before after status =
-    (verdict : Result Setup Failure) × JudgesPolicy text verdict × RunsVerdict says verdict further places noted before after status
+-- a strict run
+abbrev pub strictly : Serving
+strictly later = law (by_line as_text) strict later

@@ -7,8 +7,7 @@ use Rattle.policy.specs.declared.fault.ReadPolicyError.TheVariants as reading
 use Rattle.policy.specs.FaultTexts.{text_of_fault}
 use Rattle.access_core.specs.declared.access.OpenFault.{OpenFault}
 use Rattle.access_core.specs.declared.access.OpenFault.TheVariants as opening
-use Rattle.script.specs.IoLogs.{AppendsBeginning}
-use Rattle.script.specs.declared.io_log.IoLog.{IoLog}
+use Rattle.script.specs.Streams.{AppendsBeginning}
 use Rattle.script.specs.declared.fault.ScriptFault.{ScriptFault}
 use Rattle.script.specs.declared.fault.ScriptFault.TheVariants as script
 use Rattle.commands.specs.declared.failure.Failure.{Failure}
@@ -59,18 +58,31 @@ has_number Write = false
 abbrev pub line_of_failure : Failure → List ℕ
 line_of_failure failure = text_of_failure failure ++ 10 ∷ []
 
--- a line is written, and the command ends with a status; or the writer failed behind a beginning of the line, and so did the
--- command. `told` and `tells` are the writer's bytes before and after
-abbrev pub TellsLine : List ℕ → Status → IoLog → Option (List ℕ) → Option (List ℕ) → Status → Type 0
-TellsLine line ending answers told tells status =
-    (Appends told tells line × (answers.write_failed ≡ false) × (status ≡ ending))
-    ⊎ (AppendsBeginning told tells line × (answers.write_failed ≡ true) × (status ≡ Failed))
+-- what is known of a reader or of a writer: the bytes that are left, or that it holds, where it tells them; and whether it has failed
+pub record Stream : Type 0 where
+  pub bytes : Option (List ℕ)
+  pub failed : Bool
+
+abbrev pub stream : Option (List ℕ) → Bool → Stream
+stream bytes failed = record { bytes = bytes; failed = failed }
+
+-- a text is written: all of it; or the writer failed behind a beginning
+abbrev pub IsWritten : List ℕ → Stream → Stream → Type 0
+IsWritten text before after = Appends before.bytes after.bytes text × (after.failed ≡ before.failed)
+
+abbrev pub IsBegun : List ℕ → Stream → Stream → Type 0
+IsBegun text before after = AppendsBeginning before.bytes after.bytes text × (after.failed ≡ true)
+
+-- a line is written, and the command ends with a status; or the writer failed, and so did the command
+abbrev pub TellsLine : List ℕ → Status → Stream → Stream → Status → Type 0
+TellsLine line ending before after status =
+    (IsWritten line before after × (status ≡ ending)) ⊎ (IsBegun line before after × (status ≡ Failed))
 
 -- a failure is named in a line, and its status answered; or memory was wanted for a line with a number, and that is named
-abbrev pub NamesFailure : Failure → IoLog → Option (List ℕ) → Option (List ℕ) → Status → Type 0
-NamesFailure failure answers told tells status =
-    TellsLine (line_of_failure failure) (status_of failure) answers told tells status
-    ⊎ ((has_number failure ≡ true) × TellsLine (line_of_failure OutOfMemory) (status_of OutOfMemory) answers told tells status)
+abbrev pub NamesFailure : Failure → Stream → Stream → Status → Type 0
+NamesFailure failure before after status =
+    TellsLine (line_of_failure failure) (status_of failure) before after status
+    ⊎ ((has_number failure ≡ true) × TellsLine (line_of_failure OutOfMemory) (status_of OutOfMemory) before after status)
 
 -- the failure of the reading of a policy
 abbrev pub failure_of_reading : ReadPolicyError → Failure
@@ -89,15 +101,9 @@ failure_of_opening opening.KernelCount = KernelCount
 failure_of_opening (opening.NoEntry kernel) = NoEntry kernel
 failure_of_opening opening.BadCapacity = Capacity
 
--- the failure of the run of a script; none where whoever watches ended it
-abbrev pub failure_of_script : ScriptFault → Option Failure
-failure_of_script script.OutOfMemory = Some OutOfMemory
-failure_of_script (script.BadLine number) = Some (Line number)
-failure_of_script script.Read = Some Read
-failure_of_script script.Write = Some Write
-failure_of_script (script.Stopped number) = None
-
--- a failure is named; where there is none nothing is told, and what was asked wasn't done
-abbrev pub TellsFailure : Option Failure → IoLog → Option (List ℕ) → Option (List ℕ) → Status → Type 0
-TellsFailure (Some failure) answers told tells status = NamesFailure failure answers told tells status
-TellsFailure None answers told tells status = (tells ≡ told) × (status ≡ Refused)
+-- the failure of the run of a script
+abbrev pub failure_of_script : ScriptFault → Failure
+failure_of_script script.OutOfMemory = OutOfMemory
+failure_of_script (script.BadLine number) = Line number
+failure_of_script script.Read = Read
+failure_of_script script.Write = Write

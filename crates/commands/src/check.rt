@@ -1,18 +1,16 @@
 //! The command that checks a policy.
 
-ghost use Rattle.std.specs.Prelude.{◌≡◌, ◌++◌, IfOk, OnOk, string_bytes, false};
-ghost use Rattle.commands.specs.Commands.{JudgesPolicy, PassesPolicy, none_noted, text_of_count, text_of_counts, text_of_denies, WritesText, TellsCounts, ChecksPolicy};
-ghost use Rattle.commands.specs.declared.command_log.CommandLog.{CommandLog};
+ghost use Rattle.std.specs.Prelude.{◌≡◌, ◌++◌, IfOk, OnOk, string_bytes};
+ghost use Rattle.commands.specs.Commands.{JudgesPolicy, PassesPolicy, text_of_count, text_of_counts, text_of_denies, WritesText, TellsCounts, ChecksPolicy};
+ghost use Rattle.commands.specs.Failures.{stream};
 
-use crate::command_log::CommandLog;
 use crate::failure::{Failure, name_failure, tell_end};
 use crate::kernel_judging::check_kernels;
 use crate::status::Status;
 use access_core::Kernel;
 use policy::{Kind, Policy, Version, read_policy};
-use script::{IoLog, ScriptFault, flush_once, write_through};
+use script::{ScriptFault, Sink, flush_once, write_through};
 use std::alloc::{AllocError, Global};
-use std::io;
 
 // Writes a line with the name of an array and how many rows it has.
 fn write_count(out: &mut String, name: &str, count: usize) -> Result<(), AllocError>
@@ -55,56 +53,44 @@ fn text_of_counts(alloc: Global, policy: &Policy) -> Result<String, AllocError>
 }
 
 /// Writes a text, and has the writer pass it on.
-pub(crate) fn pass_on<W: io::Write>(
-    text: &str,
-    out: &mut W,
-    answers: &mut IoLog,
-) -> Result<(), ScriptFault>
-    requires { answers.old.write_failed ≡ false }
-    ensures { WritesText text.now result answers.new (W.contents out.old) (W.contents out.new) }
+pub(crate) fn pass_on<W: Sink>(text: &str, out: &mut W) -> Result<(), ScriptFault>
+    ensures { WritesText text.now result (stream (W.contents out.old) (W.failed out.old)) (stream (W.contents out.new) (W.failed out.new)) }
 {
-    match write_through(out, text.as_bytes(), answers) {
-        Ok(()) => flush_once(out, answers),
+    match write_through(out, text.as_bytes()) {
+        Ok(()) => flush_once(out),
         Err(_) => Err(ScriptFault::Write),
     }
 }
 
 // Writes the counts of a policy.
-fn write_counts<W: io::Write>(
-    alloc: Global,
-    policy: &Policy,
-    out: &mut W,
-    answers: &mut IoLog,
-) -> Result<(), ScriptFault>
-    requires { answers.old.write_failed ≡ false }
-    ensures { WritesText (text_of_counts policy.now) result answers.new (W.contents out.old) (W.contents out.new) }
+fn write_counts<W: Sink>(alloc: Global, policy: &Policy, out: &mut W) -> Result<(), ScriptFault>
+    ensures { WritesText (text_of_counts policy.now) result (stream (W.contents out.old) (W.failed out.old)) (stream (W.contents out.new) (W.failed out.new)) }
 {
     match text_of_counts(alloc, policy) {
-        Ok(text) => pass_on(text.as_str(), out, answers),
+        Ok(text) => pass_on(text.as_str(), out),
         Err(_) => Err(ScriptFault::OutOfMemory),
     }
 }
 
 /// A policy that was let pass, with what packets may launch by its kernels, in order.
 #[derive(Drop)]
-pub(crate) struct Setup {
+pub struct Setup {
     pub policy: Policy,
     pub kernels: Vec<Kernel>,
 }
 
-/// Counts the rows of a policy on `out`, as `check_policy` does of one without a fault, and notes what the writers answered.
-pub fn count_rows<O: io::Write, E: io::Write>(
+/// Counts the rows of a policy on `out`, as `check_policy` does of one without a fault.
+pub fn count_rows<O: Sink, E: Sink>(
     alloc: Global,
     policy: &Policy,
     out: &mut O,
     err: &mut E,
-    noted: &mut CommandLog,
 ) -> Status
-    requires { noted.old ≡ none_noted }
-    ensures { TellsCounts policy.now noted.new (O.contents out.old) (O.contents out.new) (E.contents err.old) (E.contents err.new) result }
+    ensures { TellsCounts policy.now (stream (O.contents out.old) (O.failed out.old)) (stream (O.contents out.new) (O.failed out.new))
+        (stream (E.contents err.old) (E.failed err.old)) (stream (E.contents err.new) (E.failed err.new)) result }
 {
-    let ended = write_counts(alloc, policy, out, &mut noted.asked);
-    tell_end(alloc, ended, err, &mut noted.faults)
+    let ended = write_counts(alloc, policy, out);
+    tell_end(alloc, ended, err)
 }
 
 // The policy with its kernels, where these are let pass.
@@ -118,7 +104,7 @@ fn checked(alloc: Global, policy: Policy) -> Result<Setup, Failure>
 }
 
 /// Reads the text of a policy, and checks its kernels in order.
-pub(crate) fn judge(alloc: Global, text: &[u8]) -> Result<Setup, Failure>
+pub fn judge(alloc: Global, text: &[u8]) -> Result<Setup, Failure>
     ensures { JudgesPolicy text.now result }
 {
     match read_policy(alloc, text) {
@@ -127,35 +113,22 @@ pub(crate) fn judge(alloc: Global, text: &[u8]) -> Result<Setup, Failure>
     }
 }
 
-/// Checks a policy as `check_policy` does, and notes what the writers answered. It fails only where `no memory`
-/// stands on `err`, or `write fault`, which the writer of the counts failed for, or where the writer of faults failed.
-pub fn check_policy_noting<O: io::Write, E: io::Write>(
-    alloc: Global,
-    text: &[u8],
-    out: &mut O,
-    err: &mut E,
-    noted: &mut CommandLog,
-) -> Status
-    requires { noted.old ≡ none_noted }
-    ensures { ChecksPolicy text.now noted.new (O.contents out.old) (O.contents out.new) (E.contents err.old) (E.contents err.new) result }
-{
-    match judge(alloc, text) {
-        Ok(setup) => count_rows(alloc, &setup.policy, out, err, noted),
-        Err(why) => name_failure(alloc, why, err, &mut noted.faults),
-    }
-}
-
 /// Checks the text of a policy, and then its kernels in order. A good one is counted on `out`; the
 /// first fault of another is named on `err`: as `policy: 4 UnknownName allow 7`, with the array and
-/// the row that it lies in, or as `kernel 1: check 3 line 4`; nothing stands on `out` then.
-pub fn check_policy<O: io::Write, E: io::Write>(
+/// the row that it lies in, or as `kernel 1: check 3 line 4`; nothing stands on `out` then. It fails only
+/// where `no memory` stands on `err`, or `write fault`, which the writer of the counts failed for, or where
+/// the writer of faults failed.
+pub fn check_policy<O: Sink, E: Sink>(
     alloc: Global,
     text: &[u8],
     out: &mut O,
     err: &mut E,
 ) -> Status
-    ensures { (noted : CommandLog) × ChecksPolicy text.now noted (O.contents out.old) (O.contents out.new) (E.contents err.old) (E.contents err.new) result }
+    ensures { ChecksPolicy text.now (stream (O.contents out.old) (O.failed out.old)) (stream (O.contents out.new) (O.failed out.new))
+        (stream (E.contents err.old) (E.failed err.old)) (stream (E.contents err.new) (E.failed err.new)) result }
 {
-    let mut noted = CommandLog::none();
-    check_policy_noting(alloc, text, out, err, &mut noted)
+    match judge(alloc, text) {
+        Ok(setup) => count_rows(alloc, &setup.policy, out, err),
+        Err(why) => name_failure(alloc, why, err),
+    }
 }

@@ -1,17 +1,17 @@
 //! Why a command doesn't do what was asked, and how that is told.
 
-ghost use Rattle.std.specs.Prelude.{◌≡◌, IfOk, IfSome, None, string_bytes, true, false};
-ghost use Rattle.commands.specs.Commands.{TellsEnd};
-ghost use Rattle.commands.specs.Failures.{status_of, has_number, line_of_failure, text_of_failure, NamesFailure, TellsLine, failure_of_reading, failure_of_kernels, failure_of_opening, failure_of_script};
+ghost use Rattle.std.specs.Prelude.{◌≡◌, IfOk, IfSome, None, string_bytes, true};
+ghost use Rattle.commands.specs.Commands.{EndsBy, TellsEnd, TellsRun};
+ghost use Rattle.commands.specs.Failures.{status_of, has_number, line_of_failure, stream, text_of_failure, NamesFailure, TellsLine, failure_of_reading, failure_of_kernels, failure_of_opening, failure_of_script};
 
 use crate::kernel_judging::{KernelError, KernelFault};
 use crate::status::Status;
 use access_core::OpenFault;
 use aql_packet::KernelObject;
 use policy::{PolicyFault, ReadPolicyError};
-use script::{IoLog, ScriptFault, write_through};
+use script::{Either, Never, NotDone, RunFault, ScriptFault, Sink, write_through};
 use std::alloc::{AllocError, Global};
-use std::{fmt, io};
+use std::fmt;
 
 /// Why a command doesn't do what was asked (own).
 #[derive(Clone, Copy, Debug, PartialEq, Eq, thiserror::Error)]
@@ -111,16 +111,15 @@ impl Failure {
         }
     }
 
-    // The failure of the run of a script; none where whoever watches ended it.
-    pub(crate) fn of_script(why: ScriptFault) -> Option<Failure>
+    /// The failure of the run of a script.
+    pub fn of_script(why: ScriptFault) -> Failure
         ensures { result ≡ failure_of_script why }
     {
         match why {
-            ScriptFault::OutOfMemory => Some(Failure::OutOfMemory),
-            ScriptFault::BadLine(number) => Some(Failure::Line(number)),
-            ScriptFault::Read => Some(Failure::Read),
-            ScriptFault::Write => Some(Failure::Write),
-            ScriptFault::Stopped(_) => None,
+            ScriptFault::OutOfMemory => Failure::OutOfMemory,
+            ScriptFault::BadLine(number) => Failure::Line(number),
+            ScriptFault::Read => Failure::Read,
+            ScriptFault::Write => Failure::Write,
         }
     }
 }
@@ -160,11 +159,10 @@ fn line_of(alloc: Global, failure: Failure) -> Result<String, AllocError>
 }
 
 // Writes a line, and tells how the command ends: failed, where the writer failed.
-fn tell_line<E: io::Write>(line: &str, ending: Status, err: &mut E, answers: &mut IoLog) -> Status
-    requires { answers.old.write_failed ≡ false }
-    ensures { TellsLine line.now ending answers.new (E.contents err.old) (E.contents err.new) result }
+fn tell_line<E: Sink>(line: &str, ending: Status, err: &mut E) -> Status
+    ensures { TellsLine line.now ending (stream (E.contents err.old) (E.failed err.old)) (stream (E.contents err.new) (E.failed err.new)) result }
 {
-    match write_through(err, line.as_bytes(), answers) {
+    match write_through(err, line.as_bytes()) {
         Ok(()) => ending,
         Err(_) => Status::Failed,
     }
@@ -172,39 +170,103 @@ fn tell_line<E: io::Write>(line: &str, ending: Status, err: &mut E, answers: &mu
 
 /// Names a failure in a line, and tells how the command ends. Where there is no memory for a line with a number in it,
 /// that is named.
-pub fn name_failure<E: io::Write>(
-    alloc: Global,
-    failure: Failure,
-    err: &mut E,
-    answers: &mut IoLog,
-) -> Status
-    requires { answers.old.write_failed ≡ false }
-    ensures { NamesFailure failure answers.new (E.contents err.old) (E.contents err.new) result }
+pub fn name_failure<E: Sink>(alloc: Global, failure: Failure, err: &mut E) -> Status
+    ensures { NamesFailure failure (stream (E.contents err.old) (E.failed err.old)) (stream (E.contents err.new) (E.failed err.new)) result }
 {
     if let Some((_text, line)) = failure.fixed() {
-        return tell_line(line, failure.status(), err, answers);
+        return tell_line(line, failure.status(), err);
     }
     match line_of(alloc, failure) {
-        Ok(line) => tell_line(line.as_str(), failure.status(), err, answers),
-        Err(_) => tell_line(NO_MEMORY.1, Status::Failed, err, answers),
+        Ok(line) => tell_line(line.as_str(), failure.status(), err),
+        Err(_) => tell_line(NO_MEMORY.1, Status::Failed, err),
     }
 }
 
-/// Names why what was asked wasn't done, if it wasn't and nobody who watches ended it.
-pub fn tell_end<E: io::Write>(
-    alloc: Global,
-    ended: Result<(), ScriptFault>,
-    err: &mut E,
-    answers: &mut IoLog,
-) -> Status
-    requires { answers.old.write_failed ≡ false }
-    ensures { TellsEnd ended answers.new (E.contents err.old) (E.contents err.new) result }
+/// Names why what was asked wasn't done, if it wasn't.
+pub fn tell_end<E: Sink>(alloc: Global, ended: Result<(), ScriptFault>, err: &mut E) -> Status
+    ensures { TellsEnd ended (stream (E.contents err.old) (E.failed err.old)) (stream (E.contents err.new) (E.failed err.new)) result }
 {
     match ended {
         Ok(()) => Status::Done,
-        Err(why) => match Failure::of_script(why) {
-            Some(failure) => name_failure(alloc, failure, err, answers),
-            None => Status::Refused,
-        },
+        Err(why) => name_failure(alloc, Failure::of_script(why), err),
+    }
+}
+
+/// How a command ends whose run a watcher ended (own).
+#[derive(Clone, Copy, Debug, PartialEq, Eq)]
+pub enum Stop {
+    /// So, and nothing is told.
+    Quiet(Status),
+    /// By a failure, which is named.
+    Named(Failure),
+}
+
+/// A watcher's fault: it says how the command ends.
+pub trait Stops {
+    ghost use Rattle.commands.specs.declared.failure.Stop.{Stop};
+
+    /// How the command may end.
+    ghost stops: { Stop → Type 0 };
+
+    /// How the command ends.
+    fn stop(self) -> Stop
+        ensures { stops result };
+}
+
+impl Stops for Never {
+    ghost use Rattle.commands.specs.Commands.{no_stop};
+
+    ghost stops = { no_stop };
+
+    fn stop(self) -> Stop {
+        match self {}
+    }
+}
+
+impl Stops for NotDone {
+    ghost use Rattle.commands.specs.Commands.{refused_quietly};
+
+    ghost stops = { refused_quietly };
+
+    fn stop(self) -> Stop {
+        Stop::Quiet(Status::Refused)
+    }
+}
+
+impl<A: Stops, B: Stops> Stops for Either<A, B> {
+    ghost use Rattle.std.specs.Prelude.{◌⊎◌};
+
+    ghost stops = { λ stop. A.stops stop ⊎ B.stops stop };
+
+    fn stop(self) -> Stop {
+        match self {
+            Either::First(fault) => fault.stop(),
+            Either::Second(fault) => fault.stop(),
+        }
+    }
+}
+
+// How a command ends whose run its watcher ended.
+fn tell_stop<E: Sink>(alloc: Global, stop: Stop, err: &mut E) -> Status
+    ensures { EndsBy stop (stream (E.contents err.old) (E.failed err.old)) (stream (E.contents err.new) (E.failed err.new)) result }
+{
+    match stop {
+        Stop::Quiet(status) => status,
+        Stop::Named(failure) => name_failure(alloc, failure, err),
+    }
+}
+
+/// Names why a run wasn't done to its end, if it wasn't, unless its watcher ended it and says that nothing is told.
+pub fn tell_run<F: Stops + Drop, E: Sink>(
+    alloc: Global,
+    ended: Result<(), RunFault<F>>,
+    err: &mut E,
+) -> Status
+    ensures { TellsRun F.stops ended (stream (E.contents err.old) (E.failed err.old)) (stream (E.contents err.new) (E.failed err.new)) result }
+{
+    match ended {
+        Ok(()) => Status::Done,
+        Err(RunFault::Script(why)) => name_failure(alloc, Failure::of_script(why), err),
+        Err(RunFault::Watcher(fault)) => tell_stop(alloc, fault.stop(), err),
     }
 }

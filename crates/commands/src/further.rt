@@ -1,6 +1,8 @@
 //! The further policies of a run, which its script may hand in.
 
 ghost use Rattle.std.specs.Prelude.{◌≡◌, ◌∷◌, [], ◌++◌, IfErr, IfOk, OnOk};
+ghost use Rattle.policy.specs.Format.{Declares, IsRefused};
+ghost use Rattle.policy.specs.Policy.{Declared};
 ghost use Rattle.commands.specs.Further.{AreUnread, DeclareEach};
 
 use policy::{Policy, ReadPolicyError, read_policy};
@@ -38,8 +40,15 @@ impl PolicyText {
 }
 
 /// The further policies of a run, in their order.
-pub(crate) struct Further {
+pub struct Further {
     policies: Vec<Policy>,
+}
+
+/// Why further policies can't be read: the fault of the first that has one, and its place among them, from 0.
+#[derive(Clone, Copy)]
+pub struct FurtherFault {
+    pub place: usize,
+    pub why: ReadPolicyError,
 }
 
 // Written out, so that where the policies end stands one call, and not what ends each part of each of them.
@@ -59,6 +68,12 @@ impl Model for Further {
 }
 
 impl Further {
+    /// The policies, for a run, or for a journal.
+    pub fn into_policies(self) -> Vec<Policy> {
+        let Further { policies } = self;
+        policies
+    }
+
     /// The policies, for a run.
     pub fn policies(&self) -> &[Policy]
         ensures { result.now ≡ self.now }
@@ -74,16 +89,38 @@ fn put_policy(policies: &mut Vec<Policy>, policy: Policy) -> Result<(), AllocErr
     Ok(policies.push(policy)?)
 }
 
+// Reads a text, and puts what it declares after the others.
+fn read_one(
+    alloc: Global,
+    text: &PolicyText,
+    policies: &mut Vec<Policy>,
+) -> Result<(), ReadPolicyError>
+    ensures read { OnOk result ((policy : Declared) × Declares text.now policy × (policies.new.items ≡ policies.old.items ++ policy ∷ [])) }
+    ensures refused { IfErr result (IsRefused text.now) }
+{
+    match read_policy(alloc, text.bytes()) {
+        Ok(policy) => match put_policy(policies, policy) {
+            Ok(()) => Ok(()),
+            Err(_) => Err(ReadPolicyError::OutOfMemory),
+        },
+        Err(why) => Err(why),
+    }
+}
+
 /// Reads texts in their order: what each declares, or the fault of the first that has one. Their kernels' texts
 /// aren't read.
-pub(crate) fn read_further(alloc: Global, texts: &[PolicyText]) -> Result<Further, ReadPolicyError>
+pub fn read_further(alloc: Global, texts: &[PolicyText]) -> Result<Further, FurtherFault>
     ensures passed { IfOk result (DeclareEach texts.now) }
-    ensures refused { IfErr result (AreUnread texts.now) }
+    ensures refused { IfErr result (λ fault. AreUnread texts.now fault.why) }
 {
     let mut policies = Vec::new(alloc);
     for text in texts {
-        let policy = read_policy(alloc, text.bytes())?;
-        put_policy(&mut policies, policy)?;
+        if let Err(why) = read_one(alloc, text, &mut policies) {
+            return Err(FurtherFault {
+                place: policies.len(),
+                why,
+            });
+        }
     }
     Ok(Further { policies })
 }

@@ -4,7 +4,6 @@
 #![tactic(auto)]
 
 mod check;
-mod command_log;
 mod draw;
 mod failure;
 mod further;
@@ -13,13 +12,12 @@ mod laws;
 mod run;
 mod status;
 
-pub use check::{check_policy, check_policy_noting, count_rows};
-pub use command_log::CommandLog;
-pub use draw::{draw_in, draw_policies, draw_policies_noting};
-pub use failure::{Failure, name_failure, tell_end};
-pub use further::PolicyText;
+pub use check::{Setup, check_policy, count_rows, judge};
+pub use draw::draw_audit;
+pub use failure::{Failure, Stop, Stops, name_failure, tell_end, tell_run};
+pub use further::{Further, FurtherFault, PolicyText, read_further};
 pub use kernel_judging::{KernelCause, KernelError, KernelFault, check_kernels};
 pub use laws::law_missing_entries_are_told;
 pub use picture::Span;
-pub use run::{run_policies, run_policies_watched, run_policy, run_strictly};
+pub use run::{Opened, Unopened, open_policies, run_over, run_policies, run_policy, run_strictly};
 pub use status::Status;

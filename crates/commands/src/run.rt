@@ -1,29 +1,28 @@
 //! The command that runs a script over a policy.
 
-ghost use Rattle.std.specs.Prelude.{◌≡◌, []};
-ghost use Rattle.commands.specs.Commands.{IsTold, RunsBehind, RunsOver, RunsFrom, RunsUnder, RunsPolicies, none_noted, streams};
-ghost use Rattle.commands.specs.declared.command_log.CommandLog.{CommandLog};
-ghost use Rattle.script.specs.IoLogs.{none_yet};
-ghost use Rattle.script.specs.Watchers.{ends_strictly, goes_on};
+ghost use Rattle.std.specs.Prelude.{◌≡◌, [], Ok};
+ghost use Rattle.commands.specs.Commands.{OpensPolicies, OpensVerdict, OpensWorld, RunsIn, RunsOver, RunsPolicies, no_stop, of_first, refused_quietly, streams, strictly};
+ghost use Rattle.commands.specs.Failures.{stream};
+ghost use Rattle.script.specs.Runs.{as_text, by_line, law};
+ghost use Rattle.script.specs.Watchers.{worlds};
+ghost use Rattle.script.specs.declared.watch.Never.{Never};
+ghost use Rattle.script.specs.declared.watchers.NotDone.{NotDone};
 ghost use Rattle.world.specs.Starting.{Begins};
 
 use crate::check::{Setup, judge};
-use crate::command_log::CommandLog;
-use crate::failure::{Failure, name_failure, tell_end};
-use crate::further::{PolicyText, read_further};
+use crate::failure::{Failure, Stops, name_failure, tell_run};
+use crate::further::{Further, PolicyText, read_further};
 use crate::status::Status;
 use access_core::{Kernel, OpenFault};
 use policy::Policy;
-use script::{IoLog, Nobody, ScriptFault, Strict, Watch, run_watched};
+use script::{Nobody, Plain, RunFault, Sink, Source, Strict, Style, Text, Watch, run_watched};
 use std::alloc::Global;
-use std::io;
 use world::World;
 
-// The two calls below say in a word what is promised of worlds and scripts, so that the proofs of their callers
-// don't carry it.
+// The call below says in a word what is promised of worlds, so that the proofs of its callers don't carry it.
 
 /// Opens a world under a policy.
-pub(crate) fn open_world(
+fn open_world(
     alloc: Global,
     policy: Policy,
     kernels: Vec<Kernel>,
@@ -34,123 +33,144 @@ pub(crate) fn open_world(
     World::open(alloc, policy, kernels, places)
 }
 
-/// Runs a script.
-#[tactic(auto, unfolding(crate::specs::Commands::RunsOver))]
-pub(crate) fn run_through<R: io::Read, O: io::Write, V: Watch>(
-    alloc: Global,
-    world: &mut World,
-    later: &[Policy],
-    script: &mut R,
-    out: &mut O,
-    watcher: &mut V,
-    answers: &mut IoLog,
-) -> Result<(), ScriptFault>
-    requires { answers.old ≡ none_yet }
-    ensures outcome { RunsOver V.says later.now world.old world.new (R.remaining script.old) (R.remaining script.new) (O.contents out.old) (O.contents out.new) result }
-    ensures told { IsTold result answers.new }
-{
-    run_watched(alloc, script, out, world, later, watcher, answers)
+/// A world that was opened over a policy, and the further policies that a script may hand in.
+pub struct Opened {
+    pub world: World,
+    pub later: Further,
 }
 
-// Runs a script over a world, and lets the world go.
-fn run_in<R: io::Read, O: io::Write, V: Watch>(
-    alloc: Global,
-    world: World,
-    later: &[Policy],
-    script: &mut R,
-    out: &mut O,
-    watcher: &mut V,
-    answers: &mut IoLog,
-) -> Result<(), ScriptFault>
-    requires { answers.old ≡ none_yet }
-    ensures outcome { RunsFrom V.says later.now world (R.remaining script.old) (R.remaining script.new) (O.contents out.old) (O.contents out.new) result }
-    ensures told { IsTold result answers.new }
-{
-    let mut world = world;
-    run_through(alloc, &mut world, later, script, out, watcher, answers)
-}
-
-// Reads the texts of further policies, and runs a script over a world.
-fn run_behind<R: io::Read, O: io::Write, E: io::Write, V: Watch>(
-    alloc: Global,
-    world: World,
-    further: &[PolicyText],
-    script: &mut R,
-    out: &mut O,
-    err: &mut E,
-    watcher: &mut V,
-    noted: &mut CommandLog,
-) -> Status
-    requires { noted.old ≡ none_noted }
-    ensures { RunsBehind V.says world further.now noted.new
-        (streams (R.remaining script.old) (O.contents out.old) (E.contents err.old))
-        (streams (R.remaining script.new) (O.contents out.new) (E.contents err.new)) result }
-{
-    match read_further(alloc, further) {
-        Ok(later) => {
-            let ended = run_in(
-                alloc,
-                world,
-                later.policies(),
-                script,
-                out,
-                watcher,
-                &mut noted.asked,
-            );
-            tell_end(alloc, ended, err, &mut noted.faults)
-        }
-        Err(why) => name_failure(alloc, Failure::of_reading(why), err, &mut noted.faults),
+impl Drop for Opened {
+    fn drop(self) {
+        let Opened { world: _, later: _ } = self;
     }
 }
 
-// Runs a script over a policy that was let pass.
-fn run_under<R: io::Read, O: io::Write, E: io::Write, V: Watch>(
+/// Why its policies keep a command from its work, and which of them: 0 for the first.
+#[derive(Clone, Copy)]
+pub struct Unopened {
+    pub failure: Failure,
+    pub place: usize,
+}
+
+// Why the first policy keeps a command from its work.
+fn of_first(failure: Failure) -> Unopened
+    ensures { result ≡ of_first failure }
+{
+    Unopened { failure, place: 0 }
+}
+
+// Reads the further policies behind a world.
+fn open_behind(alloc: Global, world: World, further: &[PolicyText]) -> Result<Opened, Unopened>
+    ensures { OpensWorld (Ok world) further.now result }
+{
+    match read_further(alloc, further) {
+        Ok(later) => Ok(Opened { world, later }),
+        Err(fault) => Err(Unopened {
+            failure: Failure::of_reading(fault.why),
+            place: fault.place.saturating_add(1),
+        }),
+    }
+}
+
+// Opens a world under a policy that was let pass, and reads the further policies behind it.
+fn open_under(
     alloc: Global,
     setup: Setup,
     further: &[PolicyText],
     places: usize,
-    script: &mut R,
-    out: &mut O,
-    err: &mut E,
-    watcher: &mut V,
-    noted: &mut CommandLog,
-) -> Status
-    requires { noted.old ≡ none_noted }
-    ensures { RunsUnder V.says setup.policy setup.kernels.items further.now places noted.new
-        (streams (R.remaining script.old) (O.contents out.old) (E.contents err.old))
-        (streams (R.remaining script.new) (O.contents out.new) (E.contents err.new)) result }
+) -> Result<Opened, Unopened>
+    ensures { OpensVerdict (Ok setup) further.now places result }
 {
     let Setup { policy, kernels } = setup;
     match open_world(alloc, policy, kernels, places) {
-        Ok(world) => run_behind(alloc, world, further, script, out, err, watcher, noted),
-        Err(why) => name_failure(alloc, Failure::of_opening(why), err, &mut noted.faults),
+        Ok(world) => open_behind(alloc, world, further),
+        Err(why) => Err(of_first(Failure::of_opening(why))),
     }
 }
 
-/// Runs a script over policies as `run_policies` does, shows each reply to a watcher, who may end the run there with
-/// `Status::Refused` and nothing told, and notes what the reader and the writers answered. It fails only where `no memory`
-/// stands on `err`, or `read fault` or `write fault`, each with its cause (`run_watched` in `script`), or where the writer
-/// of faults failed.
-pub fn run_policies_watched<R: io::Read, O: io::Write, E: io::Write, V: Watch>(
+/// Opens a world over the policy in a text, with places for so many entries (1 to 2^20) in the audit, and reads the further
+/// policies behind it; else the first failure: that of the policy, of its kernels, of the first of these whose module has
+/// none of its entry's name, and then of the further policies in order.
+pub fn open_policies(
     alloc: Global,
     text: &[u8],
     further: &[PolicyText],
     places: usize,
+) -> Result<Opened, Unopened>
+    ensures { OpensPolicies text.now further.now places result }
+{
+    match judge(alloc, text) {
+        Ok(setup) => open_under(alloc, setup, further, places),
+        Err(why) => Err(of_first(why)),
+    }
+}
+
+/// Runs a script over a world that was opened, in a style, under a watcher (`run_watched` in `script`).
+#[tactic(auto, unfolding(crate::specs::Commands::RunsOver))]
+pub fn run_over<L: Style, V: Watch, R: Source, O: Sink>(
+    alloc: Global,
+    opened: &mut Opened,
+    style: &mut L,
+    watcher: &mut V,
+    script: &mut R,
+    out: &mut O,
+) -> Result<(), RunFault<V::Fault>>
+    ensures ran { RunsOver (law L.answering V.watching opened.old.later) opened.old.world opened.new.world (stream (R.remaining script.old) (R.failed script.old))
+        (stream (R.remaining script.new) (R.failed script.new)) (stream (O.contents out.old) (O.failed out.old)) (stream (O.contents out.new) (O.failed out.new)) result }
+    ensures later { opened.new.later ≡ opened.old.later }
+{
+    run_watched(
+        alloc,
+        script,
+        out,
+        &mut opened.world,
+        opened.later.policies(),
+        style,
+        watcher,
+    )
+}
+
+// Runs a script over what was opened, each line one of a script and each reply a text, and lets that go.
+fn run_opened<V: Watch, R: Source, O: Sink, E: Sink>(
+    alloc: Global,
+    opened: Opened,
+    watcher: &mut V,
     script: &mut R,
     out: &mut O,
     err: &mut E,
-    watcher: &mut V,
-    noted: &mut CommandLog,
 ) -> Status
-    requires { noted.old ≡ none_noted }
-    ensures { RunsPolicies V.says text.now further.now places noted.new (streams (R.remaining script.old) (O.contents out.old) (E.contents err.old))
-        (streams (R.remaining script.new) (O.contents out.new) (E.contents err.new)) result }
+where
+    V::Fault: Stops,
+    ensures { RunsIn V.Fault (law (by_line as_text) V.watching) V.Fault.stops opened
+        (streams (stream (R.remaining script.old) (R.failed script.old)) (stream (O.contents out.old) (O.failed out.old)) (stream (E.contents err.old) (E.failed err.old)))
+        (streams (stream (R.remaining script.new) (R.failed script.new)) (stream (O.contents out.new) (O.failed out.new)) (stream (E.contents err.new) (E.failed err.new))) result }
 {
-    match judge(alloc, text) {
-        Ok(setup) => run_under(
-            alloc, setup, further, places, script, out, err, watcher, noted,
-        ),
-        Err(why) => name_failure(alloc, why, err, &mut noted.faults),
+    let mut opened = opened;
+    let style = &mut Plain { voice: Text };
+    let ended = run_over(alloc, &mut opened, style, watcher, script, out);
+    tell_run(alloc, ended, err)
+}
+
+// Runs a script over the policies in texts so.
+fn run_watching<V: Watch, R: Source, O: Sink, E: Sink>(
+    alloc: Global,
+    text: &[u8],
+    further: &[PolicyText],
+    places: usize,
+    watcher: &mut V,
+    script: &mut R,
+    out: &mut O,
+    err: &mut E,
+) -> Status
+where
+    V::Fault: Stops,
+    ensures { RunsPolicies V.Fault (law (by_line as_text) V.watching) V.Fault.stops text.now further.now places
+        (streams (stream (R.remaining script.old) (R.failed script.old)) (stream (O.contents out.old) (O.failed out.old)) (stream (E.contents err.old) (E.failed err.old)))
+        (streams (stream (R.remaining script.new) (R.failed script.new)) (stream (O.contents out.new) (O.failed out.new)) (stream (E.contents err.new) (E.failed err.new))) result }
+{
+    match open_policies(alloc, text, further, places) {
+        Ok(opened) => run_opened(alloc, opened, watcher, script, out, err),
+        Err(why) => name_failure(alloc, why.failure, err),
     }
 }
 
@@ -159,8 +179,9 @@ pub fn run_policies_watched<R: io::Read, O: io::Write, E: io::Write, V: Watch>(
 /// `check_policy` does, and after all of these the first kernel whose module has none of its entry's
 /// name as `kernel 2: no entry`, and after that the first fault of the further policies, as that of a
 /// policy, before any reply; a line of no form as `line 3: bad request`, after the replies to the
-/// lines before it.
-pub fn run_policies<R: io::Read, O: io::Write, E: io::Write>(
+/// lines before it. It fails only where `no memory` stands on `err`, or `read fault` or `write fault`,
+/// each with its cause (`run_watched` in `script`), or where the writer of faults failed.
+pub fn run_policies<R: Source, O: Sink, E: Sink>(
     alloc: Global,
     text: &[u8],
     further: &[PolicyText],
@@ -169,25 +190,16 @@ pub fn run_policies<R: io::Read, O: io::Write, E: io::Write>(
     out: &mut O,
     err: &mut E,
 ) -> Status
-    ensures { (noted : CommandLog) × RunsPolicies goes_on text.now further.now places noted (streams (R.remaining script.old) (O.contents out.old) (E.contents err.old))
-        (streams (R.remaining script.new) (O.contents out.new) (E.contents err.new)) result }
+    ensures { RunsPolicies Never worlds no_stop text.now further.now places
+        (streams (stream (R.remaining script.old) (R.failed script.old)) (stream (O.contents out.old) (O.failed out.old)) (stream (E.contents err.old) (E.failed err.old)))
+        (streams (stream (R.remaining script.new) (R.failed script.new)) (stream (O.contents out.new) (O.failed out.new)) (stream (E.contents err.new) (E.failed err.new))) result }
 {
-    let mut noted = CommandLog::none();
-    run_policies_watched(
-        alloc,
-        text,
-        further,
-        places,
-        script,
-        out,
-        err,
-        &mut Nobody,
-        &mut noted,
-    )
+    let watcher = &mut Nobody;
+    run_watching(alloc, text, further, places, watcher, script, out, err)
 }
 
 /// Runs a script over the policy in a text as `run_policies` does, with no further policies.
-pub fn run_policy<R: io::Read, O: io::Write, E: io::Write>(
+pub fn run_policy<R: Source, O: Sink, E: Sink>(
     alloc: Global,
     text: &[u8],
     places: usize,
@@ -195,15 +207,16 @@ pub fn run_policy<R: io::Read, O: io::Write, E: io::Write>(
     out: &mut O,
     err: &mut E,
 ) -> Status
-    ensures { (noted : CommandLog) × RunsPolicies goes_on text.now [] places noted (streams (R.remaining script.old) (O.contents out.old) (E.contents err.old))
-        (streams (R.remaining script.new) (O.contents out.new) (E.contents err.new)) result }
+    ensures { RunsPolicies Never worlds no_stop text.now [] places
+        (streams (stream (R.remaining script.old) (R.failed script.old)) (stream (O.contents out.old) (O.failed out.old)) (stream (E.contents err.old) (E.failed err.old)))
+        (streams (stream (R.remaining script.new) (R.failed script.new)) (stream (O.contents out.new) (O.failed out.new)) (stream (E.contents err.new) (E.failed err.new))) result }
 {
     run_policies(alloc, text, &[], places, script, out, err)
 }
 
 /// Runs a script over the policies in texts as `run_policies` does, and ends with `Status::Refused` after the first reply
 /// that tells that a line was refused, or that a packet was denied or failed, or a group faulted: no further line is served.
-pub fn run_strictly<R: io::Read, O: io::Write, E: io::Write>(
+pub fn run_strictly<R: Source, O: Sink, E: Sink>(
     alloc: Global,
     text: &[u8],
     further: &[PolicyText],
@@ -212,19 +225,10 @@ pub fn run_strictly<R: io::Read, O: io::Write, E: io::Write>(
     out: &mut O,
     err: &mut E,
 ) -> Status
-    ensures { (noted : CommandLog) × RunsPolicies ends_strictly text.now further.now places noted (streams (R.remaining script.old) (O.contents out.old) (E.contents err.old))
-        (streams (R.remaining script.new) (O.contents out.new) (E.contents err.new)) result }
+    ensures { RunsPolicies NotDone strictly refused_quietly text.now further.now places
+        (streams (stream (R.remaining script.old) (R.failed script.old)) (stream (O.contents out.old) (O.failed out.old)) (stream (E.contents err.old) (E.failed err.old)))
+        (streams (stream (R.remaining script.new) (R.failed script.new)) (stream (O.contents out.new) (O.failed out.new)) (stream (E.contents err.new) (E.failed err.new))) result }
 {
-    let mut noted = CommandLog::none();
-    run_policies_watched(
-        alloc,
-        text,
-        further,
-        places,
-        script,
-        out,
-        err,
-        &mut Strict,
-        &mut noted,
-    )
+    let watcher = &mut Strict;
+    run_watching(alloc, text, further, places, watcher, script, out, err)
 }

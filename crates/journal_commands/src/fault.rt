@@ -4,7 +4,7 @@ use commands::{Failure, Status, name_failure};
 use core_model::Entry;
 use journal::{HeadFault, LineFault, write_outcome, write_result};
 use replay::{Due, Replay};
-use script::IoLog;
+use script::Noted;
 use std::alloc::{AllocError, Global};
 use std::io;
 
@@ -110,7 +110,7 @@ fn unowed(
 /// Tells a fault on `err`, and how the command ends.
 pub fn tell_fault<E: io::Write>(alloc: Global, fault: Fault, err: &mut E) -> Status {
     match fault {
-        Fault::Failure(failure) => name_failure(alloc, failure, err, &mut IoLog::none()),
+        Fault::Failure(failure) => name_failure(alloc, failure, &mut Noted::new(&mut *err)),
         Fault::Refused(text) => {
             if err.write_all(text.as_bytes()).is_err() || err.flush().is_err() {
                 Status::Failed

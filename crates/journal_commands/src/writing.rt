@@ -1,7 +1,7 @@
 //! A journal that is written as a history goes.
 
 use crate::policies::digests_of;
-use commands::PolicyText;
+use commands::{Failure, PolicyText, Stop, Stops};
 use core_model::Entry;
 use journal::{Chain, Head, chain_behind, write_end, write_entry_line, write_head};
 use std::alloc::{AllocError, Global};
@@ -26,6 +26,25 @@ pub enum JournalFault {
 impl From<AllocError> for JournalFault {
     fn from(_want: AllocError) -> JournalFault {
         JournalFault::OutOfMemory
+    }
+}
+
+impl From<JournalFault> for Failure {
+    fn from(fault: JournalFault) -> Failure {
+        match fault {
+            JournalFault::OutOfMemory => Failure::OutOfMemory,
+            JournalFault::Write => Failure::Write,
+        }
+    }
+}
+
+impl Stops for JournalFault {
+    ghost use Rattle.std.specs.Prelude.{⊤};
+
+    ghost stops = { λ stop. ⊤ };
+
+    fn stop(self) -> Stop {
+        Stop::Named(Failure::from(self))
     }
 }
 

@@ -7,8 +7,8 @@ mod entries;
 mod members;
 mod outcomes;
 mod replies;
+mod voice;
 
-pub use entries::write_audit;
 pub use members::{begin, end, put_comma, put_name, put_number, put_text};
 pub use outcomes::{outcome_name, put_outcome, put_refusal, put_taken, taken_name};
-pub use replies::write_reply;
+pub use voice::Json;

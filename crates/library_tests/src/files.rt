@@ -2,6 +2,7 @@
 
 use crate::studio::POLICY;
 use commands::{Status, check_policy, run_policy};
+use script::Noted;
 use std::alloc::AllocError;
 use std::io;
 use std::test::*;
@@ -52,7 +53,12 @@ impl<'a> io::Read for Broken<'a> {
 #[test]
 fn a_writer_that_fails_is_told(rt: HostRuntime) {
     let mut err = Vec::new(rt.alloc());
-    let status = check_policy(rt.alloc(), POLICY.as_bytes(), &mut Full, &mut err);
+    let status = check_policy(
+        rt.alloc(),
+        POLICY.as_bytes(),
+        &mut Noted::new(Full),
+        &mut Noted::new(&mut err),
+    );
     assert_eq!(rt; status, Status::Failed);
     assert!(rt; err.as_slice() == b"write fault\n".as_slice());
     let mut err = Vec::new(rt.alloc());
@@ -61,9 +67,9 @@ fn a_writer_that_fails_is_told(rt: HostRuntime) {
         rt.alloc(),
         POLICY.as_bytes(),
         10,
-        &mut script,
-        &mut Full,
-        &mut err,
+        &mut Noted::new(&mut script),
+        &mut Noted::new(Full),
+        &mut Noted::new(&mut err),
     );
     assert_eq!(rt; status, Status::Failed);
     assert!(rt; err.as_slice() == b"write fault\n".as_slice());
@@ -72,7 +78,12 @@ fn a_writer_that_fails_is_told(rt: HostRuntime) {
 #[test]
 fn a_writer_that_passes_nothing_on_is_told(rt: HostRuntime) {
     let mut err = Vec::new(rt.alloc());
-    let status = check_policy(rt.alloc(), POLICY.as_bytes(), &mut Stuck, &mut err);
+    let status = check_policy(
+        rt.alloc(),
+        POLICY.as_bytes(),
+        &mut Noted::new(Stuck),
+        &mut Noted::new(&mut err),
+    );
     assert_eq!(rt; status, Status::Failed);
     assert!(rt; err.as_slice() == b"write fault\n".as_slice());
     let mut err = Vec::new(rt.alloc());
@@ -81,9 +92,9 @@ fn a_writer_that_passes_nothing_on_is_told(rt: HostRuntime) {
         rt.alloc(),
         POLICY.as_bytes(),
         10,
-        &mut script,
-        &mut Stuck,
-        &mut err,
+        &mut Noted::new(&mut script),
+        &mut Noted::new(Stuck),
+        &mut Noted::new(&mut err),
     );
     assert_eq!(rt; status, Status::Failed);
     assert!(rt; err.as_slice() == b"write fault\n".as_slice());
@@ -92,7 +103,12 @@ fn a_writer_that_passes_nothing_on_is_told(rt: HostRuntime) {
 #[test]
 fn a_writer_of_faults_that_fails_is_told_by_the_status(rt: HostRuntime) {
     let mut out = Vec::new(rt.alloc());
-    let status = check_policy(rt.alloc(), "clients".as_bytes(), &mut out, &mut Full);
+    let status = check_policy(
+        rt.alloc(),
+        "clients".as_bytes(),
+        &mut Noted::new(&mut out),
+        &mut Noted::new(Full),
+    );
     assert_eq!(rt; status, Status::Failed);
     assert!(rt; out.as_slice().is_empty());
 }
@@ -108,9 +124,9 @@ fn a_reader_that_fails_is_told_behind_the_replies(rt: HostRuntime) {
         rt.alloc(),
         POLICY.as_bytes(),
         10,
-        &mut script,
-        &mut out,
-        &mut err,
+        &mut Noted::new(&mut script),
+        &mut Noted::new(&mut out),
+        &mut Noted::new(&mut err),
     );
     assert_eq!(rt; status, Status::Failed);
     assert!(rt; out.as_slice() == b"audit 0\n".as_slice());

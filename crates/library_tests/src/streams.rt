@@ -2,7 +2,7 @@
 //! or gives or takes few bytes at a time.
 
 use crate::worlds::fresh;
-use script::{ScriptFault, run_script};
+use script::{Noted, ScriptFault, run_script};
 use std::alloc::{AllocError, Global};
 use std::io::{self, ErrorKind};
 use std::test::*;
@@ -152,7 +152,8 @@ fn run(
     source: &mut Source<'_>,
     sink: &mut Sink,
 ) -> Result<(), ScriptFault> {
-    run_script(alloc, source, sink, world, &[])
+    let (reader, writer) = (&mut Noted::new(source), &mut Noted::new(sink));
+    run_script(alloc, reader, writer, world, &[])
 }
 
 // (a world that a test owned would be dear to prove)

@@ -6,7 +6,7 @@ use aql_packet::{AgentHandle, ClientId, QueueId};
 use core_model::{Call, Outcome, Query};
 use policy::{Object, Rights};
 use ring_core::{Access, Seen, Step};
-use script::run_script;
+use script::{Noted, run_script};
 use sequences::Reserved;
 use std::alloc::{AllocError, Global};
 use std::test::*;
@@ -128,8 +128,8 @@ serve 1
 
 /// Whether the lines of a script are done.
 fn does(alloc: Global, world: &mut World, lines: &str) -> bool {
-    let mut reader = lines.as_bytes();
-    let mut replies: Vec<u8> = Vec::new(alloc);
+    let mut reader = Noted::new(lines.as_bytes());
+    let mut replies: Noted<Vec<u8>> = Noted::new(Vec::new(alloc));
     run_script(alloc, &mut reader, &mut replies, world, &[]).is_ok()
 }
 

@@ -2,385 +2,77 @@
 
 use crate::field::{Field, FieldForm};
 
+// Fields, a row each: the name, the place and the size in bytes, the lowest and the highest bit, and the form.
+macro_rules! fields {
+    ($($name:literal $place:literal $size:literal $low:literal $high:literal $form:ident;)*) => {
+        [$(Field { name: $name, place: $place, size: $size, low: $low, high: $high, form: FieldForm::$form }),*]
+    };
+}
+
 /// The header, which each packet has.
-pub const HEADER: [Field; 5] = [
-    Field {
-        name: "type",
-        place: 0,
-        size: 2,
-        low: 0,
-        high: 7,
-        form: FieldForm::Type,
-    },
-    Field {
-        name: "barrier",
-        place: 0,
-        size: 2,
-        low: 8,
-        high: 8,
-        form: FieldForm::Number,
-    },
-    Field {
-        name: "acquire_fence_scope",
-        place: 0,
-        size: 2,
-        low: 9,
-        high: 10,
-        form: FieldForm::Scope,
-    },
-    Field {
-        name: "release_fence_scope",
-        place: 0,
-        size: 2,
-        low: 11,
-        high: 12,
-        form: FieldForm::Scope,
-    },
-    Field {
-        name: "reserved",
-        place: 0,
-        size: 2,
-        low: 13,
-        high: 15,
-        form: FieldForm::Reserved,
-    },
-];
+pub const HEADER: [Field; 5] = fields! {
+    "type" 0 2 0 7 Type;
+    "barrier" 0 2 8 8 Number;
+    "acquire_fence_scope" 0 2 9 10 Scope;
+    "release_fence_scope" 0 2 11 12 Scope;
+    "reserved" 0 2 13 15 Reserved;
+};
 
 // What a kernel dispatch has behind its header.
-const KERNEL: [Field; 15] = [
-    Field {
-        name: "dimensions",
-        place: 2,
-        size: 2,
-        low: 0,
-        high: 1,
-        form: FieldForm::Number,
-    },
-    Field {
-        name: "reserved",
-        place: 2,
-        size: 2,
-        low: 2,
-        high: 15,
-        form: FieldForm::Reserved,
-    },
-    Field {
-        name: "workgroup_size_x",
-        place: 4,
-        size: 2,
-        low: 0,
-        high: 15,
-        form: FieldForm::Number,
-    },
-    Field {
-        name: "workgroup_size_y",
-        place: 6,
-        size: 2,
-        low: 0,
-        high: 15,
-        form: FieldForm::Number,
-    },
-    Field {
-        name: "workgroup_size_z",
-        place: 8,
-        size: 2,
-        low: 0,
-        high: 15,
-        form: FieldForm::Number,
-    },
-    Field {
-        name: "reserved",
-        place: 10,
-        size: 2,
-        low: 0,
-        high: 15,
-        form: FieldForm::Reserved,
-    },
-    Field {
-        name: "grid_size_x",
-        place: 12,
-        size: 4,
-        low: 0,
-        high: 31,
-        form: FieldForm::Number,
-    },
-    Field {
-        name: "grid_size_y",
-        place: 16,
-        size: 4,
-        low: 0,
-        high: 31,
-        form: FieldForm::Number,
-    },
-    Field {
-        name: "grid_size_z",
-        place: 20,
-        size: 4,
-        low: 0,
-        high: 31,
-        form: FieldForm::Number,
-    },
-    Field {
-        name: "private_segment_size",
-        place: 24,
-        size: 4,
-        low: 0,
-        high: 31,
-        form: FieldForm::Number,
-    },
-    Field {
-        name: "group_segment_size",
-        place: 28,
-        size: 4,
-        low: 0,
-        high: 31,
-        form: FieldForm::Number,
-    },
-    Field {
-        name: "kernel_object",
-        place: 32,
-        size: 8,
-        low: 0,
-        high: 63,
-        form: FieldForm::Number,
-    },
-    Field {
-        name: "kernarg_address",
-        place: 40,
-        size: 8,
-        low: 0,
-        high: 63,
-        form: FieldForm::Address,
-    },
-    Field {
-        name: "reserved",
-        place: 48,
-        size: 8,
-        low: 0,
-        high: 63,
-        form: FieldForm::Reserved,
-    },
-    Field {
-        name: "completion_signal",
-        place: 56,
-        size: 8,
-        low: 0,
-        high: 63,
-        form: FieldForm::Signal,
-    },
-];
+const KERNEL: [Field; 15] = fields! {
+    "dimensions" 2 2 0 1 Number;
+    "reserved" 2 2 2 15 Reserved;
+    "workgroup_size_x" 4 2 0 15 Number;
+    "workgroup_size_y" 6 2 0 15 Number;
+    "workgroup_size_z" 8 2 0 15 Number;
+    "reserved" 10 2 0 15 Reserved;
+    "grid_size_x" 12 4 0 31 Number;
+    "grid_size_y" 16 4 0 31 Number;
+    "grid_size_z" 20 4 0 31 Number;
+    "private_segment_size" 24 4 0 31 Number;
+    "group_segment_size" 28 4 0 31 Number;
+    "kernel_object" 32 8 0 63 Number;
+    "kernarg_address" 40 8 0 63 Address;
+    "reserved" 48 8 0 63 Reserved;
+    "completion_signal" 56 8 0 63 Signal;
+};
 
 // What an agent dispatch has.
-const AGENT: [Field; 9] = [
-    Field {
-        name: "function",
-        place: 2,
-        size: 2,
-        low: 0,
-        high: 15,
-        form: FieldForm::Number,
-    },
-    Field {
-        name: "reserved",
-        place: 4,
-        size: 4,
-        low: 0,
-        high: 31,
-        form: FieldForm::Reserved,
-    },
-    Field {
-        name: "return_address",
-        place: 8,
-        size: 8,
-        low: 0,
-        high: 63,
-        form: FieldForm::Address,
-    },
-    Field {
-        name: "argument 0",
-        place: 16,
-        size: 8,
-        low: 0,
-        high: 63,
-        form: FieldForm::Word,
-    },
-    Field {
-        name: "argument 1",
-        place: 24,
-        size: 8,
-        low: 0,
-        high: 63,
-        form: FieldForm::Word,
-    },
-    Field {
-        name: "argument 2",
-        place: 32,
-        size: 8,
-        low: 0,
-        high: 63,
-        form: FieldForm::Word,
-    },
-    Field {
-        name: "argument 3",
-        place: 40,
-        size: 8,
-        low: 0,
-        high: 63,
-        form: FieldForm::Word,
-    },
-    Field {
-        name: "reserved",
-        place: 48,
-        size: 8,
-        low: 0,
-        high: 63,
-        form: FieldForm::Reserved,
-    },
-    Field {
-        name: "completion_signal",
-        place: 56,
-        size: 8,
-        low: 0,
-        high: 63,
-        form: FieldForm::Signal,
-    },
-];
+const AGENT: [Field; 9] = fields! {
+    "function" 2 2 0 15 Number;
+    "reserved" 4 4 0 31 Reserved;
+    "return_address" 8 8 0 63 Address;
+    "argument 0" 16 8 0 63 Word;
+    "argument 1" 24 8 0 63 Word;
+    "argument 2" 32 8 0 63 Word;
+    "argument 3" 40 8 0 63 Word;
+    "reserved" 48 8 0 63 Reserved;
+    "completion_signal" 56 8 0 63 Signal;
+};
 
 // What a barrier packet has.
-const BARRIER: [Field; 8] = [
-    Field {
-        name: "reserved",
-        place: 2,
-        size: 6,
-        low: 0,
-        high: 47,
-        form: FieldForm::Reserved,
-    },
-    Field {
-        name: "dependency 1",
-        place: 8,
-        size: 8,
-        low: 0,
-        high: 63,
-        form: FieldForm::Signal,
-    },
-    Field {
-        name: "dependency 2",
-        place: 16,
-        size: 8,
-        low: 0,
-        high: 63,
-        form: FieldForm::Signal,
-    },
-    Field {
-        name: "dependency 3",
-        place: 24,
-        size: 8,
-        low: 0,
-        high: 63,
-        form: FieldForm::Signal,
-    },
-    Field {
-        name: "dependency 4",
-        place: 32,
-        size: 8,
-        low: 0,
-        high: 63,
-        form: FieldForm::Signal,
-    },
-    Field {
-        name: "dependency 5",
-        place: 40,
-        size: 8,
-        low: 0,
-        high: 63,
-        form: FieldForm::Signal,
-    },
-    Field {
-        name: "reserved",
-        place: 48,
-        size: 8,
-        low: 0,
-        high: 63,
-        form: FieldForm::Reserved,
-    },
-    Field {
-        name: "completion_signal",
-        place: 56,
-        size: 8,
-        low: 0,
-        high: 63,
-        form: FieldForm::Signal,
-    },
-];
+const BARRIER: [Field; 8] = fields! {
+    "reserved" 2 6 0 47 Reserved;
+    "dependency 1" 8 8 0 63 Signal;
+    "dependency 2" 16 8 0 63 Signal;
+    "dependency 3" 24 8 0 63 Signal;
+    "dependency 4" 32 8 0 63 Signal;
+    "dependency 5" 40 8 0 63 Signal;
+    "reserved" 48 8 0 63 Reserved;
+    "completion_signal" 56 8 0 63 Signal;
+};
 
 // What 64 bytes have whose type says nothing of them: eight words.
-const WORDS: [Field; 8] = [
-    Field {
-        name: "word 0",
-        place: 0,
-        size: 8,
-        low: 0,
-        high: 63,
-        form: FieldForm::Word,
-    },
-    Field {
-        name: "word 1",
-        place: 8,
-        size: 8,
-        low: 0,
-        high: 63,
-        form: FieldForm::Word,
-    },
-    Field {
-        name: "word 2",
-        place: 16,
-        size: 8,
-        low: 0,
-        high: 63,
-        form: FieldForm::Word,
-    },
-    Field {
-        name: "word 3",
-        place: 24,
-        size: 8,
-        low: 0,
-        high: 63,
-        form: FieldForm::Word,
-    },
-    Field {
-        name: "word 4",
-        place: 32,
-        size: 8,
-        low: 0,
-        high: 63,
-        form: FieldForm::Word,
-    },
-    Field {
-        name: "word 5",
-        place: 40,
-        size: 8,
-        low: 0,
-        high: 63,
-        form: FieldForm::Word,
-    },
-    Field {
-        name: "word 6",
-        place: 48,
-        size: 8,
-        low: 0,
-        high: 63,
-        form: FieldForm::Word,
-    },
-    Field {
-        name: "word 7",
-        place: 56,
-        size: 8,
-        low: 0,
-        high: 63,
-        form: FieldForm::Word,
-    },
-];
+const WORDS: [Field; 8] = fields! {
+    "word 0" 0 8 0 63 Word;
+    "word 1" 8 8 0 63 Word;
+    "word 2" 16 8 0 63 Word;
+    "word 3" 24 8 0 63 Word;
+    "word 4" 32 8 0 63 Word;
+    "word 5" 40 8 0 63 Word;
+    "word 6" 48 8 0 63 Word;
+    "word 7" 56 8 0 63 Word;
+};
 
 /// What is behind the header in 64 bytes of a type; of a type that isn't run, their eight words.
 pub fn layout_of(kind: u8) -> &'static [Field] {

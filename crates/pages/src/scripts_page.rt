@@ -204,6 +204,8 @@ A page is that of a whole script or there is none. If a line has no form, or rea
 - `--audit N` has room for N entries, 1 to 1,048,576; without it for 65,536;
 - `--journal FILE` writes [a journal](audit.md#a-journal) as it goes.
 
+All of these go together. Of other commands two pairs contradict each other, and a command line with one of them ends with status 2: `picture --journal FILE` and `--audit N` (nothing is run, so there is no audit of so many places), `decode --slots FILE` and digits (the slots stand in place of the digits).
+
 `brokerd explain L8`, or `explain QueueDown`, or `explain 7`, tells what a rule, a refusal or a cause means.
 
 ## Every form once

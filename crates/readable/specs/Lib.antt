@@ -2,4 +2,3 @@ pub mod Moves
 pub mod Tallies
 pub mod Drains
 pub mod Runs
-pub mod inner

@@ -1,15 +1,11 @@
--- What a run by line does: requests in turn, each as a script's line makes it, and replies that are just theirs (own).
-use Rattle.std.specs.Prelude.{ℕ, ◌≡◌, ◌⊎◌, Bool, true, false, List, [], ◌∷◌, ◌++◌, flat_map, map, Option, Result, Ok, Err, ⊤}
-use Rattle.std.specs.Io.KnownBytes.{Appends}
+-- What a readable line comes to: requests in turn, each as a script's line makes it, and replies that are just theirs (own).
+use Rattle.std.specs.Prelude.{ℕ, ◌≡◌, ◌⊎◌, List, [], ◌∷◌, ◌++◌, flat_map, map, ⊤}
 use Rattle.policy.specs.Policy.{Declared}
 use Rattle.world.specs.States.{Joined}
 use Rattle.script.specs.declared.command.Command.{Command}
-use Rattle.script.specs.declared.fault.ScriptFault.{ScriptFault}
-use Rattle.script.specs.declared.fault.ScriptFault.TheVariants.{OutOfMemory, Write}
 use Rattle.script.specs.Expansions.{does}
-use Rattle.script.specs.IoLogs.{AppendsBeginning}
-use Rattle.script.specs.Replies.{text_of_line}
-use Rattle.script.specs.Runs.{Told}
+use Rattle.script.specs.Runs.{Answering, Telling, Told, names}
+use Rattle.readable.specs.declared.tally.Tally.{Tally}
 use Rattle.readable.specs.Moves.{Made, command_of}
 use Rattle.readable.specs.Tallies.{none_yet, tallied, text_of_tally}
 
@@ -33,55 +29,52 @@ pub record Reply : Type 0 where
   pub asked : List Asked
   pub text : List ℕ
 
--- what is said of a text: nothing where replies are JSON
-abbrev pub AsText : Bool → Type 0 → Type 0
-AsText true says = ⊤
-AsText false says = says
+-- what a voice tells of a drain whose requests came to what so often
+abbrev pub TellingDrains : Type 1
+TellingDrains = Tally → List ℕ → Type 0
 
--- a reply to one request: as text, just the lines that a script is replied
-abbrev pub AnswersLine : Bool → Declared → Reply → Type 0
-AnswersLine is_json policy reply =
-    (one : Asked) × (reply.asked ≡ one ∷ []) × AsText is_json (reply.text ≡ text_of_line policy one.told)
+-- a reply to one request: just what a script is replied
+abbrev pub AnswersLine : Telling → Declared → Reply → Type 0
+AnswersLine tells policy reply = (one : Asked) × (reply.asked ≡ one ∷ []) × tells policy one.told reply.text
 
 -- a request of a drain, as one of a line
 abbrev pub asked_of : Made → Asked
 asked_of made = record { command = command_of made.asked; told = made.told }
 
--- a reply to a drain: as text, it begins with how often its requests came to what
-abbrev pub AnswersDrain : Bool → Reply → Type 0
-AnswersDrain is_json reply =
-    (made : List Made) × (reply.asked ≡ map asked_of made)
-    × AsText is_json ((rest : List ℕ) × (reply.text ≡ text_of_tally (tallied none_yet made) ++ rest))
+-- a reply to a drain: how often its requests came to what
+abbrev pub AnswersDrain : TellingDrains → Reply → Type 0
+AnswersDrain drains reply = (made : List Made) × (reply.asked ≡ map asked_of made) × drains (tallied none_yet made) reply.text
 
-abbrev pub Answers : Bool → Declared → Reply → Type 0
-Answers is_json policy reply = AnswersLine is_json policy reply ⊎ AnswersDrain is_json reply
+abbrev pub Answers : Telling → TellingDrains → Declared → Reply → Type 0
+Answers tells drains policy reply = AnswersLine tells policy reply ⊎ AnswersDrain drains reply
 
 -- what each reply answers is asked in turn; names are those of the policy that the world was opened over
-unfoldable pub RepliedInTurn : Bool → List Declared → Joined → List Reply → Joined → Type 0
-RepliedInTurn is_json later old [] new = new ≡ old
-RepliedInTurn is_json later old (reply ∷ more) new =
-    (mid : Joined) × AskedInTurn later old reply.asked mid × Answers is_json mid.core.origin.policy reply
-    × RepliedInTurn is_json later mid more new
+unfoldable pub RepliedInTurn : Telling → TellingDrains → List Declared → Joined → List Reply → Joined → Type 0
+RepliedInTurn tells drains later old [] new = new ≡ old
+RepliedInTurn tells drains later old (reply ∷ more) new =
+    (mid : Joined) × AskedInTurn later old reply.asked mid × Answers tells drains (names mid) reply × RepliedInTurn tells drains later mid more new
 
 -- the texts of replies, one behind the other
 abbrev pub text_of_replies : List Reply → List ℕ
 text_of_replies replies = flat_map (λ reply. reply.text) replies
 
--- ---- the run
+-- requests in turn lead from one world to the other, and these are their replies
+abbrev pub Replied : Telling → TellingDrains → List Declared → Joined → List ℕ → Joined → Type 0
+Replied tells drains later old text new = (replies : List Reply) × RepliedInTurn tells drains later old replies new × (text ≡ text_of_replies replies)
 
--- requests in turn lead from one world to the other, and just their replies are handed over
-abbrev pub Replied : Bool → List Declared → Joined → Joined → Option (List ℕ) → Option (List ℕ) → Type 0
-Replied is_json later old new held holds =
-    (replies : List Reply) × RepliedInTurn is_json later old replies new × Appends held holds (text_of_replies replies)
+-- the same, and more requests behind them, which aren't replied to
+abbrev pub RepliedInPart : Telling → TellingDrains → List Declared → Joined → List ℕ → Joined → Type 0
+RepliedInPart tells drains later old text new =
+    (mid : Joined) × (asked : List Asked) × Replied tells drains later old text mid × AskedInTurn later mid asked new
 
--- how a run by line ends: `held` and `holds` are the writer's bytes before and after
-abbrev pub RunsByLine : Bool → List Declared → Joined → Joined → Option (List ℕ) → Option (List ℕ) → Result ⊤ ScriptFault → Type 0
--- memory was wanted: what was asked last isn't replied to
-RunsByLine is_json later old new held holds (Err OutOfMemory) =
-    (mid : Joined) × (last : List Asked) × Replied is_json later old mid held holds × AskedInTurn later mid last new
--- the writer failed: of the replies a beginning is handed over, and none of what was asked last
-RunsByLine is_json later old new held holds (Err Write) =
-    (mid : Joined) × (last : List Asked) × (replies : List Reply) × RepliedInTurn is_json later old replies mid
-    × AppendsBeginning held holds (text_of_replies replies) × AskedInTurn later mid last new
--- else all is replied to
-RunsByLine is_json later old new held holds _ = Replied is_json later old new held holds
+-- each line is readable, and told so
+abbrev pub by_readable : Telling → TellingDrains → Answering
+by_readable tells drains = record {
+  answers = λ says later old line reply said new. Replied tells drains later old reply new;
+  unformed = λ later world line. ⊤;
+  cuts = λ later old line last new. RepliedInPart tells drains later old last new;
+}
+
+-- as text, what a drain is told begins with its counts
+abbrev pub counts_first : TellingDrains
+counts_first tally text = (rest : List ℕ) × (text ≡ text_of_tally tally ++ rest)

@@ -11,10 +11,9 @@ mod flight;
 mod lines;
 mod moves;
 mod tally;
-mod telling;
 
 pub use drained::{Drained, Wait};
 pub use draining::drain;
-pub use lines::{Lines, Style, run_by_line, serve_line};
+pub use lines::{DrainVoice, Readable};
 pub use moves::{Came, Move, command_of};
 pub use tally::Tally;

@@ -1,5 +1,5 @@
 -- A line that asks for the audit is told it as the answer to the query for it.
-use Rattle.std.proofs.Common.{List, Result, Ok, inl, refl}
+use Rattle.std.proofs.Common.{List, Ok, inl, refl}
 use Rattle.core_model.specs.History.{beginning}
 use Rattle.core_model.specs.Queries.{query_answer}
 use Rattle.core_model.specs.declared.answer.Answer.TheVariants as told
@@ -7,18 +7,13 @@ use Rattle.core_model.specs.declared.event.Query.TheVariants as query
 use Rattle.policy.specs.Policy.{Declared}
 use Rattle.world.specs.Actions.{asks}
 use Rattle.world.specs.declared.reply.Answer.TheVariants as answer
-use Rattle.world.specs.declared.reply.Refusal.{Refusal}
 use Rattle.world.specs.declared.request.Request.TheVariants as request
 use Rattle.world.specs.States.{Joined}
 use Rattle.script.specs.declared.command.Command.TheVariants as command
 use Rattle.script.specs.declared.command.NumberMeaning.TheVariants as meaning
-use Rattle.script.specs.declared.command.LineAnswer.{LineAnswer}
 use Rattle.script.specs.declared.command.LineAnswer.TheVariants as line
 use Rattle.script.specs.Expansions.{does}
-
--- the reply to such a line
-abbrev pub audit_reply : Joined → Result LineAnswer Refusal
-audit_reply world = Ok (line.Answered meaning.Plain (answer.Core (told.Audit (beginning world.core).before world.core.entries)))
+use Rattle.script.specs.Runs.{audit_reply}
 
 -- it is what the line does, and nothing changes
 pub audit_told : (later : List Declared) (world : Joined) → does later (command.Ask (request.Query query.Audit)) world (audit_reply world) world

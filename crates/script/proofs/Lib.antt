@@ -1,14 +1,15 @@
 pub mod Commas
 pub mod Audit
 pub mod Auditing
+pub mod Cutting
 pub mod Reading
 pub mod Running
 pub mod Submitting
-pub mod Watching
 pub mod Appending
 pub mod Writing
 pub mod Blocks
 pub mod Joining
 pub mod Reaching
+pub mod Rotating
 pub mod Fitting
 pub mod Formed

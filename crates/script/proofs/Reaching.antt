@@ -24,14 +24,12 @@ use Rattle.script.specs.declared.command.LineAnswer.TheVariants as line
 use Rattle.script.specs.declared.lines.Line.{Line}
 use Rattle.script.specs.declared.lines.Line.TheVariants as lines
 use Rattle.script.specs.Expansions.{ask, copies, does, meaning_of, raised, reload, served_or_empty, shown_or_empty}
-use Rattle.script.specs.Lines.{line_of}
-use Rattle.script.specs.declared.fault.ScriptFault.{ScriptFault}
-use Rattle.script.specs.declared.fault.ScriptFault.TheVariants.{OutOfMemory, BadLine, Read, Write, Stopped}
+use Rattle.script.specs.declared.fault.RunFault.TheVariants.{Script, Watcher}
+use Rattle.script.specs.declared.fault.ScriptFault.TheVariants.{OutOfMemory, BadLine, Read, Write}
 use Rattle.script.specs.declared.watch.Flow.{Flow}
-use Rattle.script.specs.Runs.{Replied, RepliedAs, Runs, StopsAt, StopsNear, Told, lines_of, parts_told, unheard, watched, worlds}
-use Rattle.script.specs.Scripts.{Outcome, RunsScript}
-use Rattle.script.specs.Watchers as watchers
-use Rattle.script.proofs.Watching.{ends_watched}
+use Rattle.script.specs.declared.watch.Flow.TheVariants.{GoOn}
+use Rattle.script.specs.Runs.{CutShort, EndsAt, PausesAt, Replied, Runs, Said, StopsSaying, Telling, Told, Turns, WantsAt, Watching, answers_as, by_line, cuts_as, law, lines_of, parts_told, stands_for}
+use Rattle.script.specs.Scripts.{Ending, Outcome, RunsScript}
 
 -- ---- any line
 
@@ -99,64 +97,79 @@ line_reaches later (command.Retire queue) old told new done = told_reaches (reti
 line_reaches later (command.Serve queue) old told new done = told_reaches (serve_next queue) served_or_empty (keeps_serve_next queue) served_none old told new done
 line_reaches later (command.Reload number) old told new done = reload_reaches (numbered later number) old told new done
 
-replied_reaches : (says : Told → Flow → Type 0) (later : List Declared) (old new : Joined) (stands : Option Line) (reply : List ℕ) →
-    RepliedAs (watched says later) old stands reply new → (parts : List Part) × Reaches old parts new
-unfolding watched
-replied_reaches says later old new None reply done = absurd done
-replied_reaches says later old new (Some lines.Quiet) reply done = ([], reaches_none old new done.1)
-replied_reaches says later old new (Some (lines.Asks asked)) reply done = (parts_told done.0, line_reaches later asked old done.0 new done.1)
-
 -- one thing after another
 reach_on : (old mid new : Joined) → ((parts : List Part) × Reaches old parts mid) → ((parts : List Part) × Reaches mid parts new) → (parts : List Part) × Reaches old parts new
 reach_on old mid new one more = (one.0 ++ more.0, reaches_more old mid new one.0 more.0 one.1 more.1)
 
-line_reach : (says : Told → Flow → Type 0) (later : List Declared) (old new : Joined) (first reply : List ℕ) → Replied (watched says later) old first reply new →
-    (parts : List Part) × Reaches old parts new
-line_reach says later old new first reply done =
-    replied_reaches says later old new (line_of ((watched says later).names old) (watched says later).later first) reply done
+-- what a line stands for that is answered, or cut short
+answers_reach : (tells : Telling) (says : Told → Flow → Type 0) (later : List Declared) (old new : Joined) (stands : Option Line) (reply : List ℕ) (said : Flow) →
+    answers_as tells says later old stands reply said new → (parts : List Part) × Reaches old parts new
+answers_reach tells says later old new None reply said done = absurd done
+answers_reach tells says later old new (Some lines.Quiet) reply said done = ([], reaches_none old new done.2)
+answers_reach tells says later old new (Some (lines.Asks asked)) reply said done = (parts_told done.0, line_reaches later asked old done.0 new done.1)
 
-runs_on : (says : Told → Flow → Type 0) (later : List Declared) (old new : Joined) (script : List (List ℕ)) (text : List ℕ) → Runs (watched says later) old script text new →
-    (parts : List Part) × Reaches old parts new
-runs_on says later old new [] text done = ([], reaches_none old new done.1)
-runs_on says later old new (first ∷ script) text done =
-    reach_on old done.0 new (line_reach says later old done.0 first done.1 done.3) (runs_on says later done.0 new script done.2 done.4)
+cuts_reach : (later : List Declared) (old new : Joined) (stands : Option Line) (last : List ℕ) → cuts_as later old stands last new → (parts : List Part) × Reaches old parts new
+cuts_reach later old new None last done = absurd done
+cuts_reach later old new (Some lines.Quiet) last done = absurd done
+cuts_reach later old new (Some (lines.Asks asked)) last done = (parts_told done.0, line_reaches later asked old done.0 new done.1)
 
-pub runs_reach : (later : List Declared) (old new : Joined) (script : List (List ℕ)) (text : List ℕ) → Runs (worlds later) old script text new →
-    (parts : List Part) × Reaches old parts new
-runs_reach later old new script text done = runs_on watchers.goes_on later old new script text done
+-- ---- lines in turn, in any voice and whoever watches
 
--- ---- a whole run, whatever it comes to
+module _ (tells : Telling) (watcher : Watching) (later : List Declared) where
+  said_reach : (old new : Joined) (line reply : List ℕ) (said : Flow) → Said (law (by_line tells) watcher later) old line reply said new → (parts : List Part) × Reaches old parts new
+  unfolding law
+  said_reach old new line reply said (inl answered) = answers_reach tells watcher.says later old new (stands_for later old line) reply said answered
+  said_reach old new line reply said (inr by) = ([], reaches_none old new by.4)
 
-unheard_runs : (later : List Declared) (old new : Joined) (script : List (List ℕ)) (text : List ℕ) → Runs (unheard (worlds later)) old script text new →
-    (parts : List Part) × Reaches old parts new
-unfolding watched
-unheard_runs later old new script text done = runs_on (λ told flow. ⊤) later old new script text done
+  turn_reach : (old new : Joined) → Turns (law (by_line tells) watcher later) old new → (parts : List Part) × Reaches old parts new
+  unfolding law
+  turn_reach old new (inl same) = ([], reaches_none old new same)
+  turn_reach old new (inr rotated) = (cons_option (part_of rotated.0) [], reaches_one old new request.Rotate rotated.0 rotated.1)
 
-unheard_line : (later : List Declared) (old new : Joined) (first reply : List ℕ) → Replied (unheard (worlds later)) old first reply new → (parts : List Part) × Reaches old parts new
-unfolding watched
-unheard_line later old new first reply done = line_reach (λ told flow. ⊤) later old new first reply done
+  replied_reach : (old new : Joined) (line reply : List ℕ) → Replied (law (by_line tells) watcher later) old line reply new → (parts : List Part) × Reaches old parts new
+  unfolding law
+  replied_reach old new line reply (inl said) = said_reach old new line reply GoOn said
+  replied_reach old new line reply (inr (mid, said, answered, passes, turns)) = reach_on old mid new (said_reach old mid line reply said answered) (turn_reach mid new turns)
 
-stops_reach : (later : List Declared) (old new : Joined) (after : List (List ℕ)) → StopsAt (worlds later) old new after → (parts : List Part) × Reaches old parts new
-stops_reach later old new [] done = absurd done
-stops_reach later old new (first ∷ after) (inl same) = ([], reaches_none old new same)
-stops_reach later old new (first ∷ after) (inr (reply, done)) = unheard_line later old new first reply done
+  cut_reach : (old new : Joined) (line last : List ℕ) → CutShort (law (by_line tells) watcher later).cuts old line last new → (parts : List Part) × Reaches old parts new
+  unfolding law
+  cut_reach old new line last (inl same) = ([], reaches_none old new same.0)
+  cut_reach old new line last (inr cut) = cuts_reach later old new (stands_for later old line) last cut
 
-near_reach : (later : List Declared) (old new : Joined) (after : List (List ℕ)) → StopsNear (worlds later) old new after → (parts : List Part) × Reaches old parts new
-near_reach later old new after (inl same) = ([], reaches_none old new same)
-near_reach later old new after (inr stops) = stops_reach later old new after stops
+  pub runs_reach : (old new : Joined) (script : List (List ℕ)) (text : List ℕ) → Runs (law (by_line tells) watcher later) old script text new → (parts : List Part) × Reaches old parts new
+  runs_reach old new [] text done = ([], reaches_none old new done.1)
+  runs_reach old new (first ∷ script) text done = reach_on old done.0 new (replied_reach old done.0 first done.1 done.3) (runs_reach done.0 new script done.2 done.4)
 
-outcome_reaches : (later : List Declared) (old new : Joined) (held holds left : Option (List ℕ)) (script : List ℕ) (result : Result ⊤ ScriptFault) →
-    Outcome (worlds later) old new held holds left script result → (parts : List Part) × Reaches old parts new
-outcome_reaches later old new held holds left script (Ok done) (at_end, (text, ran, gained)) = runs_reach later old new (lines_of script) text ran
-outcome_reaches later old new held holds left script (Err (BadLine number)) (before, line, after, is, at, none, (text, ran, gained)) = runs_reach later old new before text ran
-outcome_reaches later old new held holds left script (Err Read) (before, begun, rest, tells, is, (text, ran, gained)) = runs_reach later old new before text ran
-outcome_reaches later old new held holds left script (Err OutOfMemory) (before, after, mid, is, (text, ran, gained), stops) =
-    reach_on old mid new (runs_reach later old mid before text ran) (stops_reach later mid new after stops)
-outcome_reaches later old new held holds left script (Err (Stopped number)) (before, line, after, mid, text, reply, is, at, ran, ends, gained) =
-    reach_on old mid new (runs_reach later old mid before text ran) (line_reach watchers.goes_on later mid new line reply (ends_watched watchers.goes_on later mid line reply new ends))
-outcome_reaches later old new held holds left script (Err Write) (before, after, mid, is, (text, ran, gained), stops) =
-    reach_on old mid new (unheard_runs later old mid before text ran) (near_reach later mid new after stops)
+  pauses_reach : (old new : Joined) (line last : List ℕ) → PausesAt (law (by_line tells) watcher later) old new line last → (parts : List Part) × Reaches old parts new
+  pauses_reach old new line last paused = said_reach old new line last paused.0 paused.1
 
-pub script_reaches : (later : List Declared) (old new : Joined) (held holds had left : Option (List ℕ)) (result : Result ⊤ ScriptFault) →
-    RunsScript (worlds later) old new held holds had left result → (parts : List Part) × Reaches old parts new
-script_reaches later old new held holds had left result (script, tells, outcome) = outcome_reaches later old new held holds left script result outcome
+  pub ends_reach : (old new : Joined) (line last : List ℕ) → EndsAt (law (by_line tells) watcher later) old new line last → (parts : List Part) × Reaches old parts new
+  unfolding law
+  ends_reach old new line last (inl paused) = pauses_reach old new line last paused
+  ends_reach old new line last (inr failed) = cut_reach old new line last (inr failed.1)
+
+  saying_reach : (old new : Joined) (script : List (List ℕ)) (last : List ℕ) → StopsSaying (law (by_line tells) watcher later) old new script last → (parts : List Part) × Reaches old parts new
+  saying_reach old new [] last same = ([], reaches_none old new same.0)
+  saying_reach old new (line ∷ script) last (inl cut) = cut_reach old new line last cut
+  saying_reach old new (line ∷ script) last (inr said) = said_reach old new line last said.0 said.1
+
+  wants_reach : (old new : Joined) (line last : List ℕ) → WantsAt (law (by_line tells) watcher later) old new line last → (parts : List Part) × Reaches old parts new
+  wants_reach old new line last (inl cut) = cut_reach old new line last cut
+  wants_reach old new line last (inr paused) = pauses_reach old new line last paused
+
+  -- a whole run, whatever it comes to
+  outcome_reaches : {F : Type 0} (old new : Joined) (held holds left : Option (List ℕ)) (script : List ℕ) (result : Ending F) →
+      Outcome (law (by_line tells) watcher later) old new held holds left script result → (parts : List Part) × Reaches old parts new
+  outcome_reaches old new held holds left script (Ok done) ran = runs_reach old new (lines_of script) ran.1.0 ran.1.1
+  outcome_reaches old new held holds left script (Err (Script (BadLine number))) ran = runs_reach old new ran.0 ran.6.0 ran.6.1
+  outcome_reaches old new held holds left script (Err (Script Read)) ran = runs_reach old new ran.0 ran.5.0 ran.5.1
+  outcome_reaches old new held holds left script (Err (Script OutOfMemory)) ran =
+      reach_on old ran.3 new (runs_reach old ran.3 ran.0 ran.4 ran.7) (wants_reach ran.3 new ran.1 ran.5 ran.8)
+  outcome_reaches old new held holds left script (Err (Script Write)) ran =
+      reach_on old ran.2 new (runs_reach old ran.2 ran.0 ran.3 ran.6) (saying_reach ran.2 new ran.1 ran.4 ran.7)
+  outcome_reaches old new held holds left script (Err (Watcher fault)) ran =
+      reach_on old ran.3 new (runs_reach old ran.3 ran.0 ran.4 ran.7) (ends_reach ran.3 new ran.1 ran.5 ran.8)
+
+  pub script_reaches : {F : Type 0} (old new : Joined) (held holds had left : Option (List ℕ)) (result : Ending F) →
+      RunsScript (law (by_line tells) watcher later) old new held holds had left result → (parts : List Part) × Reaches old parts new
+  script_reaches old new held holds had left result ran = outcome_reaches old new held holds left ran.0 result ran.2

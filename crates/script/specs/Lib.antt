@@ -9,10 +9,10 @@ pub mod Replies
 pub mod Forms
 pub mod Lines
 pub mod Expansions
-pub mod Watchers
 pub mod Runs
+pub mod Watchers
 pub mod Splitting
 pub mod Faults
 pub mod Sessions
-pub mod IoLogs
+pub mod Streams
 pub mod Scripts

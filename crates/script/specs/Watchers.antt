@@ -1,5 +1,5 @@
 -- What watchers say to a reply (own).
-use Rattle.std.specs.Prelude.{◌≡◌, Result, Ok, Err}
+use Rattle.std.specs.Prelude.{◌≡◌, List, Result, Ok, Err, ⊤}
 use Rattle.core_model.specs.declared.answer.Answer as core
 use Rattle.core_model.specs.declared.answer.Answer.TheVariants as answer
 use Rattle.core_model.specs.declared.outcome.Outcome.{Outcome}
@@ -16,11 +16,10 @@ use Rattle.world.specs.declared.reply.Refusal.{Refusal}
 use Rattle.script.specs.declared.command.LineAnswer.{LineAnswer}
 use Rattle.script.specs.declared.command.LineAnswer.TheVariants as line
 use Rattle.script.specs.declared.watch.Flow.{Flow}
-use Rattle.script.specs.declared.watch.Flow.TheVariants.{GoOn, End}
-
--- nobody ends a run
-abbrev pub goes_on : Result LineAnswer Refusal → Flow → Type 0
-goes_on told flow = flow ≡ GoOn
+use Rattle.script.specs.declared.watch.Flow.TheVariants.{GoOn, Pause, End}
+use Rattle.policy.specs.Policy.{Declared}
+use Rattle.world.specs.States.{Joined}
+use Rattle.script.specs.Runs.{Law, Watching, as_text, by_line, law}
 
 -- a denied packet, a group that faulted and a barrier packet that failed are failures
 abbrev pub of_taken : Taken → Flow
@@ -55,5 +54,39 @@ strictly (Ok (line.Answered meaning answer)) = of_answer answer
 strictly (Ok _) = GoOn
 strictly (Err refusal) = End
 
-abbrev pub ends_strictly : Result LineAnswer Refusal → Flow → Type 0
-ends_strictly told flow = flow ≡ strictly told
+-- a strict run goes on behind nothing that isn't done
+abbrev pub goes_by_strictly : Flow → Type 0
+goes_by_strictly GoOn = ⊤
+goes_by_strictly Pause = ⊤
+goes_by_strictly End = ⊥
+
+-- nobody watches: the run goes on whatever is replied, and nobody ends it
+abbrev pub nobody : Watching
+nobody = record {
+  says = λ told flow. flow ≡ GoOn;
+  passes = λ flow. ⊤;
+  lets_by = ⊥;
+  may_fail = ⊥;
+}
+
+-- a strict watcher ends the run behind the reply to the first line that isn't done, and nowhere else
+abbrev pub strict : Watching
+strict = record {
+  says = λ told flow. flow ≡ strictly told;
+  passes = goes_by_strictly;
+  lets_by = ⊥;
+  may_fail = ⊥;
+}
+
+-- nothing is known of who watches
+abbrev pub anyone : Watching
+anyone = record {
+  says = λ told flow. ⊤;
+  passes = λ flow. ⊤;
+  lets_by = ⊤;
+  may_fail = ⊤;
+}
+
+-- each line is one of a script, told as text, and nobody watches; these are the further policies
+abbrev pub worlds : List Declared → Law Joined
+worlds later = law (by_line as_text) nobody later

@@ -17,9 +17,6 @@ pub enum ScriptFault {
     /// The writer failed.
     #[error("writing failed")]
     Write,
-    /// Whoever watches it stopped it behind the reply to the line of this number, from 1.
-    #[error("stopped behind line {0}")]
-    Stopped(u64),
 }
 
 impl ScriptFault {
@@ -35,7 +32,6 @@ impl ScriptFault {
             ScriptFault::BadLine(_) => 1,
             ScriptFault::Read => 2,
             ScriptFault::Write => 3,
-            ScriptFault::Stopped(_) => 4,
         }
     }
 }
@@ -59,5 +55,35 @@ impl From<AllocFailed<u8>> for ScriptFault {
 
     fn from(_: AllocFailed<u8>) -> ScriptFault {
         ScriptFault::OutOfMemory
+    }
+}
+
+/// Why a run ended early: it couldn't go on, or a watcher ended it by a fault of its own.
+#[derive(Drop)]
+pub enum RunFault<F> {
+    Script(ScriptFault),
+    Watcher(F),
+}
+
+impl<F: Drop> From<AllocError> for RunFault<F> {
+    ghost use Rattle.std.specs.Prelude.{◌≡◌};
+    ghost use Rattle.script.specs.declared.fault.ScriptFault.TheVariants.{OutOfMemory};
+    ghost use Rattle.script.specs.declared.fault.RunFault.TheVariants.{Script};
+
+    ghost from_gives = { λ error result. result ≡ Script OutOfMemory };
+
+    fn from(_: AllocError) -> RunFault<F> {
+        RunFault::Script(ScriptFault::OutOfMemory)
+    }
+}
+
+impl<F: Drop> From<ScriptFault> for RunFault<F> {
+    ghost use Rattle.std.specs.Prelude.{◌≡◌};
+    ghost use Rattle.script.specs.declared.fault.RunFault.TheVariants.{Script};
+
+    ghost from_gives = { λ fault result. result ≡ Script fault };
+
+    fn from(fault: ScriptFault) -> RunFault<F> {
+        RunFault::Script(fault)
     }
 }

@@ -1,6 +1,6 @@
 //! What the lines of a script come to, as laws of their definitions.
 
-ghost use Rattle.std.specs.Prelude.{◌≡◌, ◌∷◌, ℕ, List, Option, Result, Some, true, false, ⊤, bytes_eq, codes};
+ghost use Rattle.std.specs.Prelude.{◌≡◌, ◌∷◌, ℕ, List, Option, Some, true, false, bytes_eq, codes};
 ghost use Rattle.std.specs.List.{list_all};
 ghost use Rattle.std.specs.Option.{is_some};
 ghost use Rattle.kernel_check.specs.Programs.{Program};
@@ -11,7 +11,7 @@ ghost use Rattle.world.specs.Actions.{Reaches};
 ghost use Rattle.world.specs.Headline.{Headline, IsBegun};
 ghost use Rattle.world.specs.States.{Joined};
 ghost use Rattle.script.specs.declared.command.Command.{Command};
-ghost use Rattle.script.specs.declared.fault.ScriptFault.{ScriptFault};
+ghost use Rattle.script.specs.declared.watch.Never.{Never};
 ghost use Rattle.script.specs.declared.lines.Line.{Line};
 ghost use Rattle.script.specs.declared.lines.TheConstants.{LONGEST_LINE};
 ghost use Rattle.script.specs.declared.run.TheConstants.{MOST_READS};
@@ -19,11 +19,13 @@ ghost use Rattle.script.specs.Expansions.{does};
 ghost use Rattle.script.specs.Forms.{form_rows, is_formed};
 ghost use Rattle.script.specs.Lines.{asked_by};
 ghost use Rattle.script.specs.Limits.{longest_line, most_reads};
-ghost use Rattle.script.specs.Runs.{Ends, Replied, Runs, Told, lines_of, parts_told, watched, worlds};
-ghost use Rattle.script.specs.Scripts.{RunsScript};
+ghost use Rattle.script.specs.Runs.{EndsAt, Runs, Told, by_line, law, lines_of, parts_told};
+ghost use Rattle.script.specs.Scripts.{Ending, RunsScript};
 ghost use Rattle.script.specs.Splitting.{ended, is_line, joined};
+ghost use Rattle.script.specs.Watchers.{worlds};
 ghost use Rattle.words.specs.Lines.{Word};
 
+use crate::voice::Voice;
 use crate::watch::Watch;
 use policy::Policy;
 use world::{law_each_run_goes_on, law_headline};
@@ -41,7 +43,7 @@ pub fn law_lines_give_their_text_back()
 /// headline holds.
 pub fn law_scripts_are_requests(policy: &Policy)
     ensures line { (later : List Declared) (asked : Command) (old : Joined) (told : Told) (new : Joined) → does later asked old told new → Reaches old (parts_told told) new }
-    ensures run { (later : List Declared) (old new : Joined) (held holds had left : Option (List ℕ)) (result : Result ⊤ ScriptFault) →
+    ensures run { (later : List Declared) (old new : Joined) (held holds had left : Option (List ℕ)) (result : Ending Never) →
         RunsScript (worlds later) old new held holds had left result → (parts : List Part) × Reaches old parts new }
     ensures headline { (later : List Declared) (kernels : List Program) (capacity : ℕ) (lines : List (List ℕ)) (text : List ℕ) (opened world : Joined) →
         IsBegun opened policy.now kernels capacity → Runs (worlds later) opened lines text world →
@@ -51,13 +53,13 @@ pub fn law_scripts_are_requests(policy: &Policy)
     law_each_run_goes_on();
 }
 
-/// Whatever a watcher says, the lines that it lets go by and the one at which it ends a run do what they do unwatched, and
-/// are replied to so.
-pub fn watched_runs_are_runs<V: Watch>()
+/// So are the lines that any watcher lets by, told in any voice, and so is the one at which it ends a run; turns that rotate the
+/// audit are requests too.
+pub fn watched_runs_are_requests<S: Voice, V: Watch>()
     ensures runs { (later : List Declared) (old : Joined) (lines : List (List ℕ)) (text : List ℕ) (new : Joined) →
-        Runs (watched V.says later) old lines text new → Runs (worlds later) old lines text new }
-    ensures ends { (later : List Declared) (old : Joined) (line : List ℕ) (reply : List ℕ) (new : Joined) →
-        Ends (watched V.says later) old line reply new → Replied (worlds later) old line reply new }
+        Runs (law (by_line S.tells) V.watching later) old lines text new → (parts : List Part) × Reaches old parts new }
+    ensures ends { (later : List Declared) (old : Joined) (line : List ℕ) (last : List ℕ) (new : Joined) →
+        EndsAt (law (by_line S.tells) V.watching later) old new line last → (parts : List Part) × Reaches old parts new }
 {}
 
 /// The table of forms is what lines are read by. The words of a line that asks something are those of one of its forms,

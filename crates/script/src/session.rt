@@ -1,11 +1,12 @@
 //! A script in the course of its run: bytes are taken as they come, and each line that ends is served.
 
-ghost use Rattle.std.specs.Prelude.{◌≡◌, ◌∷◌, [], ◌++◌, ◌+◌, ◌<◌, ◌^◌, MatchOption, MatchResult, length};
-ghost use Rattle.script.specs.Runs.{watched};
-ghost use Rattle.script.specs.Sessions.{Took, Failed, Ended, EndedLine, FailedLine, FailedPart, FeedBetween, Follows, HasNoFeed, TookPart, begun, pending, with_further, at_end};
+ghost use Rattle.std.specs.Prelude.{◌≡◌, ◌⊎◌, ◌∷◌, [], ◌++◌, ◌+◌, ◌<◌, ◌^◌, MatchOption, MatchResult, length, true};
+ghost use Rattle.script.specs.Runs.{law};
+ghost use Rattle.script.specs.Sessions.{AnsweredLine, Failed, FailedLine, FailedPart, FeedBetween, FlowOf, GoesBy, HasNoFeed, TookPart, TookSome, AnsweredEnd, begun, pending, with_further, at_end};
+ghost use Rattle.script.specs.declared.fault.ScriptFault.TheVariants.{BadLine, OutOfMemory};
 
-use crate::engine::answer;
-use crate::fault::ScriptFault;
+use crate::engine::Style;
+use crate::fault::{RunFault, ScriptFault};
 use crate::lines::LONGEST_LINE;
 use crate::watch::{Flow, Watch};
 use memchr::memchr;
@@ -26,6 +27,22 @@ pub struct Session {
     pub out: String,
 }
 
+impl Session {
+    /// A run that has taken nothing yet.
+    pub fn new(alloc: Global) -> Session
+        ensures line { begun result ≡ [] }
+        ensures number { result.number ≡ 1 }
+        ensures out { pending result ≡ [] }
+    {
+        Session {
+            line: Vec::new(alloc),
+            number: 1,
+            reply: String::new(alloc),
+            out: String::new(alloc),
+        }
+    }
+}
+
 // Begins the next line.
 fn next_line(session: &mut Session)
     requires { session.old.number + 1 < 2 ^ 64 }
@@ -37,77 +54,134 @@ fn next_line(session: &mut Session)
     session.number += 1;
 }
 
-// What follows from what the watcher said to the reply of a line, if the line has a form: the next line begins, or the
-// run ends.
-fn follow(session: &mut Session, said: Option<Flow>) -> Result<(), ScriptFault>
-    requires { session.old.number + 1 < 2 ^ 64 }
-    ensures { Follows said session.old session.new result }
+// Tells the watcher of a line of no form: it has its turn, and the run goes on; or the run ends.
+fn go_by<V: Watch>(
+    watcher: &mut V,
+    number: u64,
+    line: &[u8],
+    wanted: &str,
+) -> Result<Flow, ScriptFault>
+    ensures { GoesBy V.watching.lets_by number result }
+{
+    let goes_by = watcher.goes_by();
+    watcher.unread(number, line, wanted, !goes_by);
+    if goes_by {
+        Ok(Flow::Pause)
+    } else {
+        Err(ScriptFault::BadLine(number))
+    }
+}
+
+// What is said to a line, if it has a form; else what follows where it has none.
+fn flow_of<V: Watch>(
+    watcher: &mut V,
+    number: u64,
+    line: &[u8],
+    wanted: &str,
+    said: Option<Flow>,
+) -> Result<Flow, ScriptFault>
+    ensures { FlowOf V.watching.lets_by number said result }
 {
     match said {
-        Some(Flow::GoOn) => {
-            next_line(session);
-            Ok(())
-        }
-        Some(Flow::End) => Err(ScriptFault::Stopped(session.number)),
-        None => Err(ScriptFault::BadLine(session.number)),
+        Some(flow) => Ok(flow),
+        None => go_by(watcher, number, line, wanted),
     }
 }
 
 // Serves a line that lies whole in what was read.
-fn serve_line<V: Watch>(
+#[tactic(auto, unfolding(crate::specs::Runs::law))]
+fn serve_line<L: Style, V: Watch>(
     alloc: Global,
     world: &mut World,
     later: &[Policy],
+    style: &mut L,
     watcher: &mut V,
     session: &mut Session,
     line: &[u8],
-) -> Result<(), ScriptFault>
+) -> Result<Flow, RunFault<V::Fault>>
     requires { session.old.number + 1 < 2 ^ 64 }
     ensures { MatchResult result
-        (λ _. EndedLine (watched V.says later.now) world.old world.new line.now session.old session.new)
-        (FailedLine (watched V.says later.now) world.old world.new line.now session.old session.new) }
+        (AnsweredLine (law L.answering V.watching later.now) world.old world.new line.now session.old session.new)
+        (FailedLine (law L.answering V.watching later.now) world.old world.new line.now session.old session.new) }
 {
-    let said = answer(
+    let number = session.number;
+    let said = style.answer(
         alloc,
         world,
         later,
         watcher,
-        session.number,
+        number,
         line,
         &mut session.reply,
         &mut session.out,
     )?;
-    follow(session, said)
+    let flow = flow_of(watcher, number, line, style.wanted(), said)?;
+    next_line(session);
+    Ok(flow)
 }
 
 // Serves the line that was begun, which ends here.
-fn end_line<V: Watch>(
+#[tactic(auto, unfolding(crate::specs::Runs::law))]
+fn end_line<L: Style, V: Watch>(
     alloc: Global,
     world: &mut World,
     later: &[Policy],
+    style: &mut L,
     watcher: &mut V,
     session: &mut Session,
-) -> Result<(), ScriptFault>
+) -> Result<Flow, RunFault<V::Fault>>
     requires { session.old.number + 1 < 2 ^ 64 }
     ensures { MatchResult result
-        (λ _. EndedLine (watched V.says later.now) world.old world.new (begun session.old) session.old session.new)
-        (FailedLine (watched V.says later.now) world.old world.new (begun session.old) session.old session.new) }
+        (AnsweredLine (law L.answering V.watching later.now) world.old world.new (begun session.old) session.old session.new)
+        (FailedLine (law L.answering V.watching later.now) world.old world.new (begun session.old) session.old session.new) }
 {
-    let said = answer(
+    let number = session.number;
+    let said = style.answer(
         alloc,
         world,
         later,
         watcher,
-        session.number,
+        number,
         session.line.as_slice(),
         &mut session.reply,
         &mut session.out,
     )?;
-    follow(session, said)
+    let line = session.line.as_slice();
+    let flow = flow_of(watcher, number, line, style.wanted(), said)?;
+    next_line(session);
+    Ok(flow)
 }
 
-// Takes a part of a line: it belongs to the line that is begun.
-fn take_part(session: &mut Session, part: &[u8]) -> Result<(), ScriptFault>
+// The first bytes of some, so many, or all.
+fn first_of(bytes: &[u8], count: usize) -> &[u8] {
+    bytes.split_at(count.min(bytes.len())).0
+}
+
+// Tells the watcher of a line that this part makes too long, by as many of its bytes as show that: why the run ends.
+fn refuse_long<V: Watch>(watcher: &mut V, session: &mut Session, part: &[u8]) -> ScriptFault
+    ensures out { pending session.new ≡ pending session.old }
+    ensures fault { (result ≡ BadLine session.old.number) ⊎ (result ≡ OutOfMemory) }
+{
+    let room = LONGEST_LINE
+        .saturating_sub(session.line.len())
+        .saturating_add(1);
+    if session
+        .line
+        .extend_from_slice(first_of(part, room))
+        .is_err()
+    {
+        return ScriptFault::OutOfMemory;
+    }
+    watcher.unread(session.number, session.line.as_slice(), "", true);
+    ScriptFault::BadLine(session.number)
+}
+
+// Takes a part of a line: it belongs to the line that is begun. A line that is too long ends the run.
+fn take_part<V: Watch>(
+    watcher: &mut V,
+    session: &mut Session,
+    part: &[u8],
+) -> Result<(), ScriptFault>
     ensures { MatchResult result
         (λ _. TookPart session.old session.new part.now)
         (FailedPart session.old session.new part.now) }
@@ -116,32 +190,33 @@ fn take_part(session: &mut Session, part: &[u8]) -> Result<(), ScriptFault>
         return Ok(());
     }
     if session.line.len() + part.len() > LONGEST_LINE {
-        return Err(ScriptFault::BadLine(session.number));
+        return Err(refuse_long(watcher, session, part));
     }
     session.line.extend_from_slice(part)?;
     Ok(())
 }
 
-// Takes the rest of a line, and the line feed behind it.
-fn take_line<V: Watch>(
+// Takes the rest of a line, and the line feed behind it: what the watcher says to it.
+fn take_line<L: Style, V: Watch>(
     alloc: Global,
     world: &mut World,
     later: &[Policy],
+    style: &mut L,
     watcher: &mut V,
     session: &mut Session,
     part: &[u8],
-) -> Result<(), ScriptFault>
+) -> Result<Flow, RunFault<V::Fault>>
     requires number { session.old.number + 1 < 2 ^ 64 }
     requires part { HasNoFeed part.now }
     ensures { MatchResult result
-        (λ _. Took (watched V.says later.now) world.old world.new session.old session.new (part.now ++ 10 ∷ []))
-        (Failed (watched V.says later.now) world.old world.new session.old session.new (with_further session.old (part.now ++ 10 ∷ []))) }
+        (AnsweredLine (law L.answering V.watching later.now) world.old world.new (begun session.old ++ part.now) session.old session.new)
+        (Failed (law L.answering V.watching later.now) world.old world.new session.old session.new (with_further session.old (part.now ++ 10 ∷ []))) }
 {
     if session.line.is_empty() {
-        return serve_line(alloc, world, later, watcher, session, part);
+        return serve_line(alloc, world, later, style, watcher, session, part);
     }
-    take_part(session, part)?;
-    end_line(alloc, world, later, watcher, session)
+    take_part(watcher, session, part)?;
+    end_line(alloc, world, later, style, watcher, session)
 }
 
 // The bytes before the first line feed, and those behind it.
@@ -153,43 +228,50 @@ fn split_line(bytes: &[u8]) -> Option<(&[u8], &[u8])>
     Some((line, behind.split_at(1).1))
 }
 
-/// Takes further bytes of the script.
-pub fn take_bytes<V: Watch>(
+/// Takes further bytes of the script, up to the end of a line behind which the watcher has its turn: what that said, and the
+/// bytes that are left. Where it said that the run goes on, none are left.
+pub fn take_bytes<'a, L: Style, V: Watch>(
     alloc: Global,
     world: &mut World,
     later: &[Policy],
+    style: &mut L,
     watcher: &mut V,
     session: &mut Session,
-    bytes: &[u8],
-) -> Result<(), ScriptFault>
+    bytes: &'a [u8],
+) -> Result<(Flow, &'a [u8]), RunFault<V::Fault>>
     requires { session.old.number + length bytes.now < 2 ^ 64 }
     ensures { MatchResult result
-        (λ _. Took (watched V.says later.now) world.old world.new session.old session.new bytes.now)
-        (Failed (watched V.says later.now) world.old world.new session.old session.new (with_further session.old bytes.now)) }
+        (λ taken. TookSome (law L.answering V.watching later.now) world.old world.new session.old session.new bytes.now taken.1.now taken.0)
+        (Failed (law L.answering V.watching later.now) world.old world.new session.old session.new (with_further session.old bytes.now)) }
 {
     let mut rest = bytes;
     while let Some((line, further)) = split_line(rest) {
-        take_line(alloc, world, later, watcher, session, line)?;
+        let said = take_line(alloc, world, later, style, watcher, session, line)?;
         rest = further;
+        if said.has_turn() {
+            return Ok((said, rest));
+        }
     }
-    take_part(session, rest)
+    take_part(watcher, session, rest)?;
+    Ok((Flow::GoOn, &[]))
 }
 
-/// Takes the end of the script: a line that is begun ends there.
-pub fn take_end<V: Watch>(
+/// Takes the end of the script: a line that is begun ends there. What the watcher says to it.
+pub fn take_end<L: Style, V: Watch>(
     alloc: Global,
     world: &mut World,
     later: &[Policy],
+    style: &mut L,
     watcher: &mut V,
     session: &mut Session,
-) -> Result<(), ScriptFault>
+) -> Result<Flow, RunFault<V::Fault>>
     requires { session.old.number + 1 < 2 ^ 64 }
     ensures { MatchResult result
-        (λ _. Ended (watched V.says later.now) world.old world.new session.old session.new)
-        (Failed (watched V.says later.now) world.old world.new session.old session.new (at_end session.old)) }
+        (AnsweredEnd (law L.answering V.watching later.now) world.old world.new session.old session.new)
+        (Failed (law L.answering V.watching later.now) world.old world.new session.old session.new (at_end session.old)) }
 {
     if session.line.is_empty() {
-        return Ok(());
+        return Ok(Flow::GoOn);
     }
-    end_line(alloc, world, later, watcher, session)
+    end_line(alloc, world, later, style, watcher, session)
 }

@@ -12,10 +12,9 @@ ghost use Rattle.world.specs.Headline.{Headline};
 ghost use Rattle.world.specs.InStep.{IsJoinedBehind};
 
 use aql_packet::QueueId;
-use script::{law_scripts_are_requests, run_script};
+use script::{Sink, Source, law_scripts_are_requests, run_script};
 use sequences::Reserved;
 use std::alloc::Global;
-use std::io;
 use world::{Reply, Request, World, law_each_run_goes_on, law_lane_calls_are_requests};
 
 /// The replies to two lists of requests.
@@ -34,7 +33,7 @@ fn submit(alloc: Global, world: &mut World, words: &[u64; 8])
 }
 
 // A script runs, whatever comes of it.
-fn run<R: io::Read, W: io::Write>(alloc: Global, world: &mut World, reader: &mut R, writer: &mut W)
+fn run<R: Source, W: Sink>(alloc: Global, world: &mut World, reader: &mut R, writer: &mut W)
     ensures { (parts : List Part) × Reaches world.old parts world.new }
 {
     law_scripts_are_requests(world.policy());
@@ -44,7 +43,7 @@ fn run<R: io::Read, W: io::Write>(alloc: Global, world: &mut World, reader: &mut
 /// Asks a world two lists of requests, has producer 1 of queue 1 submit a packet, and runs a script, whatever comes of these
 /// two. Behind whatever the world was in step, the headline holds of it then behind all that was handed out since: by the
 /// replies to the first list, by those to the second, and by the script.
-pub fn drive<R: io::Read, W: io::Write>(
+pub fn drive<R: Source, W: Sink>(
     alloc: Global,
     world: &mut World,
     first: Vec<Request>,

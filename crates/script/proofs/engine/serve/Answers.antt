@@ -2,7 +2,8 @@
 use Rattle.std.proofs.Common.{sym, subst}
 use Rattle.std.proofs.lemmas.Result.{err_from_is_err_and}
 use Rattle.script.specs.Expansions.{does}
-use Rattle.script.proofs.Auditing.{audit_reply, audit_told}
+use Rattle.script.specs.Runs.{audit_reply}
+use Rattle.script.proofs.Auditing.{audit_told}
 use Rattle.script.proofs.engine.serve.Goals as goal
 
 pub returns-in_err-tell_audit-clause-served : goal.returns-in_err-tell_audit-clause-served

@@ -1,5 +1,5 @@
-use Rattle.std.proofs.Common.{◌∙◌}
-use Rattle.script.proofs.Writing.{pieces_begin, pieces_more, pieces_stop}
+use Rattle.std.proofs.Common.{◌∙◌, refl}
+use Rattle.script.proofs.Writing.{kept_all, pieces_begin, pieces_more, pieces_stop}
 use Rattle.script.proofs.streams.write_through.Goals as goal
 
 pub returns-in-None-clause-begun : goal.returns-in-None-clause-begun
@@ -11,4 +11,4 @@ loop-preserved g c =
     (more.0, more.1, c.in-Some.ensures.noted ∙ c.loop.invariant.2)
 
 pub returns-clause-begun : goal.returns-clause-begun
-returns-clause-begun g c = pieces_begin _ _ _ c.loop.taken c.loop.invariant.1
+returns-clause-begun g c = pieces_begin _ _ _ c.loop.taken (kept_all _ _ _ _ _ refl c.loop.invariant.1 c.give_up.ensures.kept)

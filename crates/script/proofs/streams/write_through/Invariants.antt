@@ -6,5 +6,5 @@ use Rattle.script.proofs.streams.write_through.Given as goal
 abbrev pub invariant-loop : goal.invariant-loop
 invariant-loop g l =
     (l.taken ≤ length l.bytes)
-    × Appends (g.W.Write.contents l.initial.writer) (g.W.Write.contents l.writer) (take l.taken l.bytes)
-    × (l.answers ≡ l.initial.answers)
+    × Appends (g.W.Sink.contents l.initial.writer) (g.W.Sink.contents l.writer) (take l.taken l.bytes)
+    × (g.W.Sink.failed l.writer ≡ g.W.Sink.failed l.initial.writer)

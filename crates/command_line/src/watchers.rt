@@ -1,0 +1,268 @@
+//! The watchers of a run: one tells why beside its replies, and of lines of no form; another writes its history.
+
+use crate::author::told as write_told;
+use crate::session::help_told;
+use commands::{Failure, Status, Stop, Stops, name_failure};
+use explain::{Asked, asked_by, bad_line, retold};
+use journal_commands::{JournalFault, JournalWriter};
+use script::{Command, Flow, LineReply, Noted, Turn, Watch};
+use std::alloc::{AllocError, Global};
+use std::io;
+use std::io::Write;
+use world::World;
+
+/// What a watcher tells.
+#[derive(Clone, Copy)]
+pub struct Telling {
+    /// Of a reply that is refused, denied, failed, waits or found nothing, why that is so.
+    pub of_replies: bool,
+    /// Of a line of no form, what is wrong there.
+    pub of_lines: bool,
+    /// Whether the run goes on behind such a line, and answers lines that ask for help.
+    pub goes_on: bool,
+}
+
+/// A watcher that tells beside the replies what is asked.
+#[derive(Drop)]
+pub struct Teller<'a, E> {
+    alloc: Global,
+    err: &'a mut E,
+    telling: Telling,
+    // How many further policies lines may name.
+    later: usize,
+    // What the line asked that was asked last.
+    asked: Asked,
+    // What is to be told at the next turn.
+    told: String,
+    // Whether memory was wanted for that, and whether the run has gone on behind a line of no form.
+    wants_memory: bool,
+    has_gone_on: bool,
+}
+
+/// Why a watcher that tells ends a run.
+#[derive(Clone, Copy, Debug, PartialEq, Eq)]
+pub enum TellFault {
+    /// Memory was wanted and not to be had.
+    OutOfMemory,
+    /// Nothing can be told.
+    Write,
+}
+
+impl Stops for TellFault {
+    ghost use Rattle.std.specs.Prelude.{⊤};
+
+    ghost stops = { λ stop. ⊤ };
+
+    fn stop(self) -> Stop {
+        match self {
+            TellFault::OutOfMemory => Stop::Named(Failure::OutOfMemory),
+            TellFault::Write => Stop::Quiet(Status::Failed),
+        }
+    }
+}
+
+impl<'a, E: io::Write> Teller<'a, E> {
+    /// One that has seen nothing yet, in a run with so many further policies.
+    pub fn new(alloc: Global, telling: Telling, later: usize, err: &'a mut E) -> Teller<'a, E> {
+        Teller {
+            alloc,
+            err,
+            telling,
+            later,
+            asked: Asked::Nothing,
+            told: String::new(alloc),
+            wants_memory: false,
+            has_gone_on: false,
+        }
+    }
+
+    // What is told of a line of no form.
+    fn line_told(&self, number: u64, line: &[u8], wanted: &str) -> Result<String, AllocError> {
+        if !wanted.is_empty() {
+            format!(in self.alloc; "{wanted}\n")
+        } else if self.telling.of_lines {
+            bad_line(self.alloc, line, number, self.later)
+        } else {
+            Ok(String::new(self.alloc))
+        }
+    }
+
+    // Puts what is told of a line of no form behind the rest, if there is memory for it.
+    fn put_line(&mut self, number: u64, line: &[u8], wanted: &str) {
+        if let Ok(told) = self.line_told(number, line, wanted) {
+            let _ = self.told.push_str(told.as_str());
+        }
+    }
+
+    // What is to be told of a line of no form behind which the run goes on.
+    fn put_and_go_on(&mut self, number: u64, line: &[u8], wanted: &str) -> Result<(), AllocError> {
+        if let Some(help) = help_told(self.alloc, line) {
+            return self.told.push_str(help?.as_str());
+        }
+        self.has_gone_on = true;
+        let failure = Failure::Line(number);
+        writeln!(self.told, "{failure}")?;
+        self.put_line(number, line, wanted);
+        Ok(())
+    }
+
+    // Writes what is to be told.
+    fn pass_on(&mut self, status: Status) -> Status {
+        let status = write_told(self.err, self.told.as_str(), status);
+        self.told.clear();
+        status
+    }
+
+    /// How the command ends after the run that ended so: what is known of a line of no form that ended it is told.
+    pub fn end(&mut self, status: Status) -> Status {
+        match status {
+            Status::Done if self.has_gone_on => Status::Refused,
+            Status::Refused if !self.told.is_empty() => self.pass_on(Status::Refused),
+            status => status,
+        }
+    }
+}
+
+impl<'a, E: io::Write> Watch for Teller<'a, E> {
+    ghost use Rattle.script.specs.Watchers.{anyone};
+
+    type Fault = TellFault;
+
+    ghost watching = { anyone };
+
+    ghost passes_audits = { λ before entries. tt };
+
+    fn asks(&mut self, command: &Command) {
+        if self.telling.of_replies {
+            self.asked = asked_by(command);
+        }
+    }
+
+    fn seen(&mut self, world: &World, number: u64, reply: &LineReply) -> Result<Flow, TellFault> {
+        if !self.telling.of_replies {
+            return Ok(Flow::GoOn);
+        }
+        let told = retold(self.alloc, &mut self.told, world, number, self.asked, reply);
+        if told.is_err() {
+            self.told.clear();
+        }
+        if self.told.is_empty() {
+            Ok(Flow::GoOn)
+        } else {
+            Ok(Flow::Pause)
+        }
+    }
+
+    fn goes_by(&self) -> bool {
+        self.telling.goes_on
+    }
+
+    fn unread(&mut self, number: u64, line: &[u8], wanted: &str, ends: bool) {
+        if ends {
+            self.put_line(number, line, wanted);
+        } else if self.put_and_go_on(number, line, wanted).is_err() {
+            self.wants_memory = true;
+        }
+    }
+
+    fn told(&mut self, _world: &World, _said: Flow) -> Result<Turn, TellFault> {
+        if self.wants_memory {
+            return Err(TellFault::OutOfMemory);
+        }
+        if self.told.is_empty() {
+            return Ok(Turn::GoOn);
+        }
+        match self.pass_on(Status::Done) {
+            Status::Failed => Err(TellFault::Write),
+            _ => Ok(Turn::GoOn),
+        }
+    }
+}
+
+/// A watcher that writes what happened into a journal, and has the audit rotated where half of its places are taken.
+#[derive(Drop)]
+pub struct Recorder<'a, J> {
+    journal: JournalWriter<'a, J>,
+    places: usize,
+    is_full: bool,
+    has_failed: bool,
+}
+
+impl<'a, J: io::Write> Recorder<'a, J> {
+    /// One that has seen nothing yet, of a world with so many places in its audit.
+    pub fn new(journal: JournalWriter<'a, J>, places: usize) -> Recorder<'a, J> {
+        Recorder {
+            journal,
+            places,
+            is_full: false,
+            has_failed: false,
+        }
+    }
+
+    // Writes the last lines of the journal.
+    fn write_end(&mut self, world: &World) -> Result<(), JournalFault> {
+        self.journal.note(world)?;
+        self.journal.end()
+    }
+
+    /// Writes the last lines of the journal, and says how the command ends. Where it has failed already, that was named, and no
+    /// more is.
+    pub fn end<E: io::Write>(
+        &mut self,
+        alloc: Global,
+        world: &World,
+        err: &mut E,
+        status: Status,
+    ) -> Status {
+        if self.has_failed {
+            return status;
+        }
+        match (self.write_end(world), status) {
+            (Ok(()), _) | (Err(_), Status::Failed) => status,
+            (Err(fault), _) => { name_failure(alloc, Failure::from(fault), &mut Noted::new(err)) }
+        }
+    }
+}
+
+impl<'a, J: io::Write> Watch for Recorder<'a, J> {
+    ghost use Rattle.script.specs.Watchers.{anyone};
+
+    type Fault = JournalFault;
+
+    ghost watching = { anyone };
+
+    ghost passes_audits = { λ before entries. tt };
+
+    fn asks(&mut self, _command: &Command) {}
+
+    fn seen(
+        &mut self,
+        world: &World,
+        _number: u64,
+        _reply: &LineReply,
+    ) -> Result<Flow, JournalFault> {
+        if let Err(fault) = self.journal.note(world) {
+            self.has_failed = true;
+            return Err(fault);
+        }
+        if world.core().audit().len() < self.places / 2 {
+            return Ok(Flow::GoOn);
+        }
+        self.is_full = true;
+        Ok(Flow::Pause)
+    }
+
+    fn goes_by(&self) -> bool {
+        false
+    }
+
+    fn unread(&mut self, _number: u64, _line: &[u8], _wanted: &str, _ends: bool) {}
+
+    fn told(&mut self, _world: &World, _said: Flow) -> Result<Turn, JournalFault> {
+        if self.is_full {
+            self.is_full = false;
+            return Ok(Turn::Rotate);
+        }
+        Ok(Turn::GoOn)
+    }
+}

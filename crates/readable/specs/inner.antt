@@ -1,2 +1,0 @@
--- What private clauses and proofs speak of.
-pub mod Ends
