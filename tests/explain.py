@@ -6,7 +6,8 @@ import subprocess
 import sys
 import tempfile
 
-from trial import BARRIER, DEADLINE, FILL, KERNEL, PRELUDE, SAMPLE, TOP, Trials, library_of, run, text
+from against import PLACES, Setting, cases_in, text_in
+from trial import BARRIER, DEADLINE, FILL, KERNEL, PRELUDE, SAMPLE, TOP, Trials, blocks, library_of, run, text
 
 DATA = f"{TOP}/cases"
 ZEROS = "0" * 16
@@ -96,7 +97,8 @@ REFUSED = [
     ("6 OutOfStep", [*PRELUDE, f"submit 1 1 {FILL}", "peek 1", "take 1", "take 1"], ["the next id is 1", "`retire 1`"]),
     ("7 QueueDown by a stop", [*PRELUDE, "stop 1", "stop 1"], ["the queue was stopped"]),
     ("7 QueueDown by an error", [*packet("FILL_PAST_END"), f"submit 1 1 {FILL}", "serve 1"], ["the error `queue 1 packet 0 rule L8`"]),
-    ("8 NotInFlight", [*PRELUDE, "run 1 0"], ["was not handed over yet"]),
+    ("8 NotInFlight", [*PRELUDE, "run 1 0"], ["nobody has reserved id 0 of queue 1"]),
+    ("8 of one that is published", [*PRELUDE, f"submit 1 1 {FILL}", "run 1 0"], ["packet 0 of queue 1 was not handed over yet: `serve 1`\n"]),
     ("8 of a barrier", [*HELD, "run 1 0"], ["it is a barrier packet"]),
     ("8 of a dispatch", [*LAUNCHED, "poll 1 0"], ["it is a dispatch"]),
     ("8 that left", [*LAUNCHED, "run 1 0", "finish 1 0", "finish 1 0"], ["has left flight since"]),
@@ -124,6 +126,70 @@ REFUSED = [
     ("waiting Active", [*LAUNCHED, f"submit 1 1 {NAMES['FILL_WITH_BARRIER_BIT']}", "serve 1"], ["its barrier bit is set", "packet 0 of queue 1 is in flight"]),
     ("waiting Slots", [*PRELUDE, *[f"submit 1 1 {FILL}", "serve 1"] * 9], ["eight packets of its queue", "packet 7 of queue 1"]),
     ("B1", [*PRELUDE, f"submit 1 1 {NAMES['BARRIER_AND_OF_GO']}", "serve 1", "signal alice go store -1", "poll 1 0"], ["it depends on signal go, whose value is -1"]),
+]
+
+GRANTED = ["grant alice agent gpu USE", "queue alice gpu 2 1"]
+WIDE = ["grant alice agent gpu USE", "queue alice gpu 2 2"]
+# a barrier-AND and a barrier-OR that depend on no signal, and a COPY within `buf`
+READY, NEVER = ("0300" + "0" * 124, "0500" + "0" * 124)
+STORED = ["reserve 1 1", "room 1 1 0", *[f"word 1 1 0 {at} {ZEROS}" for at in range(1, 8)]]
+MANY = "its entry, and one that is kept for the packet's end"
+
+# What a new user met: the words of the command line behind `run`, the script, what has to be told and what may not be, and the
+# lines that are advised, with the reply to the last of them.
+WALKED = [
+    ("an id that nobody reserved", [], [*GRANTED, "run 1 9"], ["nobody has reserved id 9 of queue 1: the next is 0, and `submit 1 PRODUCER PACKET`"], ["`serve 1`"], [], None),
+    ("an id that isn't published", [], [*WIDE, "reserve 1 2", "run 1 0"], ["id 0 of queue 1 is reserved, and not published: `publish 1 2 0 PACKET`, and then `serve 1`\n"], [], [f"publish 1 2 0 {READY}", "serve 1"], "launched 0"),
+    ("an id behind one that isn't published", [], [*WIDE, "reserve 1 2", f"submit 1 1 {READY}", "poll 1 1"], ["ticket 0 stands before it, and isn't published: `publish 1 2 0 PACKET`, and then `serve 1`\n"], [], [f"publish 1 2 0 {READY}", "serve 1"], "launched 0"),
+    ("a packet of a stopped queue", [], [*GRANTED, f"submit 1 1 {READY}", "stop 1", "run 1 0"], ["packet 0 of queue 1 was not handed over, and the queue was stopped, and launches nothing more: open another"], ["`serve 1`"], ["queue alice gpu 2 1"], "queue 2"),
+    ("a packet of a queue that is down", [], [*GRANTED, f"submit 1 1 {FILL}", f"submit 1 1 {READY}", "serve 1", "poll 1 1"], ["packet 1 of queue 1 was not handed over, and the queue has the error `queue 1 packet 0 rule L8`"], ["`serve 1`"], [], None),
+    ("a packet that nobody reserved of a stopped queue", [], [*GRANTED, "stop 1", "run 1 9"], ["packet 9 of queue 1 was never reserved, and the queue was stopped"], ["`serve 1`", "`submit"], [], None),
+    ("a header of a stopped queue", [], [*GRANTED, f"submit 1 1 {READY}", "stop 1", "peek 1", "clear 1"], ["neither launched nor denied, and won't be: the queue was stopped"], ["`take 1`"], [], None),
+    ("the head of a stopped queue", [], [*GRANTED, f"submit 1 1 {READY}", "stop 1", "clear 1"], ["line 5: the packet at the read index is neither launched nor denied, and won't be: the queue was stopped"], ["`take 1`", "`look 1`"], [], None),
+    ("an empty ring of a stopped queue", [], [*GRANTED, "stop 1", "serve 1"], ["none would be served: the queue was stopped, and launches nothing more: open another with `queue`\n"], ["`submit"], ["queue alice gpu 2 1"], "queue 2"),
+    ("a full ring of a stopped queue", [], [*GRANTED, *[f"submit 1 1 {READY}"] * 2, "stop 1", f"submit 1 1 {READY}"], ["the head stays there: the queue was stopped"], ["`serve` the queue"], [], None),
+    ("a full ring with a gap", [], [*WIDE, "reserve 1 1", *[f"submit 1 2 {READY}"] * 2], ["ticket 0 stands at the head, and isn't published: `publish 1 1 0 PACKET`, `serve 1`, and then `publish` under ticket 2\n"], [], [f"publish 1 1 0 {READY}", "serve 1", f"publish 1 2 2 {READY}"], "published 2"),
+    ("a take behind a clear", [], [*GRANTED, f"submit 1 1 {READY}", "peek 1", "take 1", "clear 1", "take 1"], ["and its header cleared; the next id is 1: `advance 1` goes on to it\n"], ["`retire 1`"], ["advance 1"], "read 1"),
+    ("a header of type INVALID", [], [*GRANTED, *STORED, "word 1 1 0 0 0100000000000000"], ["a header of type 1, INVALID, publishes nothing: store one of type 2 to 5 as word 0\n"], ["first `room`"], ["word 1 1 0 0 0300000000000000"], "ok"),
+    ("a header before its body", [], [*GRANTED, *STORED[:-1], "word 1 1 0 0 0300000000000000"], ["word 7 isn't stored, and the header, word 0, comes last\n"], ["first `room`"], [STORED[-1]], "ok"),
+    ("a ninth word", [], [*GRANTED, *STORED, f"word 1 1 0 8 {ZEROS}"], ["a packet has the words 0 to 7, and 8 is none of them\n"], ["first `room`"], [], None),
+    ("no room seen", [], [*GRANTED, *[f"submit 1 1 {READY}"] * 2, "reserve 1 1", "room 1 1 2", f"word 1 1 2 1 {ZEROS}"], ["its last `room` saw the read index 0, and there is room at 1: `serve` the queue, and `room` once more\n"], [], ["serve 1", "room 1 1 2", f"word 1 1 2 1 {ZEROS}"], "ok"),
+    ("a part of no number", [], [*GRANTED, f"submit 1 1 {READY}", "look 1", "part 1 8"], ["a packet's body has the words 1 to 7\n"], ["`part 1 K`"], ["part 1 7"], "word " + ZEROS),
+    ("a full audit", ["--audit", "2"], [*GRANTED, "stop 1"], ["the audit has 2 places: 2 are taken, and 0 are kept for packets in flight\n", "`rotate` hands the entries out"], [MANY, "--audit N"], ["rotate", "stop 1"], "ok"),
+    ("a launch in an audit with one place", ["--audit", "3"], [*GRANTED, f"submit 1 1 {READY}", "serve 1"], ["3 places: 2 are taken", "a launch wants 2: one for " + MANY, "`rotate` hands the entries out"], [], ["rotate", "serve 1"], "launched 0"),
+    ("a launch in an audit of one place", ["--audit", "1"], [GRANTED[0], "rotate", GRANTED[1], "rotate", f"submit 1 1 {READY}", "serve 1"], ["1 places: 0 are taken", MANY, "begin anew with a greater `--audit N`\n"], ["hands the entries out"], [], None),
+    ("a barrier-OR of no signals", [], [*GRANTED, f"submit 1 1 {NEVER}", "serve 1"], ["line 4: barrier packet 0 of queue 1 waits for any of no signals, and never gets ready: `stop 1` or `close 1` ends it\n"], ["`poll 1 0`"], ["stop 1"], "ok"),
+    ("a poll of a barrier-OR of no signals", [], [*GRANTED, f"submit 1 1 {NEVER}", "serve 1", "poll 1 0"], ["line 5: barrier packet 0 of queue 1 waits for any of no signals"], ["`poll 1 0`"], ["close 1"], "ok"),
+    ("an unfinished barrier-OR of no signals", [], [*GRANTED, f"submit 1 1 {NEVER}", "serve 1", "finish 1 0"], ["line 5: barrier packet 0 of queue 1 waits for any of no signals"], ["`poll 1 0`"], ["close 1"], "ok"),
+    ("two lacks of an opening", [], ["queue alice gpu 3 1"], ["alice has no USE on agent gpu", "grant alice agent gpu USE\n", "3 slots and 1 producers are asked for\n"], [], [GRANTED[0], "queue alice gpu 4 1"], "queue 1"),
+    ("two lacks of a read", [], ["read bob 0000000100000000 65537"], ["65537 are asked for\n", "bob has no READ on region buf", "grant bob region buf READ\n"], [], ["grant bob region buf READ", "read bob 0000000100000000 1"], "bytes 00"),
+    ("a size alone", [], [GRANTED[0], "queue alice gpu 3 1"], ["3 slots and 1 producers are asked for\n"], ["USE"], [], None),
+    ("a right that a call lacks", [], ["load alice go"], ["this line mends it, before it or before it once more:\ngrant alice signal go WAIT\n"], [], ["grant alice signal go WAIT", "load alice go"], "value 1"),
+    ("what goes on behind a denial", [], [*GRANTED, f"submit 1 1 {NAMES['COPY']}", "serve 1"], ["behind it queue 1 launches nothing more: mend it, open another by `queue alice gpu SIZE PRODUCERS`, and submit it there\n"], [], ["grant alice region buf READ,WRITE", "grant alice signal done CHANGE", "queue alice gpu 2 1", f"submit 2 1 {NAMES['COPY']}", "serve 2"], "launched 0"),
+    ("two rights on a region", [], [*GRANTED, f"submit 1 1 {NAMES['COPY']}", "serve 1"], ["alice has no READ on region buf", "alice has no WRITE on region buf", "\ngrant alice region buf READ,WRITE\n"], ["buf READ\n", "buf WRITE\n"], [], None),
+    ("a signal twice", [], [*GRANTED, "submit 1 1 0300000000000000" + "0200000000000000" * 2 + "0" * 80, "serve 1"], ["grant alice signal go WAIT\n"], ["go WAIT\nline 4: alice has no WAIT on signal go"], [], None),
+    ("a kernel that isn't declared", [], [*PRELUDE, f"submit 1 1 {NAMES['KERNEL_99']}", "serve 1"], ["alice has no LAUNCH on kernel 99, which the policy doesn't declare\n", "name an object of the policy; it has inc, spin\n"], ["declare, which"], [], None),
+    ("a block behind its region", [], [*PRELUDE, f"submit 1 1 {KERNEL[:80]}2000000002000000{KERNEL[96:]}", "serve 1"], ["the 8 bytes from 0000000200000020 on begin behind region args (0000000200000000 to 000000020000000f)\n"], ["don't end in"], [], None),
+    ("a dispatch that ran", [], [*LAUNCHED, "run 1 0", "revoke alice region buf WRITE"], ["a packet in flight holds WRITE on region buf", "packet 0 of queue 1 is in flight, and all its groups ran: `finish 1 0`\n"], ["`run 1 0`"], ["finish 1 0", "revoke alice region buf WRITE"], "ok"),
+    ("a dispatch with a group left", [], [*PRELUDE, f"write alice {0x200000000:016x} 0000000001000000", f"submit 1 1 {KERNEL}", "serve 1", "run 1 0", "revoke alice kernel inc LAUNCH"], ["a packet in flight holds LAUNCH on kernel inc", "`run 1 0` until no group is left, and `finish 1 0`\n"], ["all its groups ran"], ["run 1 0", "finish 1 0", "revoke alice kernel inc LAUNCH"], "ok"),
+    ("rights that are held", [], [*LAUNCHED, "revoke alice signal done WAIT,CHANGE"], ["a packet in flight holds WAIT or CHANGE on signal done: it is released once that is finished\n"], [], [], None),
+    ("a ready barrier packet", [], [*GRANTED, *[f"submit 1 1 {READY}", "serve 1"] * 2], ["barrier packet 0 of queue 1 is in flight, and ready: `finish 1 0`\n"], ["`poll 1 0`"], ["finish 1 0", "serve 1"], "launched 1"),
+    ("a signal that came to 0", [], [*HELD, "signal alice go store 0", "finish 1 0"], ["it waits for signal go, whose value is 0: the next `poll` sees that\n", "it waits for signal done, whose value is 1\n"], [], [], None),
+    ("a pending barrier packet", [], [*HELD, "poll 1 0"], ["it waits for signal done, whose value is 1\n", "it waits for signal go, whose value is 1\n"], [], ["signal alice go store 0", "signal alice done store 0", "poll 1 0"], "ready"),
+    ("a dispatch that is done", [], [*LAUNCHED, "run 1 0", "run 1 0"], ["all groups of packet 0 of queue 1 ran before: `finish 1 0` is left\n"], [], ["finish 1 0"], "ok"),
+    ("what a drain left", ["--readable"], [*PRELUDE, "all-of 1 1 go", "drain"], ["line 9: it waits for signal go, whose value is 1\n"], [], ["signal alice go store 0", "drain 1"], "drained launched 0 denied 0 ran 0 faulted 0 ready 1 failed 0 finished 1 waiting 0"),
+    ("bytes of a readable write", ["--readable"], ["write alice buf 0"], ["`0`, word 4, isn't understood", "it has 1 digit, and a byte has 2\n"], ["`buf`"], [], None),
+    ("no length of a readable read", ["--readable"], ["read alice buf"], ["it has 3 words, and its form 4\n"], ["`buf`"], [], None),
+    ("a length in letters of a readable read", ["--readable"], ["read alice buf four"], ["`four`, word 4, isn't understood: there stands a decimal number"], ["`buf`"], [], None),
+    *[(f"a readable line: {line}", [], [line], [f"`{line.split()[0]}` begins a readable line: `brokerd run --readable` takes it\n"], ["nearest"], [], None) for line in ("fill 1 1 buf length 4 with 1", "copy 1 1 buf to buf length 4", "add 1 1 1 to buf", "drain", "drain 1", "all-of 1 1", "any-of 1 1 go", "dispatch alice 1 1 inc grid 4 group 2")],
+    ("a region's name", [], ["read alice buf 4"], ["`buf`, word 3, isn't understood", "`brokerd run --readable` takes a region's name there too"], [], [], None),
+    *[(f"{word} as a line", [], [word], [f"`{word}` is no word that a line begins with\n", told], ["nearest"], [], None) for word, told in (("quit", "it ends where its lines do, at a prompt by Ctrl-D"), ("exit", "it ends where its lines do"), ("help", "`brokerd explain lines`, lists the forms of lines"), ("?", "`brokerd explain lines`"), ("state", "`list CLIENT`, `errors Q`"), ("xyzzy", "`brokerd explain lines`"))],
+    ("the digits of a packet", [], [f"submit 1 1 {FILL[:-1]}"], ["it has 127 digits, and 128 are wanted\n"], [], [], None),
+    ("a strange digit of a packet", [], [f"submit 1 1 {FILL[:-1]}z"], ["of its 128 characters, number 128, `z`, is no hexadecimal digit\n"], [], [], None),
+    ("the digits of an address", [], ["read alice 00000001000000 8"], ["it has 14 digits, and 16 are wanted\n"], [], [], None),
+    ("a number past 64 bits", [], ["run 1 18446744073709551616"], ["it is past 64 bits: 18446744073709551615 is the most\n"], [], [], None),
+    ("a number past 64 bits with a sign", [], ["signal alice done add -99999999999999999999"], ["it is past 64 bits: -9223372036854775808 is the least, and 9223372036854775807 the most\n"], [], [], None),
+    ("one word", [], ["grant"], ["it has 1 word, and its form 5\n"], [], [], None),
 ]
 
 # Lines of no form.
@@ -156,8 +222,10 @@ POLICIES = [
     ("2 MissingKey", b'[[client]]\nname = "a"\n[[agent]]\nname = "b"\n', [", line 3: the row has no `takes`"]),
     ("3 BadValue", b'[[region]]\nname = "buf"\nlength = 0\n', [", line 3, column 10: `length` is 0, and there may stand a number of bytes"]),
     ("3 of a name", b'[[client]]\nname = "a b"\n', [", line 2, column 8: `name` is `a b`"]),
-    ("3 of a key", b'[[client]]\nname = "a"\nage = 1\n', [", line 3, column 7: the key `age` is none", "it has name"]),
-    ("3 of the file", b'versions = 1\n', [", line 1, column 12: the key `versions` is none that a policy has"]),
+    ("3 of a key", b'[[client]]\nname = "a"\nage = 1\n', [", line 3, column 1: the key `age` is none", "it has name"]),
+    ("3 of the file", b'versions = 1\n', [", line 1, column 1: the key `versions` is none that a policy has"]),
+    ("3 of a key in brackets", b'client = [{name = "a", age = 1}]\n', [", line 1, column 24: the key `age` is none"]),
+    ("4 of no rows", b'[[client]]\nname = "a"\n[[allow]]\nclient = "a"\nkind = "agent"\nobject = "g"\nrights = []\n', ["no row of `agent` has the name `g`; there is no such row\n"]),
     ("3 of the version", b'version = 3\n', [", line 1, column 11: `version` is 3, and there may stand 1, or 2"]),
     ("3 of deny rows", b'deny = []\n', ["`version = 2`"]),
     ("3 of an array", b'client = 1\n', [", line 1, column 10: `client` has to be an array of rows"]),
@@ -171,6 +239,8 @@ POLICIES = [
     ("read", b"[[kernel]]\nname = \"k\"\nentry = \"&k\"\ntext = '''\nmodule &m:1:0:$base:$large:$default;\nkernel &k() { nop; };\n'''\n", [", line 6, column 15: kernel k, in its text:", "read 3 line 2 column 15", "kernel &k() { nop; };", "^^^"]),
     ("read in one line", b"[[kernel]]\nname = \"k\"\nentry = \"&k\"\ntext = 'module &m:1:0:$base:$large:$default; kernel &k() { nop; };'\n", [", line 4, column 60: kernel k, in its text:", "read 3 line 1 column 52"]),
     ("read after an escape", b"[[kernel]]\nname = \"k\"\nentry = \"&k\"\ntext = \"module &m:1:0:$base:$large:$default;\\n kernel &k() { ret };\"\n", [", line 4, column 8: kernel k, in its text:", "read 2 line 2 column 20", ", line 4, column 8: in line 2 of the text, a `;` is missing here\n"]),
+    ("read to its end", b"[[kernel]]\nname = \"k\"\nentry = \"&k\"\ntext = '''\nmodule &m:1:0:$base:$large:$default;\nkernel &k() {\n'''\n", ["the text ends here, and its module doesn't: a kernel ends with `};`\n"]),
+    ("read of nothing", b"[[kernel]]\nname = \"k\"\nentry = \"&k\"\ntext = ''\n", ["the text is empty: a module begins with `module &NAME:1:0:$base:$large:$default;`\n"]),
     ("3 in brackets", b'client = [{name = "a"}, {name = "b c"}]\n', [", line 1, column 33: `name` is `b c`"]),
     ("3 in brackets of lines", b'version = 1\nclient = [ # those\n  {name = "a"},\n  {"name" = "b c"},\n]\n', [", line 4, column 13: `name` is `b c`"]),
     ("3 of an array in brackets", b'agent = [{name = "a", takes = ["kernel"]}, {name = "b", takes = ["kernels"]}]\n', [", line 1, column 65: `takes` is an array of `kernels`"]),
@@ -210,6 +280,8 @@ KERNELS = [
     ("bits of one", "  mov_b32 $s0, 0f3f800000;", [", line 7, column 16: `0f3f800000` is a floating number, and the profile has none\n"]),
     ("one with an exponent", "  mov_b32 $s0, 1e5;", ["`1e5` is a floating number, and the profile has none\n"]),
     ("work on floating numbers", "  add_f32 $s0, $s0, $s0;", ["read 3 line 3", ", line 7, column 3: `add_f32` works on floating numbers, and the profile has none\n"]),
+    ("the register of another class", "  mov_b32 $s1, $d12;", [", line 7, column 16: `$d12`: what has 32 bits here lies in a register `$s`\n"]),
+    ("the register of 1 bit", "  cbr_b1 $s1, @x;\n@x:", [", line 7, column 10: `$s1`: what has 1 bit here lies in a register `$c`\n"]),
     ("check 7 BadAddress", "  ld_global_u32 $s0, [$s1];", ["check 7 line 3", "ld_global_u32 $s0, [$s1];"]),
 ]
 
@@ -239,6 +311,9 @@ FAULTS = [
     ("A1 of the argument block", "st_global_u32 1, [0x200000004];", None, ["breaks A1", "a store of 4 bytes to 0000000200000004, which wants WRITE: the packet holds no right on region args (0000000200000000 to 000000020000001f)\n", "no argument of 64 bits points into region args (0000000200000000 to 000000020000001f): a packet holds rights on regions into which one does\n"]),
     ("A2 atomic", "atomicnoret_add_global_rlx_wg_u64 [$d2], 1;", None, ["breaks A2", "an atomic operation on 8 bytes at 0000000400000000, which wants READ and WRITE: the packet holds no READ on region output (0000000400000000 to 0000000400000007)\n", "grant alice region output READ"]),
     ("A1 without wide arguments", "", NARROW, ["breaks A1 in line 4", "a load of 2 bytes from 0000000100000000, which wants READ: the packet holds no right on region buf (0000000100000000 to 000000010000003f)\n", "the kernel has no argument of 64 bits"]),
+    ("A1 and A3", "ld_global_u64 $d4, [$d3+4];", None, ["breaks A1", "with the right it breaks A3: it begins in the region, and ends behind it\n", "behind it queue 1 launches nothing more: mend it, open another by `queue alice gpu SIZE PRODUCERS`, and submit it there\n"]),
+    ("A2 and A4", "atomicnoret_add_global_rlx_wg_u32 [$d2+2], 1;", None, ["breaks A2", "with the right it breaks A4: its address is no multiple of its size\n"]),
+    ("A1 of two rights", "atomicnoret_add_global_rlx_wg_u64 [$d3], 1;", None, ["breaks A1", "alice has no READ on region other", "alice has no WRITE on region other", "\ngrant alice region other READ,WRITE\n"]),
     ("A5", "", LOOP, ["breaks A5 in line 5", "65536"]),
     ("A7", "ld_group_u32 $s0, [0];", None, ["breaks A7", "4 bytes of group memory at byte 0: it ends behind the group segment, which has 0 bytes"]),
 ]
@@ -281,6 +356,17 @@ class Explained:
         again = run([self.program, "run", SAMPLE, "--explain"], text([*script[:failed], *proposed, *script[failed:]]))
         last = again.out.decode().split("\n")[-2]
         return f"not mended: {again}" if again.err or last.startswith(("refused", "denied")) else None
+
+    def walked(self, it):
+        """What is told, what isn't, and that the advice is good."""
+        _, options, script, words, absent, advised, reply = it
+        told, wrong = self.both("run", SAMPLE, script, *options)
+        wrong = wrong or self.has(told, words)
+        err = told.err.decode()
+        if wrong or any(each in err for each in absent):
+            return wrong or f"told: {err}"
+        again = run([self.program, "run", SAMPLE, *options], text([*script, *advised])).out.decode()
+        return f"{reply} isn't the last reply: {again}" if reply and again.split("\n")[-2] != reply else None
 
     def bad(self, it):
         _, line, words = it
@@ -411,7 +497,7 @@ def audit(trials, explained):
 
     inputs = [
         (7, [*PRELUDE, "stop 1"], ["the audit has 7 places: 7 are taken, and 0 are kept for packets in flight"]),
-        (10, [*LAUNCHED, "signal alice go add 1", "signal alice go add 1"], ["the audit has 10 places: 9 are taken, and 1 are kept for packets in flight"]),
+        (10, [*LAUNCHED, "signal alice go add 1", "signal alice go add 1"], ["the audit has 10 places: 9 are taken, and 1 is kept for packets in flight"]),
     ]
     trials.every("a full audit tells of its places", trial, inputs)
 
@@ -480,7 +566,7 @@ class Form:
                 yield [*right[:at], bad, *right[at + 1 :]], [f"`{bad[:32]}", f", word {at + 1}, isn't understood: there stands {of}\n", form]
         yield [*right, "1"], [f"it has {count + 1} words, and its form {count}\n", form]
         if count > 1:
-            yield right[:-1], [f"it has {count - 1} words, and its form {count}\n", form]
+            yield right[:-1], [f"it has {count - 1} word{'s' if count > 2 else ''}, and its form {count}\n", form]
         yield [right[0] + "x", *right[1:]], [f"`{right[0]}x` is no word that a line begins with\n", f"the nearest form is `{right[0]}"]
 
 
@@ -549,6 +635,110 @@ def privacy(trials, explained):
     trials.every("no right of another client is told", trial, inputs)
 
 
+# The kinds of refusals, denials and faults for which lines are proposed, and whether such a line can mend them: a size is another line's.
+KINDS = {"refused 3 Denied": True, "refused 11 BadSize": False, **{f"rule {it}": True for it in ("L4", "L6", "L8", "L9", "L10", "A1", "A2")}}
+TOLD = re.compile(r"line (\d+): ")
+
+
+class Proposed:
+    """The lines that explanations of a script's run propose, each where it says: the script is run again with them."""
+
+    def __init__(self, program, policy, further, places, script):
+        self.words, self.places = [program, "run", policy, *further, "--explain", "--audit"], places
+        self.script = script
+
+    def ran(self, script):
+        """The replies by the numbers of their lines, and what is told, by these numbers; lines that were put there have places of their own."""
+        ended = run([*self.words, str(self.places + len(script) - len(self.script))], text(script))
+        asked = [at for at, line in enumerate(script, 1) if line.split() and not line.startswith("#")]
+        replies = dict(zip(asked, blocks([script[at - 1] for at in asked], ended.out) or []))
+        told, at = {}, 0
+        for line in ended.err.decode(errors="replace").splitlines():
+            found = TOLD.match(line)
+            at = int(found[1]) if found else at
+            told.setdefault(at, []).append(line)
+        return replies, told
+
+    def place(self, replies, at):
+        """Before which line what is proposed for a line has to stand: of a fault, before its packet's launch."""
+        found = re.match(r"faulted queue (\d+) packet (\d+) ", replies[at])
+        if not found:
+            return at
+        launches = [it for it in replies if it < at and replies[it] == f"launched {found[2]}" and self.script[it - 1].split()[1] == found[1]]
+        return launches[-1] if launches else at
+
+    def each(self):
+        """The kind of each line for which lines are proposed, and what came of it with these: `mended`, `another` cause, or what is wrong."""
+        replies, told = self.ran(self.script)
+        for at, lines in told.items():
+            grants = [line for line in lines if line.startswith("grant ")]
+            kind = next((it for it in KINDS if at in replies and re.search(rf"{it}\b", replies[at].split("\n")[0])), None)
+            if grants and at in replies:
+                yield kind or replies[at], self.outcome(at, grants, replies)
+
+    def outcome(self, at, grants, replies):
+        before = self.place(replies, at) - 1
+        again, told = self.ran([*self.script[:before], *grants, *self.script[before:]])
+        moved = at + len(grants)
+        reply = again.get(moved, "")
+        if not reply.startswith(("refused", "denied", "faulted", "failed")):
+            return "mended"
+        # (a full audit refuses these lines too: it is explained in turn)
+        given = [again.get(before + 1 + it) for it in range(len(grants))]
+        if "refused 10 AuditFull" in given:
+            return "another"
+        repeated = [line for line in told.get(moved, []) if line in grants]
+        refused = [it for it in given if it != "ok"]
+        return f"{self.script} line {at}, with {grants}: {reply}, {told.get(moved)}" if repeated or refused else "another"
+
+
+def scripts_of_cases(room):
+    """Each script of the cases, once: the policy, the further ones, the places, and its lines."""
+    seen = set()
+    with open(f"{DATA}/files") as names:
+        paths = [f"{DATA}/{line.split()[0]}" for line in names]
+    for path in paths:
+        head, cases = cases_in(text_in(path))
+        if head.kind != "scripts":
+            continue
+        setting = Setting(path, head)
+        for case in cases:
+            settings = setting.settings(case)
+            script = setting.after_front(setting.asked(case, 0))
+            key = (settings.policy, *settings.further, settings.places, script)
+            if key not in seen and b"\0" not in script and len(script) < 20_000:
+                seen.add(key)
+                yield settings.policy.encode(), settings.further, settings.places, script.decode(errors="replace").splitlines()
+
+
+def proposals(trials, explained, room):
+    """For all refusals and denials of the cases: the line that is proposed is put where it says, and the script is run again."""
+    files, found = {}, {}
+
+    def file_of(policy):
+        if policy not in files:
+            files[policy] = f"{room}/proposed-{len(files)}.toml"
+            with open(files[policy], "wb") as it:
+                it.write(policy)
+        return files[policy]
+
+    scripts = [(file_of(policy), [file_of(it) for it in further], places, script) for policy, further, places, script in scripts_of_cases(room)]
+    scripts += [(file_of(access_policy(line, body).encode()), [], PLACES, access_script()) for _, line, body, _ in FAULTS]
+
+    def trial(it):
+        policy, further, places, script = it
+        for kind, outcome in Proposed(explained.program, policy, further, places, script).each():
+            if kind not in KINDS or outcome not in ("mended", "another"):
+                return f"{kind}: {outcome}"
+            found[kind, outcome] = found.get((kind, outcome), 0) + 1
+        return None
+
+    trials.every("the lines that are proposed for what the cases are refused mend it", trial, scripts)
+    mended = lambda kind: None if bool(found.get((kind, "mended"))) == KINDS[kind] else f"{found}"
+    told = lambda: ", mended of tried: " + ", ".join(f"{kind} {found.get((kind, 'mended'), 0)} of {sum(count for (of, _), count in found.items() if of == kind)}" for kind in KINDS)
+    trials.every("of each kind that a line can mend, and of no other, one is mended", mended, KINDS, told)
+
+
 def cost(trials, explained):
     """Explanations after a long history take no more time than without one, and keep nothing."""
     changes, refused = ["signal alice done add 1"] * 50_000, ["finish 1 0", "read bob 0000000100000000 8"] * 5_000
@@ -582,10 +772,12 @@ def main(program):
     trials.every("each rule of a denied packet is told", explained.script, DENIED)
     trials.every("the line that is proposed mends what was denied", explained.mended, MENDED)
     trials.every("each refusal, and what waits or is empty, is told", explained.script, REFUSED)
+    trials.every("what a new user met is told, and what is advised is done", explained.walked, WALKED)
     trials.every("a line of no form is told with the nearest", explained.bad, BAD)
     with tempfile.TemporaryDirectory(prefix="explain-") as room:
         policies(trials, explained, room)
         faults(trials, explained, room)
+        proposals(trials, explained, room)
     cost(trials, explained)
     audit(trials, explained)
     order(trials, explained)

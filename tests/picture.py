@@ -274,7 +274,7 @@ def ranges(trials, program):
     trials.every("two hundred packets fit on a screen", fits, [1, 50, 200])
     shrinks = lambda packets: None if ((it := Page(drawn(program, long_script(packets))).tree).get("style") is None) == (int(it.get("width")) > 1920) else "it is shown otherwise"
     trials.every("a page wider than a screen isn't shrunk", shrinks, [1, 200, 400])
-    trials.every("a range of entries is drawn", asked, [(None, None), (1, None), (None, 1), (300, 420), (300, None), (None, 420), (607, 607), (5000, None), (9, 7)])
+    trials.every("a range of entries is drawn", asked, [(None, None), (1, None), (None, 1), (300, 420), (300, None), (None, 420), (607, 607), (5000, None)])
     trials.every("a range of entries is drawn behind a rotation", behind, [(100, 80), (100, 200), (401, 1), (402, 310)])
     trials.every("of more entries than five thousand the last ones are drawn", lambda it: wrong_page(wholer, drawn(program, longer), len(wholer[1]) - 5000), [longer])
 

@@ -140,6 +140,8 @@ def sessions(trials, program):
         (["help L8", "help AuditFull"], [], 0, b"", ["rule L8:", "refused 10 AuditFull:"], []),
         (["help"], [], 0, b"", [cells[0].strip("`") .split(" ")[0] for verb, (cells, *_) in forms.items() if verb in ("grant", "serve", "reload", "audit")], ["bad request"]),
         (["help mend", "helper"], [], 1, b"", ["nothing is called `mend`", "line 2: bad request"], ["line 1: bad request"]),
+        (["help scripts", "help readable"], [], 0, b"", ["`brokerd help scripts` prints the page of this name", "`brokerd help readable`"], ["nothing is called"]),
+        (["nonsense", "quit", "list bob"], ["--journal", "/dev/null"], 1, b"list 0\n", ["line 1: bad request", "line 2: no line ends a run"], []),
         (["load alice done", "x", "list bob"], ["--strict"], 1, b"refused 3 Denied WAIT\n", ["alice has no WAIT"], ["bad request"]),
         (["x", "list bob"], ["--strict"], 1, b"", ["line 1: bad request"], []),
         (["fill 1", "list bob # nobody", "drain"], ["--readable"], 1, b"list 0\ndrained launched 0 denied 0 ran 0 faulted 0 ready 0 failed 0 finished 0 waiting 0\n",

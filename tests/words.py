@@ -2,6 +2,7 @@
 """Each word of the command line: what it does, the text on each stream, and the exit status: words.py PROGRAM"""
 import os
 import re
+import subprocess
 import sys
 import tempfile
 
@@ -57,7 +58,7 @@ WRONG = [
     (["completions"], ["SHELL"]),
     (["completions", "tcsh"], ["tcsh", "bash", "zsh", "fish"]),
     (["check", SAMPLE, "--explain=maybe"], ["maybe", "always", "never"]),
-    (["run", *[SAMPLE] * 18], ["[NEXT]"]),
+    *[([command, *[SAMPLE] * 18], ["at most 16 further policies"]) for command in ("run", "picture", "replay")],
     (["run", *[SAMPLE] * 10, "--strict", *[SAMPLE] * 8], ["16"]),
     (["threads", SAMPLE], ["--producers"]),
     (["threads", "--producers", "2"], ["POLICY"]),
@@ -198,6 +199,67 @@ def texts(trials, program):
     trials.every("assemble passes other lines on", lambda it: wants(answer(program, ["assemble", SAMPLE], it), 0, it), [passed_on, b""])
 
 
+def walked(trials, program, room):
+    """What a new user types, and what is told."""
+
+    def told(it):
+        words, given, status, wanted = it
+        ended = answer(program, words, given)
+        err = ended.err.decode()
+        return None if ended.status == status and all(each in err for each in wanted) else f"it ended otherwise: {ended}"
+
+    script, other, nowhere = f"{room}/a.script", f"{room}/other.toml", f"{room}/nowhere/journal"
+    with open(script, "w") as it:
+        it.write("# a script\ngrant alice agent gpu USE\n")
+    with open(other, "w") as it:
+        it.write("version = 3\n")
+    with open(SAMPLE, "rb") as it:
+        sample = it.read()
+    trials.every("what is wrong with the words of a command line is told", told, [
+        (["run", SAMPLE, script, "--explain"], b"", 1, [f"{script}: this looks like a script, as its line 2 begins with `grant`"]),
+        (["run", SAMPLE, other, "--explain"], b"", 1, [f"{other}, line 1, column 11: `version` is 3"]),
+        (["run", SAMPLE, "--explain", "never"], b"", 3, ["never: there is no such file\n", "`--explain=never`, with `=`\n"]),
+        (["check", "always", "--explain"], b"", 3, ["`--explain=always`, with `=`\n"]),
+        (["run", "-", "--explain"], sample, 0, ["-: the policy is read from standard input, where no script is left: name the policy's file\n"]),
+        (["run", SAMPLE, "--explain", "--journal", nowhere], b"", 3, ["write fault\n", f"{nowhere}: there is no such folder\n"]),
+        (["run", SAMPLE, "--explain", "--journal", room], b"", 3, ["write fault\n", f"{room}: it is a directory, and a file is asked for\n"]),
+        (["threads", SAMPLE, "--producers", "1", "--explain", "--journal", nowhere], b"", 3, ["write fault\n", f"{nowhere}: there is no such folder\n"]),
+        (["picture", SAMPLE, "--from", "3", "--to", "2"], b"", 2, ["the entry of --from is behind that of --to"]),
+        (["picture", SAMPLE, "--from", "5", "--explain"], b"grant alice agent gpu USE\nqueue alice gpu 2 1\n", 0, ["--from 5: the last entry is 2\n"]),
+        (["picture", SAMPLE, "--from", "1", "--explain"], b"", 0, [""]),
+        (["decode", "z" + FILL[1:]], b"", 2, ["128 characters are given: number 1, `z`, is no digit\n"]),
+        (["decode", FILL[:-1]], b"", 2, ["127 characters are given\n"]),
+        (["explain", "rule"], b"", 2, ["`rules`, `refusals`, `policy` and `kernel`"]),
+    ])
+
+    def streamed(it):
+        how, given, wanted = it
+        ran = subprocess.run(["sh", "-c", f'"$0" run "$1" --explain {how}', program, SAMPLE, room], input=given, capture_output=True)
+        return None if (ran.returncode, ran.stderr.decode()) == (3, wanted) else f"it ended otherwise: {ran}"
+
+    trials.every("which stream of a run failed is told", streamed, [
+        ('< "$2"', b"", "read fault\nstandard input: the script can't be read: a file or a pipe is asked for, and no directory\n"),
+        ("> /dev/full", b"audit\n", "write fault\nstandard output: what is replied can't be written there\n"),
+    ])
+
+    def listed(it):
+        word, count, named = it
+        ended = answer(program, ["explain", word])
+        lines = ended.out.decode().splitlines()
+        return None if (ended.status, ended.err, len(lines)) == (0, b"", count) and all(each in ended.out.decode() for each in named) else f"it ended otherwise: {ended}"
+
+    trials.every("explain lists rules, refusals, causes and rights", listed, [
+        ("rules", 18, ["rule L1: ", "rule L10: ", "rule A7: ", "rule B1: "]), ("refusals", 17, ["refused 0 OutOfMemory: ", "refused 16 OtherObjects: "]),
+        ("policy", 6, ["policy 1 NotToml: ", "policy 6 TooMany: "]), ("kernel", 11, ["read 1 Lexeme: ", "check 7 BadAddress: "]), ("rights", 6, ["right USE ", "right LAUNCH "]),
+    ])
+    meant = lambda it: None if it[1] in answer(program, ["explain", it[0]]).out.decode() else f"{answer(program, ['explain', it[0]])}"
+    trials.every("whose ids are spent, and which rows count, is told", meant, [("Spent", "the producer has reserved 1099511627776 ids"), ("NotAllowed", "deny row"), ("NotAllowed", "together"), ("UnknownName", "an allow or deny row")])
+    helped = lambda word: None if (it := answer(program, ["help", word])) == answer(program, ["explain", word]) and it.status == 0 else f"it ended otherwise: {it}"
+    trials.every("help of a rule, a refusal or a cause is what explain tells", helped, ["L8", "QueueDown", "NotToml", "7", "USE", "rules"])
+    whole = lambda it: None if it[1] in answer(program, ["help", it[0]]).out else f"{answer(program, ['help', it[0]])}"
+    trials.every("help of a readable line says what it is", whole, [("copy", b"  an agent dispatch of COPY: "), ("add", b"  an agent dispatch of ADD64: "), ("fill", b"  an agent dispatch of FILL: ")])
+
+
 def main(program):
     trials = Trials("words")
     with tempfile.TemporaryDirectory(prefix="words-") as room:
@@ -207,6 +269,7 @@ def main(program):
         lines(trials, program)
         loads(trials, program, room)
         texts(trials, program)
+        walked(trials, program, room)
     trials.end()
 
 

@@ -4,6 +4,7 @@ use crate::author::{fails, told};
 use aql_packet::{Packet, decode};
 use commands::Status;
 use core_model::{AgentFunction, Range};
+use explain::first_strange;
 use packet_listing::{first_failing, is_slot_empty, packet_of, push_fields, push_verdict};
 use packet_processor::function_of;
 use std::alloc::{AllocError, Global};
@@ -114,10 +115,20 @@ fn joined(alloc: Global, words: &[&str]) -> Result<String, AllocError> {
     Ok(text)
 }
 
+// Why characters are no packet: how many there are, and the first that is no digit.
+fn why_no_packet(alloc: Global, digits: &str) -> Result<String, AllocError> {
+    let count = digits.len();
+    let mut text = format!(in alloc; "{NO_PACKET}, and {count} characters are given")?;
+    if let Some((place, shown)) = first_strange(digits.as_bytes()) {
+        write!(text, ": number {place}, `{shown}`, is no digit")?;
+    }
+    text.push_str("\n")?;
+    Ok(text)
+}
+
 // Says that the words are no packet; none where that could be said.
-fn no_packet<E: io::Write>(alloc: Global, count: usize, err: &mut E) -> Option<Status> {
-    let text = format!(in alloc; "{NO_PACKET}, and {count} characters are given\n");
-    match say(text, err) {
+fn no_packet<E: io::Write>(alloc: Global, digits: &str, err: &mut E) -> Option<Status> {
+    match say(why_no_packet(alloc, digits), err) {
         Status::Refused => None,
         status => Some(status),
     }
@@ -140,7 +151,7 @@ pub fn decode_digits<O: io::Write, E: io::Write>(
             let status = status_of(&bytes);
             Some(write(packet_told(alloc, &bytes), status, out, err))
         }
-        None => no_packet(alloc, digits.len(), err),
+        None => no_packet(alloc, digits.as_str(), err),
     }
 }
 

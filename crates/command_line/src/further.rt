@@ -1,7 +1,7 @@
 //! Runs the script on standard input over the policy in a file, with the policies in further files after it.
 
 use crate::explaining::PolicyFile;
-use crate::perform::{failed, read_file, unmade, unread};
+use crate::perform::{STANDARD_INPUT, failed, read_file, unmade_file, unread};
 use crate::policies::{Further, name_blame, open_run};
 use crate::request::Reads;
 use crate::session::GREETING;
@@ -12,11 +12,15 @@ use commands::{Opened, PolicyText, Span, Status, draw_audit, run_over, tell_run}
 use journal_commands::{JournalFault, JournalWriter};
 use json_replies::Json;
 use readable::Readable;
-use script::{Both, Nobody, Noted, Plain, RunFault, Silent, Strict, Style, Text};
+use script::{Both, Nobody, Noted, Plain, RunFault, ScriptFault, Silent, Strict, Style, Text};
 use std::alloc::Global;
 use std::fs::File;
 use std::io::{self, IsTerminal};
 use world::World;
+
+/// What is told where standard input has a policy.
+const NO_SCRIPT: &str =
+    "-: the policy is read from standard input, where no script is left: name the policy's file";
 
 /// Lines are those of scripts, and replies are text.
 pub const AS_SCRIPTS: Reads = Reads {
@@ -68,6 +72,18 @@ fn telling_of(manner: Manner) -> Telling {
         of_replies: manner.is_explaining && manner.drawn.is_none(),
         of_lines: manner.is_explaining,
         goes_on: manner.is_session && !manner.is_strict,
+        is_readable: manner.reads.is_readable && manner.drawn.is_none(),
+    }
+}
+
+// Tells that the first entry that is to be drawn comes behind all that there are.
+fn tell_outside(rt: &HostRuntime, world: &World, span: Span, explains: bool) {
+    let core = world.core();
+    let count = core.audit().len() as u64;
+    let last = core.entries_before().saturating_add(count);
+    let first = span.first;
+    if explains && 1 < first && last < first {
+        let _ = eprintln!(rt; "--from {first}: the last entry is {last}");
     }
 }
 
@@ -76,10 +92,12 @@ fn draw_behind<F: Drop>(
     rt: &HostRuntime,
     world: &World,
     drawn: Option<Span>,
+    explains: bool,
     ended: Result<(), RunFault<F>>,
 ) -> Result<(), RunFault<F>> {
     match (ended, drawn) {
         (Ok(()), Some(span)) => {
+            tell_outside(rt, world, span, explains);
             let out = &mut Noted::new(rt.stdout());
             match draw_audit(rt.alloc(), world, span, out) {
                 Ok(()) => Ok(()),
@@ -87,6 +105,28 @@ fn draw_behind<F: Drop>(
             }
         }
         (ended, _) => ended,
+    }
+}
+
+// What is told of what ended a run early, where a stream failed or memory was wanted; no text where neither did.
+fn stream_told<F: Drop>(ended: &Result<(), RunFault<F>>) -> &'static str {
+    match ended {
+        Err(RunFault::Script(ScriptFault::Read)) => {
+            "standard input: the script can't be read: a file or a pipe is asked for, and no directory"
+        }
+        Err(RunFault::Script(ScriptFault::Write)) => {
+            "standard output: what is replied can't be written there"
+        }
+        Err(RunFault::Script(ScriptFault::OutOfMemory)) =>
+            "with a smaller `--audit N` it takes less",
+        _ => "",
+    }
+}
+
+// Tells it, if it is told why.
+fn tell_stream(rt: &HostRuntime, told: &str, explains: bool) {
+    if explains && !told.is_empty() {
+        let _ = eprintln!(rt; "{told}");
     }
 }
 
@@ -109,8 +149,11 @@ fn run_in<L: Style, R: io::Read>(
     let out = &mut Noted::new(rt.stdout());
     let script = &mut Noted::new(script);
     let ended = run_over(alloc, opened, style, &mut watcher, script, out);
-    let ended = draw_behind(rt, &opened.world, manner.drawn, ended);
+    let explains = manner.is_explaining;
+    let ended = draw_behind(rt, &opened.world, manner.drawn, explains, ended);
+    let stream = stream_told(&ended);
     let status = tell_run(alloc, ended, &mut Noted::new(&mut err));
+    tell_stream(rt, stream, explains);
     let status = watcher.first.end(status);
     match &mut watcher.second.first {
         Some(recorder) => recorder.end(alloc, &opened.world, &mut err, status),
@@ -325,7 +368,14 @@ fn run_into(
     };
     match File::create(rt, name) {
         Ok(mut journal) => run_input(rt, file, further, manner, Some(&mut journal)),
-        Err(error) => unmade(rt, &error),
+        Err(error) => unmade_file(rt, name, manner.is_explaining, &error),
+    }
+}
+
+// Tells that a policy was on standard input, where no script is left then.
+fn tell_no_script(rt: &HostRuntime, policy: &str, further: &[&str], explains: bool) {
+    if explains && (policy == STANDARD_INPUT || further.contains(&STANDARD_INPUT)) {
+        let _ = eprintln!(rt; "{NO_SCRIPT}");
     }
 }
 
@@ -344,6 +394,7 @@ pub fn run(
                 name: policy,
                 text: text.as_slice(),
             };
+            tell_no_script(rt, policy, further, manner.is_explaining);
             run_behind(rt, file, further, manner, journal)
         }
         Err(error) => unread(rt, policy, manner.is_explaining, &error),

@@ -9,7 +9,7 @@ use crate::listing::{ListForm, list_policy};
 use crate::replayed::{Shown, show_journal};
 use crate::request::{Asked, Invocation, Unread, read_words};
 use crate::retelling::replay_telling;
-use crate::syntax::MOST_NEXT;
+use crate::syntax::{ALWAYS, MOST_NEXT, NEVER};
 use crate::threads::{AskedLoad, run_threads};
 use clap::Error;
 use commands::{Status, check_policy};
@@ -26,6 +26,9 @@ const NOT_UNDERSTOOD: u8 = 2;
 
 /// What is told of several words that are to be explained.
 const WORDS_BEHIND: &str = "explain takes one WORD, or policies with --journal FILE";
+
+/// What is told of entries that are to be drawn from one on to another before it.
+const BACKWARDS: &str = "the entry of --from is behind that of --to: no entry is drawn";
 
 /// Tells what failed.
 pub fn failed(rt: &HostRuntime, what: &str) -> Status {
@@ -84,7 +87,15 @@ pub fn unread_policy(rt: &HostRuntime, file: &str, error: &io::Error) -> Status 
         _ => "reading it failed",
     };
     let _ = eprintln!(rt; "{file}: {why}");
+    if is_value_of_explain(file) && error.kind() == io::ErrorKind::NotFound {
+        let _ = eprintln!(rt; "{file}: the option is written `--explain={file}`, with `=`");
+    }
     status
+}
+
+// Whether a file's name is a value of the option that says whether it is told why.
+fn is_value_of_explain(file: &str) -> bool {
+    file == ALWAYS || file == NEVER
 }
 
 /// The same, where it is told why; else that it failed.
@@ -181,6 +192,26 @@ pub fn unmade(rt: &HostRuntime, error: &io::Error) -> Status {
     }
 }
 
+// Why a file can't be made.
+fn why_unmade(error: &io::Error) -> &'static str {
+    match error.kind() {
+        io::ErrorKind::NotFound => "there is no such folder",
+        io::ErrorKind::PermissionDenied => "it may not be written",
+        io::ErrorKind::IsADirectory => "it is a directory, and a file is asked for",
+        _ => "it can't be written",
+    }
+}
+
+/// The same, and which file it is and why, if that is told.
+pub fn unmade_file(rt: &HostRuntime, file: &str, explains: bool, error: &io::Error) -> Status {
+    let status = unmade(rt, error);
+    if explains {
+        let why = why_unmade(error);
+        let _ = eprintln!(rt; "{file}: {why}");
+    }
+    status
+}
+
 // Says on a terminal that a load runs.
 fn tell_running(rt: &HostRuntime, producers: u64) {
     if rt.stderr().is_terminal() {
@@ -221,7 +252,7 @@ fn run_load_into<R: Threads + Wait + Sync>(
     };
     match File::create(rt, name) {
         Ok(mut journal) => run_load_over(rt, threads, file, asked, Some(&mut journal)),
-        Err(error) => unmade(rt, &error),
+        Err(error) => unmade_file(rt, name, asked.explains, &error),
     }
 }
 
@@ -412,6 +443,7 @@ pub fn obey<R: Threads + Wait + Sync>(rt: &HostRuntime, threads: &R, words: &[St
         Err(Unread::NoCommand) => NOT_UNDERSTOOD,
         Err(Unread::TooManyPolicies) => too_many_policies(rt),
         Err(Unread::WordsBehind) => misused(rt, WORDS_BEHIND),
+        Err(Unread::Backwards) => misused(rt, BACKWARDS),
         Err(Unread::OutOfMemory) => out_of_memory(rt),
     }
 }

@@ -7,7 +7,7 @@ use commands::{
     Failure, Opened, PolicyText, Setup, Status, Unopened, judge as judge_text, name_failure,
     open_policies, read_further,
 };
-use explain::{no_entry, policy_fault};
+use explain::no_entry;
 use journal_commands::JournalPolicies;
 use policy::{Policy, PolicyFault, read_policy};
 use script::Noted;
@@ -52,7 +52,8 @@ fn policy_told(
     match further.texts.get(before) {
         Some(text) => {
             let name = further.names.get(before).copied().unwrap_or("");
-            policy_fault(alloc, name, text.bytes(), fault)
+            let text = text.bytes();
+            fault_told(alloc, PolicyFile { name, text }, fault)
         }
         None => Ok(String::new(alloc)),
     }

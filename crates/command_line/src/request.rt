@@ -4,6 +4,7 @@ use crate::completions::Shell;
 use crate::further::{AS_SCRIPTS, Manner};
 use crate::help::further_help;
 use crate::listing::ListForm;
+use crate::meanings::explained;
 use crate::syntax::{
     ALWAYS, ASSEMBLE, AUDIT, CHECK, COMMANDS, COMPLETIONS, DECODE, DIGITS, EXPLAIN, FILE, FROM,
     HELP, JOURNAL, JSON, KERNEL, LIST, MOST_NEXT, NEXT, PACKETS, PICTURE, POLICY, PRODUCERS,
@@ -140,6 +141,8 @@ pub enum Unread {
     TooManyPolicies,
     /// They have words after the one that is to be explained, and no journal.
     WordsBehind,
+    /// The first entry that is to be drawn is behind the last.
+    Backwards,
 }
 
 impl From<Error> for Unread {
@@ -342,6 +345,23 @@ fn has_words_behind(request: &Invocation<'_>, further: &[&str]) -> bool {
     matches!(request, Invocation::Explain { .. }) && !further.is_empty()
 }
 
+// Which entries a request draws, if it draws some.
+fn span_of(request: &Invocation<'_>) -> Option<Span> {
+    match request {
+        Invocation::PictureOfJournal { span, .. } => Some(*span),
+        Invocation::Run { manner, .. } => manner.drawn,
+        _ => None,
+    }
+}
+
+// Whether the first entry that a request draws is behind the last.
+fn is_backwards(request: &Invocation<'_>) -> bool {
+    match span_of(request) {
+        Some(span) => span.last < span.first,
+        None => false,
+    }
+}
+
 // Whether a request takes these further words; the digits of a packet are as many as the command line takes.
 fn take_words(command: &str, request: &Invocation<'_>, further: &[&str]) -> Result<(), Unread> {
     if command == DECODE {
@@ -350,6 +370,8 @@ fn take_words(command: &str, request: &Invocation<'_>, further: &[&str]) -> Resu
         Err(Unread::TooManyPolicies)
     } else if has_words_behind(request, further) {
         Err(Unread::WordsBehind)
+    } else if is_backwards(request) {
+        Err(Unread::Backwards)
     } else {
         Ok(())
     }
@@ -413,6 +435,43 @@ fn named_line<'a>(alloc: Global, verb: &'a str) -> Result<Option<&'a str>, Alloc
         Ok(None)
     } else {
         Ok(Some(verb))
+    }
+}
+
+// What `help` is asked of a word that is no command, if it is a rule, a refusal or another word that `explain` takes.
+fn meaning_asked<'a>(alloc: Global, words: &'a [String]) -> Result<Option<&'a str>, AllocError> {
+    let (Some(command), Some(word), 3) = (words.get(1), words.get(2), words.len()) else {
+        return Ok(None);
+    };
+    let word = word.as_str();
+    if command.as_str() != HELP || COMMANDS.contains(&word) || explained(alloc, word)?.is_empty() {
+        Ok(None)
+    } else {
+        Ok(Some(word))
+    }
+}
+
+// How many words behind a command are no options.
+fn count_names(words: &[String]) -> usize {
+    let mut count = 0usize;
+    for word in words.split_at(words.len().min(2)).1 {
+        if !word.as_str().starts_with("--") {
+            count = count.saturating_add(1);
+        }
+    }
+    count
+}
+
+// Whether what isn't understood is a further policy more than a command takes.
+fn is_policy_too_many(words: &[String], error: &Error) -> bool {
+    match words.get(1) {
+        Some(command) => {
+            let command = command.as_str();
+            error.kind() == ErrorKind::TooManyValues
+                && MOST_NEXT.saturating_add(1) < count_names(words)
+                && (command == RUN || command == PICTURE || command == REPLAY)
+        }
+        None => false,
     }
 }
 
@@ -484,8 +543,15 @@ pub fn read_words<'a>(
             further: Vec::new(alloc),
         });
     }
+    if let Some(word) = meaning_asked(alloc, words)? {
+        return Ok(Asked {
+            request: Invocation::Explain { word },
+            further: Vec::new(alloc),
+        });
+    }
     match matches_in(alloc, "", words) {
         Ok(matches) => asked_in(alloc, &matches, unasked),
+        Err(error) if is_policy_too_many(words, &error) => Err(Unread::TooManyPolicies),
         Err(error) => Err(why_unread(alloc, words, error)),
     }
 }

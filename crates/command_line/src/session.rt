@@ -2,7 +2,7 @@
 
 use crate::help::further_help;
 use crate::meanings::explained;
-use pages::rows_of;
+use pages::{Page, rows_of};
 use std::alloc::{AllocError, Global};
 
 /// What is told as a session begins.
@@ -24,6 +24,9 @@ fn word_told(alloc: Global, word: &str) -> Result<String, AllocError> {
     let mut told = rows_of(alloc, word)?;
     if told.is_empty() {
         told = explained(alloc, word)?;
+    }
+    if told.is_empty() && Page::named(word).is_some() {
+        told = format!(in alloc; "`brokerd help {word}` prints the page of this name\n")?;
     }
     if told.is_empty() {
         told = format!(in alloc; "nothing is called `{word}`: `help` lists the lines\n")?;

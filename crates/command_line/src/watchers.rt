@@ -20,6 +20,8 @@ pub struct Telling {
     pub of_lines: bool,
     /// Whether the run goes on behind such a line, and answers lines that ask for help.
     pub goes_on: bool,
+    /// Whether its lines may be readable.
+    pub is_readable: bool,
 }
 
 /// A watcher that tells beside the replies what is asked.
@@ -81,7 +83,8 @@ impl<'a, E: io::Write> Teller<'a, E> {
         if !wanted.is_empty() {
             format!(in self.alloc; "{wanted}\n")
         } else if self.telling.of_lines {
-            bad_line(self.alloc, line, number, self.later)
+            let is_readable = self.telling.is_readable;
+            bad_line(self.alloc, line, number, self.later, is_readable)
         } else {
             Ok(String::new(self.alloc))
         }

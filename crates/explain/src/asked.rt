@@ -1,6 +1,6 @@
 //! What a line asks, as far as an explanation of its reply needs it.
 
-use aql_packet::{Address, AgentHandle, ClientId, PacketId, QueueId, SignalHandle};
+use aql_packet::{Address, AgentHandle, ClientId, PacketId, QueueId, SignalHandle, is_invalid};
 use core_model::{Call, Query};
 use policy::{Object, Right, Rights};
 use ring_core::Access;
@@ -51,6 +51,7 @@ pub enum Asked {
         queue: QueueId,
         producer: u64,
         ticket: Option<PacketId>,
+        stored: Stored,
     },
     /// A step of a queue's processor.
     Processing {
@@ -67,6 +68,17 @@ pub enum Asked {
     Nothing,
 }
 
+/// What a producer's step stores.
+#[derive(Clone, Copy, PartialEq, Eq)]
+pub enum Stored {
+    /// No word, or a whole packet.
+    Nothing,
+    /// A word of a packet's body, by its number.
+    Word(u64),
+    /// A header, of the type INVALID or not.
+    Header { is_invalid: bool },
+}
+
 /// What is done to a packet.
 #[derive(Clone, Copy, PartialEq, Eq)]
 pub enum Verb {
@@ -75,6 +87,8 @@ pub enum Verb {
     Finish,
     Look,
     Part,
+    /// `part` of a word that a body doesn't have.
+    NoPart,
     Peek,
     Take,
     Clear,
@@ -174,23 +188,32 @@ fn of_query(query: &Query) -> Asked {
 // What a step on a ring asks.
 fn of_step(queue: QueueId, seat: u64, access: &Access) -> Asked {
     match access {
-        Access::Reserve => producing(queue, seat, None),
-        Access::LoadReadIndex { ticket } => producing(queue, seat, Some(*ticket)),
-        Access::StoreBody { ticket, .. } => producing(queue, seat, Some(*ticket)),
-        Access::StoreHeader { ticket, .. } => producing(queue, seat, Some(*ticket)),
+        Access::Reserve => producing(queue, seat, None, Stored::Nothing),
+        Access::LoadReadIndex { ticket } => {
+            producing(queue, seat, Some(*ticket), Stored::Nothing)
+        }
+        Access::StoreBody { ticket, place, .. } => {
+            producing(queue, seat, Some(*ticket), Stored::Word(*place))
+        }
+        Access::StoreHeader { ticket, word } => {
+            let is_invalid = is_invalid(*word);
+            producing(queue, seat, Some(*ticket), Stored::Header { is_invalid })
+        }
         Access::LoadHeader => processing(queue, Verb::Look),
-        Access::LoadBody { .. } => processing(queue, Verb::Part),
+        Access::LoadBody { place } if 1 <= *place && *place <= 7 => processing(queue, Verb::Part),
+        Access::LoadBody { .. } => processing(queue, Verb::NoPart),
         Access::ClearHeader => processing(queue, Verb::Clear),
         Access::RaiseReadIndex => processing(queue, Verb::Advance),
     }
 }
 
 // A step of a producer.
-fn producing(queue: QueueId, producer: u64, ticket: Option<PacketId>) -> Asked {
+fn producing(queue: QueueId, producer: u64, ticket: Option<PacketId>, stored: Stored) -> Asked {
     Asked::Producing {
         queue,
         producer,
         ticket,
+        stored,
     }
 }
 
@@ -231,20 +254,12 @@ pub fn asked_by(command: &Command) -> Asked {
             producer,
             ticket,
             ..
-        } => Asked::Producing {
-            queue: *queue,
-            producer: *producer,
-            ticket: Some(*ticket),
-        },
+        } => producing(*queue, *producer, Some(*ticket), Stored::Nothing),
         Command::Submit {
             queue,
             producer,
             ..
-        } => Asked::Producing {
-            queue: *queue,
-            producer: *producer,
-            ticket: None,
-        },
+        } => producing(*queue, *producer, None, Stored::Nothing),
         Command::Peek { queue } => processing(*queue, Verb::Peek),
         Command::Retire { queue } => processing(*queue, Verb::Retire),
         Command::Serve { queue } => processing(*queue, Verb::Serve),

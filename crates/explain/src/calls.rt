@@ -1,16 +1,18 @@
 //! Why a call was refused.
 
 use crate::asked::{Asked, Verb, queue_of};
+use crate::downs::{Down, put_down, put_unserved};
 use crate::keys::rights_of;
-use crate::lacks::lacked;
-use crate::rings::{tell_dependencies, tell_holder};
-use crate::scene::{Scene, begin, put_why_not, say, tell_lack};
+use crate::lacks::{Lack, lacked};
+use crate::rings::{is_never_ready, tell_dependencies, tell_holder, tell_never_ready};
+use crate::scene::{Mended, Scene, begin, put_why_not, say, tell_lacks};
 use crate::texts::{lies_whole, put_clients, put_object, put_objects, put_range};
-use aql_packet::{ClientId, PacketId, QueueId};
+use aql_packet::{ClientId, PacketId, QueueId, is_ring_size};
 use core_model::{MOST_HOST_BYTES, Range, Refusal};
 use packet_processor::{Place, is_barrier};
 use policy::{Kind, Object, Right, Rights};
 use queue_error::{QueueError, Rule};
+use ring_core::is_producer_count;
 use script::{Occasion, rule_rows};
 use std::alloc::AllocError;
 use world::World;
@@ -75,7 +77,8 @@ fn tell_right(
     if object.number() == 0 {
         return tell_object(out, scene, object);
     }
-    tell_lack(out, scene, &lacked(scene.rows, client, object, right), "")
+    let lack = lacked(scene.rows, client, object, right);
+    tell_lacks(out, scene, &[Some(lack)], "", Mended::Call)
 }
 
 // A right on a range that a client lacks for what it asks.
@@ -101,6 +104,30 @@ fn tell_memory(
     out.push_str("\n")
 }
 
+// Why a queue may not be opened: the right that is lacking, and the size, where that would be refused then.
+fn tell_denied_opening(
+    out: &mut String,
+    scene: &Scene<'_>,
+    asked: Asked,
+    right: Right,
+) -> Result<(), AllocError> {
+    let Asked::Opening {
+        client,
+        agent,
+        size,
+        producers,
+    } = asked
+    else {
+        return Ok(());
+    };
+    tell_right(out, scene, client, Object::Agent(agent), right)?;
+    if is_ring_size(size) && is_producer_count(producers) {
+        Ok(())
+    } else {
+        tell_size(out, scene, asked)
+    }
+}
+
 // Why a call was denied.
 fn tell_denied_call(
     out: &mut String,
@@ -109,9 +136,7 @@ fn tell_denied_call(
     right: Right,
 ) -> Result<(), AllocError> {
     match asked {
-        Asked::Opening { client, agent, .. } => {
-            tell_right(out, scene, client, Object::Agent(agent), right)
-        }
+        Asked::Opening { .. } => tell_denied_opening(out, scene, asked, right),
         Asked::Signal { client, signal, .. } => {
             tell_right(out, scene, client, Object::Signal(signal), right)
         }
@@ -160,7 +185,7 @@ fn tell_not_allowed(
     if !rights_of(kind).contains(&right) {
         return tell_other_rights(out, kind, right);
     }
-    let lack = crate::lacks::Lack {
+    let lack = Lack {
         client,
         object,
         right,
@@ -196,10 +221,9 @@ fn tell_down(out: &mut String, scene: &Scene<'_>, asked: Asked) -> Result<(), Al
     };
     begin(out, scene)?;
     match scene.core.errors_of(queue).last() {
-        Some(error) => write!(out, "the queue has the error `{error}`")?,
-        None => out.push_str("the queue was stopped")?,
+        Some(error) => put_down(out, Down::Failed(*error)),
+        None => put_down(out, Down::Stopped),
     }
-    out.push_str(", and launches nothing more: open another with `queue`\n")
 }
 
 // Whether the packet of a queue and an id was handed over: each whose id is below the read index was, none above it.
@@ -237,10 +261,10 @@ fn tell_gone(
     let id = packet.0;
     let number = queue.0;
     if !is_handed_over(scene, world, queue, packet) {
-        return writeln!(
-            out,
-            "packet {id} of queue {number} was not handed over yet: `serve {number}`"
-        );
+        return match world.ring(queue) {
+            Some(ring) => put_unserved(out, scene, queue, ring, packet),
+            None => writeln!(out, "queue {number} has no ring"),
+        };
     }
     match denial(scene.core.errors_of(queue), packet) {
         Some(error) => writeln!(out, "it was denied: `{error}`"),
@@ -283,6 +307,9 @@ fn tell_unfinished(
     queue: QueueId,
     place: &Place,
 ) -> Result<(), AllocError> {
+    if is_never_ready(&place.packet) {
+        return tell_never_ready(out, scene, queue, place.id);
+    }
     let queue = queue.0;
     let id = place.id.0;
     begin(out, scene)?;
@@ -311,17 +338,45 @@ fn tell_not_finished(out: &mut String, scene: &Scene<'_>, asked: Asked) -> Resul
     }
 }
 
-// Why the audit has no room.
-fn tell_full(out: &mut String, scene: &Scene<'_>) -> Result<(), AllocError> {
+// The word behind a number of things.
+fn are(count: usize) -> &'static str {
+    if count == 1 { "is" } else { "are" }
+}
+
+// Whether a line may launch a packet.
+fn may_launch(asked: Asked) -> bool {
+    match asked {
+        Asked::Processing { verb, .. } => verb == Verb::Serve || verb == Verb::Take,
+        _ => false,
+    }
+}
+
+// Why the audit has no room, and what makes some.
+fn tell_full(out: &mut String, scene: &Scene<'_>, asked: Asked) -> Result<(), AllocError> {
     let sizes = scene.core.table_sizes();
     let places = sizes.audit_places;
     let kept = sizes.argument_blocks;
     let taken = scene.core.audit().len();
+    let is_taken = are(taken);
+    let is_kept = are(kept);
     begin(out, scene)?;
     writeln!(
         out,
-        "the audit has {places} places: {taken} are taken, and {kept} are kept for packets in flight; begin anew with `--audit N`"
-    )
+        "the audit has {places} places: {taken} {is_taken} taken, and {kept} {is_kept} kept for packets in flight"
+    )?;
+    let wants = if may_launch(asked) { 2 } else { 1 };
+    if wants == 2 {
+        say(
+            out,
+            scene,
+            "a launch wants 2: one for its entry, and one that is kept for the packet's end",
+        )?;
+    }
+    begin(out, scene)?;
+    if kept.saturating_add(wants) <= places {
+        return out.push_str("`rotate` hands the entries out, and all their places are free then\n");
+    }
+    out.push_str("`rotate` alone makes too little room: begin anew with a greater `--audit N`\n")
 }
 
 // Why a size is refused.
@@ -344,15 +399,31 @@ fn tell_size(out: &mut String, scene: &Scene<'_>, asked: Asked) -> Result<(), Al
     }
 }
 
+// Whether the header at the read index of a queue's ring was cleared.
+fn is_cleared(world: &World, queue: QueueId) -> bool {
+    match world.ring(queue) {
+        Some(ring) => ring.processor().raising,
+        None => false,
+    }
+}
+
 // A packet that was handed over already.
 fn tell_order(
     out: &mut String,
     scene: &Scene<'_>,
+    world: &World,
     asked: Asked,
     next: u64,
 ) -> Result<(), AllocError> {
     begin(out, scene)?;
     match asked {
+        Asked::Processing { queue, .. } if is_cleared(world, queue) => {
+            let number = queue.0;
+            writeln!(
+                out,
+                "the packet at the read index was launched or denied already, and its header cleared; the next id is {next}: `advance {number}` goes on to it"
+            )
+        }
         Asked::Processing { queue, .. } => {
             let number = queue.0;
             writeln!(
@@ -362,6 +433,53 @@ fn tell_order(
         }
         _ => writeln!(out, "the next id is {next}"),
     }
+}
+
+// The right on a range's region that a client lacks, where a region has the range's first address.
+fn memory_lack(scene: &Scene<'_>, asked: Asked) -> Option<Lack> {
+    let Asked::Memory {
+        client,
+        address,
+        right,
+        ..
+    } = asked
+    else {
+        return None;
+    };
+    let region = Object::Region(regions::region_of(address));
+    if scene.policy.declares(region) {
+        scene.known.lack_of(client, region, right)
+    } else {
+        None
+    }
+}
+
+// Why a size is refused, and the right that would be lacking with another.
+fn tell_bad_size(out: &mut String, scene: &Scene<'_>, asked: Asked) -> Result<(), AllocError> {
+    tell_size(out, scene, asked)?;
+    match memory_lack(scene, asked) {
+        Some(lack) => tell_lacks(out, scene, &[Some(lack)], "", Mended::Call),
+        None => Ok(()),
+    }
+}
+
+// The rights on an object that a line takes, if it takes some.
+fn taken_by(asked: Asked) -> Option<(Object, Rights)> {
+    match asked {
+        Asked::Rights { object, rights, .. } => Some((object, rights)),
+        _ => None,
+    }
+}
+
+// The packet that holds a right that a line takes.
+fn tell_busy(
+    out: &mut String,
+    scene: &Scene<'_>,
+    asked: Asked,
+    queue: QueueId,
+    packet: PacketId,
+) -> Result<(), AllocError> {
+    tell_holder(out, scene, queue, packet, taken_by(asked))
 }
 
 /// Why a request was refused by the core.
@@ -381,14 +499,14 @@ pub fn tell_refusal(
         Refusal::UnknownClient => tell_client(out, scene),
         Refusal::UnknownQueue => tell_queue(out, scene, queue_of(asked)),
         Refusal::Denied(right) => tell_denied_call(out, scene, asked, *right),
-        Refusal::Busy { queue, packet } => tell_holder(out, scene, *queue, *packet),
+        Refusal::Busy { queue, packet } => tell_busy(out, scene, asked, *queue, *packet),
         Refusal::NotAllowed => tell_grant(out, scene, asked),
-        Refusal::OutOfStep(next) => tell_order(out, scene, asked, *next),
+        Refusal::OutOfStep(next) => tell_order(out, scene, world, asked, *next),
         Refusal::QueueDown => tell_down(out, scene, asked),
         Refusal::NotInFlight => tell_not_in_flight(out, scene, world, asked),
         Refusal::NotFinished => tell_not_finished(out, scene, asked),
-        Refusal::AuditFull => tell_full(out, scene),
-        Refusal::BadSize => tell_size(out, scene, asked),
+        Refusal::AuditFull => tell_full(out, scene, asked),
+        Refusal::BadSize => tell_bad_size(out, scene, asked),
         Refusal::TooMany => say(
             out,
             scene,

@@ -1,11 +1,12 @@
 //! Why a packet was denied, by the rule that is told and the packet's own bytes.
 
 use crate::failed::handed_over;
+use crate::keys::rights_of;
 use crate::lacks::object_of;
 use crate::packets::{tell_header, tell_reserved, tell_sizes, tell_type};
-use crate::scene::{Scene, begin, say, tell_lack};
+use crate::scene::{Mended, Scene, begin, lacks_on, say, tell_anew, tell_lacks};
 use crate::texts::{lies_whole, put_object, put_range};
-use aql_packet::{KernelDispatch, Packet, decode};
+use aql_packet::{KernelDispatch, Packet, REGION_SPAN, decode};
 use core_model::{Need, Opening, Range, Subject};
 use executor::MOST_SEGMENT_BYTES;
 use kernel_check::Program;
@@ -36,31 +37,97 @@ fn tell_range(out: &mut String, scene: &Scene<'_>, range: Range) -> Result<(), A
     if scene.policy.object_name(region).is_none() {
         return out.push_str(" lie in no region of the policy\n");
     }
-    out.push_str(" don't end in ")?;
+    let offset = range.address.0 % REGION_SPAN;
+    out.push_str(if begins_in(scene, region, offset) {
+        " don't end in "
+    } else {
+        " begin behind "
+    })?;
     put_object(out, scene.policy, region)?;
     out.push_str("\n")
 }
 
-// What is missing of what a packet needs for a rule.
+// Whether an offset lies in a region.
+fn begins_in(scene: &Scene<'_>, region: Object, offset: u64) -> bool {
+    let Object::Region(region) = region else {
+        return false;
+    };
+    match scene.policy.region_length(region) {
+        Some(length) => offset < length as u64,
+        None => false,
+    }
+}
+
+// Whether a need is of a range that doesn't lie whole in a region.
+fn is_adrift(scene: &Scene<'_>, need: &Need) -> bool {
+    match need.subject {
+        Subject::Range(range) => !lies_whole(scene.policy, range),
+        _ => false,
+    }
+}
+
+// Whether one of some needs is of a right on an object: of any, where none is named.
+fn is_needed(
+    scene: &Scene<'_>,
+    needs: &[Option<Need>],
+    object: Object,
+    right: Option<Right>,
+) -> bool {
+    for need in needs {
+        if let Some(need) = need {
+            let is_same = match right {
+                Some(right) => need.right == right,
+                None => true,
+            };
+            if is_same && !is_adrift(scene, need) && object_of(&need.subject) == object {
+                return true;
+            }
+        }
+    }
+    false
+}
+
+// What is missing of what a packet needs for a rule on an object: all rights on it at once.
+fn tell_object(
+    out: &mut String,
+    scene: &Scene<'_>,
+    opening: &Opening,
+    rule: Rule,
+    needs: &[Option<Need>],
+    object: Object,
+) -> Result<(), AllocError> {
+    let rights = rights_of(object.kind());
+    let asked = [
+        is_needed(scene, needs, object, rights.first().copied()),
+        is_needed(scene, needs, object, rights.get(1).copied()),
+    ];
+    let lacks = lacks_on(scene, opening, object, asked);
+    tell_lacks(out, scene, &lacks, wanted(rule), Mended::Packet)
+}
+
+// What is missing of one of the needs of a packet for a rule, by its place among them: an object of an earlier one was told.
 fn tell_need(
     out: &mut String,
     scene: &Scene<'_>,
     opening: &Opening,
     rule: Rule,
-    need: &Need,
+    needs: &[Option<Need>],
+    place: usize,
 ) -> Result<(), AllocError> {
+    let (before, behind) = needs.split_at(place.min(needs.len()));
+    let Some(Some(need)) = behind.first() else {
+        return Ok(());
+    };
     if let Subject::Range(range) = need.subject {
-        if !lies_whole(scene.policy, range) {
+        if is_adrift(scene, need) {
             return tell_range(out, scene, range);
         }
     }
-    match scene
-        .known
-        .lack_of(opening.client, object_of(&need.subject), need.right)
-    {
-        Some(lack) => tell_lack(out, scene, &lack, wanted(rule)),
-        None => Ok(()),
+    let object = object_of(&need.subject);
+    if is_needed(scene, before, object, None) {
+        return Ok(());
     }
+    tell_object(out, scene, opening, rule, needs, object)
 }
 
 // Whether the agent takes packets of this kind.
@@ -147,10 +214,9 @@ fn tell_block(
         return tell_range(out, scene, range);
     }
     let region = Object::Region(regions::region_of(range.address));
-    match scene.known.lack_of(opening.client, region, Right::Read) {
-        Some(lack) => tell_lack(out, scene, &lack, ", in which the argument block lies"),
-        None => Ok(()),
-    }
+    let lack = scene.known.lack_of(opening.client, region, Right::Read);
+    let wanted = ", in which the argument block lies";
+    tell_lacks(out, scene, &[lack], wanted, Mended::Packet)
 }
 
 // What is wrong with a packet for a rule beside the rights that the rule's table names.
@@ -202,11 +268,9 @@ fn tell_rule(
     packet: &Packet,
 ) -> Result<(), AllocError> {
     tell_form(out, scene, opening, rule, packet)?;
-    let asked = PacketNeeds::of(opening.agent, *packet);
-    for need in asked.of_rule(rule) {
-        if let Some(need) = need {
-            tell_need(out, scene, opening, rule, &need)?;
-        }
+    let needs = PacketNeeds::of(opening.agent, *packet).of_rule(rule);
+    for place in 0..needs.len() {
+        tell_need(out, scene, opening, rule, &needs, place)?;
     }
     Ok(())
 }
@@ -263,8 +327,11 @@ pub fn tell_denied(
         out,
         "packet {packet} of queue {queue} breaks {rule}, and the queue launches nothing more"
     )?;
-    match handed_over(scene.known.entries(), error.queue, error.packet) {
-        Some(found) => tell_bytes(out, scene, error, &found.bytes),
+    if let Some(found) = handed_over(scene.known.entries(), error.queue, error.packet) {
+        tell_bytes(out, scene, error, &found.bytes)?;
+    }
+    match scene.known.opening(error.queue) {
+        Some(opening) => tell_anew(out, scene, error, &opening),
         None => Ok(()),
     }
 }

@@ -2,9 +2,9 @@
 
 use crate::failed::{Flown, flown_of, seen_before};
 use crate::kernel_texts::{line_of, put_kernel, put_marked};
-use crate::lacks::was_in_force;
+use crate::lacks::{Lack, was_in_force};
 use crate::rings::dependencies;
-use crate::scene::{Scene, begin, say, tell_lack};
+use crate::scene::{Mended, Scene, begin, say, tell_anew, tell_lacks};
 use crate::texts::{put_address, put_client, put_object};
 use aql_packet::{Address, KernelDispatch, Packet, REGION_SPAN, SignalHandle};
 use byteorder::{ByteOrder, LittleEndian};
@@ -290,6 +290,67 @@ fn tell_rule(
     }
 }
 
+// How many bytes an access works on.
+fn bytes_of(reach: Reach) -> u64 {
+    match reach {
+        Reach::Load(size) | Reach::Store(size) | Reach::Atomic(size) | Reach::Group(size) => {
+            size as u64
+        }
+        Reach::None => 0,
+    }
+}
+
+// Whether an access that begins in a region ends behind it.
+fn ends_behind(scene: &Scene<'_>, region: Object, address: u64, size: u64) -> bool {
+    let Object::Region(region) = region else {
+        return false;
+    };
+    let end = (address % REGION_SPAN).saturating_add(size);
+    match scene.policy.region_length(region) {
+        Some(length) => (length as u64) < end,
+        None => false,
+    }
+}
+
+// Whether the address of an atomic operation is no multiple of its size.
+fn is_crooked(reach: Reach, address: u64) -> bool {
+    match reach {
+        Reach::Atomic(4) => address % 4 != 0,
+        Reach::Atomic(8) => address % 8 != 0,
+        _ => false,
+    }
+}
+
+// What an access that lacks a right breaks by its address too, once it has the right.
+fn tell_further(
+    out: &mut String,
+    scene: &Scene<'_>,
+    launch: &Launch<'_>,
+    address: Option<SegmentAddress>,
+) -> Result<(), AllocError> {
+    let (Some(region), Some(SegmentAddress::Global(address))) = (launch.region, address) else {
+        return Ok(());
+    };
+    if launch.rule != Rule::A1 && launch.rule != Rule::A2 {
+        return Ok(());
+    }
+    if ends_behind(scene, region, address, bytes_of(launch.reach)) {
+        say(
+            out,
+            scene,
+            "with the right it breaks A3: it begins in the region, and ends behind it",
+        )?;
+    }
+    if is_crooked(launch.reach, address) {
+        say(
+            out,
+            scene,
+            "with the right it breaks A4: its address is no multiple of its size",
+        )?;
+    }
+    Ok(())
+}
+
 // Lays a byte into the part of memory from an address on.
 fn lay_byte(block: &mut Vec<u8>, first: u64, address: u64, byte: u8) {
     if first <= address {
@@ -390,28 +451,42 @@ struct Launch<'a> {
     is_pointed: bool,
 }
 
+// Whether an access wants a right on a region that the client hadn't at the launch.
+fn wants(launch: &Launch<'_>, region: Object, right: Right) -> bool {
+    let (reads, writes) = wanted(launch.reach);
+    let is_wanted = match right {
+        Right::Read => reads,
+        Right::Write => writes,
+        _ => false,
+    };
+    is_wanted && !had(launch, region, right)
+}
+
 // A right that an access wants and that the client lacks on a region.
-fn tell_wanted(
+fn lack_at(scene: &Scene<'_>, launch: &Launch<'_>, region: Object, right: Right) -> Option<Lack> {
+    if wants(launch, region, right) {
+        scene.known.lack_of(launch.opening.client, region, right)
+    } else {
+        None
+    }
+}
+
+// A right that an access wants, that the client hadn't at the launch, and that it has now.
+fn tell_late(
     out: &mut String,
     scene: &Scene<'_>,
     launch: &Launch<'_>,
     region: Object,
     right: Right,
 ) -> Result<(), AllocError> {
-    let client = launch.opening.client;
-    if had(launch, region, right) {
+    if !wants(launch, region, right) || lack_at(scene, launch, region, right).is_some() {
         return Ok(());
     }
-    match scene.known.lack_of(client, region, right) {
-        Some(lack) => tell_lack(out, scene, &lack, ", and needs it before the launch"),
-        None => {
-            begin(out, scene)?;
-            writeln!(
-                out,
-                "{right} is in force now, and was not at the launch: launch it anew"
-            )
-        }
-    }
+    begin(out, scene)?;
+    writeln!(
+        out,
+        "{right} is in force now, and was not at the launch: launch it anew"
+    )
 }
 
 // The rights that an access wants and that the client lacks on a region.
@@ -424,14 +499,14 @@ fn tell_all_wanted(
     if launch.rule == Rule::A3 {
         return Ok(());
     }
-    let (reads, writes) = wanted(launch.reach);
-    if reads {
-        tell_wanted(out, scene, launch, region, Right::Read)?;
-    }
-    if writes {
-        tell_wanted(out, scene, launch, region, Right::Write)?;
-    }
-    Ok(())
+    let lacks = [
+        lack_at(scene, launch, region, Right::Read),
+        lack_at(scene, launch, region, Right::Write),
+    ];
+    let wanted = ", and needs it before the launch";
+    tell_lacks(out, scene, &lacks, wanted, Mended::Packet)?;
+    tell_late(out, scene, launch, region, Right::Read)?;
+    tell_late(out, scene, launch, region, Right::Write)
 }
 
 // Where an argument points, and unless that was told of another, what the access wants there.
@@ -536,6 +611,7 @@ fn tell_block(
     };
     tell_place(out, scene, dispatch, launch.rule, place)?;
     tell_rule(out, scene, dispatch, &launch, place.address)?;
+    tell_further(out, scene, &launch, place.address)?;
     if is_of_regions(launch.rule) {
         tell_pointers(out, scene, &launch, program, block)
     } else {
@@ -601,7 +677,8 @@ fn tell_dispatch(
         &launch,
         program,
         block.as_slice(),
-    )
+    )?;
+    tell_anew(out, scene, error, &opening)
 }
 
 /// Why a packet failed at its work.

@@ -1,5 +1,6 @@
 //! What is wrong with a kernel's text: where that lies in its file, and what helps.
 
+use crate::classes::put_class;
 use crate::kernel_texts::line_of;
 use crate::limits::put_limit;
 use crate::positions::{File, Place, Position, begin, position_at, small};
@@ -209,8 +210,29 @@ fn put_reading(
     let end = missing_end(alloc, text, at)?;
     if end.is_some() {
         out.push_str("a `;` is missing here\n")?;
+        return Ok(end);
     }
-    Ok(end)
+    put_end(out, text, at)
+}
+
+// Whether a text has nothing but blanks.
+fn is_blank(text: &[u8]) -> bool {
+    text.iter()
+        .all(|byte| matches!(*byte, b' ' | b'\t' | b'\r' | b'\n'))
+}
+
+// Adds that a text ends within its module to the output, if it does, and tells where that is.
+fn put_end(out: &mut String, text: &[u8], at: Position) -> Result<Option<Position>, AllocError> {
+    let (front, rest) = text.split_at(offset_of(text, at).min(text.len()));
+    if !is_blank(rest) {
+        return Ok(None);
+    }
+    out.push_str(if is_blank(front) {
+        "the text is empty: a module begins with `module &NAME:1:0:$base:$large:$default;`\n"
+    } else {
+        "the text ends here, and its module doesn't: a kernel ends with `};`\n"
+    })?;
+    Ok(Some(at))
 }
 
 // Adds what helps with a fault of a text to the output, and tells where that lies; none where nothing is known to help.
@@ -225,6 +247,10 @@ fn put_help(
         TextFault::Check(checked) if checked.cause == CheckCause::TooLarge => {
             put_limit(alloc, out, text, checked.line)?;
             Ok(Some(position_in(text, fault)))
+        }
+        TextFault::Check(checked) if checked.cause == CheckCause::WrongRegister => {
+            let shown = line_of(text, checked.line);
+            put_class(alloc, out, text, checked.line, shown)
         }
         TextFault::Check(_) => Ok(None),
     }

@@ -5,7 +5,10 @@
 
 mod asked;
 mod calls;
+mod classes;
 mod denied;
+mod digits;
+mod downs;
 mod entries;
 mod failed;
 mod faults;
@@ -29,6 +32,7 @@ mod texts;
 mod vocabulary;
 
 pub use asked::{Asked, asked_by};
+pub use digits::first_strange;
 pub use entries::failure_told;
 pub use kernel_faults::{kernel_fault, no_entry, text_help};
 pub use lacks::{Lack, lack_of, was_in_force};

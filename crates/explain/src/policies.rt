@@ -66,13 +66,23 @@ impl<'a> Faulty<'a> {
         }
     }
 
-    // Begins a line of an explanation at a key of that table.
-    fn begin(&self, out: &mut String, key: &str) -> Result<(), AllocError> {
-        let array = match self.fault.kind {
+    // The name of the fault's array, none before the arrays.
+    fn array(&self) -> &'static str {
+        match self.fault.kind {
             Some(array) => array.name(),
             None => "",
-        };
-        self.file.begin(out, array, self.fault.row, key)
+        }
+    }
+
+    // Begins a line of an explanation at the value of a key of that table.
+    fn begin(&self, out: &mut String, key: &str) -> Result<(), AllocError> {
+        self.file.begin(out, self.array(), self.fault.row, key)
+    }
+
+    // Begins a line of an explanation at a key of that table.
+    fn begin_at_key(&self, out: &mut String, key: &str) -> Result<(), AllocError> {
+        self.file
+            .begin_at_key(out, self.array(), self.fault.row, key)
     }
 }
 
@@ -131,7 +141,7 @@ fn tell_unknown_key(
     for name in row.keys() {
         if !is_one_of(keys, name.as_str()) {
             let array = array.name();
-            faulty.begin(out, name.as_str())?;
+            faulty.begin_at_key(out, name.as_str())?;
             out.push_str("the key ")?;
             put_word(out, name.as_bytes())?;
             write!(out, " is none that a row of `{array}` has; it has ")?;
@@ -204,6 +214,11 @@ fn tell_double(
 
 // Puts the names of an array's rows behind a text.
 fn put_names(out: &mut String, rows: &[Value]) -> Result<(), AllocError> {
+    out.push_str(if rows.is_empty() {
+        "there is no such row"
+    } else {
+        "they have "
+    })?;
     for (index, row) in rows.iter().enumerate() {
         if index >= 12 {
             return out.push_str(" ..");
@@ -239,10 +254,7 @@ fn tell_unknown_name(
     let array_name = array.name();
     let name = text_at(row, key);
     faulty.begin(out, key.name())?;
-    write!(
-        out,
-        "no row of `{array_name}` has the name `{name}`; they have "
-    )?;
+    write!(out, "no row of `{array_name}` has the name `{name}`; ")?;
     put_names(out, rows(faulty.table, array))?;
     out.push_str("\n")
 }
@@ -326,7 +338,7 @@ fn tell_unknown_part(out: &mut String, faulty: Faulty<'_>) -> Result<(), AllocEr
     for name in faulty.table.keys() {
         if !is_part(name.as_str()) {
             let name = name.as_str();
-            faulty.file.begin(out, name, 1, name)?;
+            faulty.file.begin_at_key(out, name, 1, name)?;
             out.push_str("the key ")?;
             put_word(out, name.as_bytes())?;
             out.push_str(" is none that a policy has; it has ")?;

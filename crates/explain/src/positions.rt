@@ -173,15 +173,20 @@ fn item_of<'a>(alloc: Global, array: &'a str, number: u32) -> Result<Option<&'a 
     })
 }
 
-// The value of a key of a table in brackets.
-fn value_in<'a>(alloc: Global, table: &'a str, key: &str) -> Result<Option<&'a str>, AllocError> {
+// A key of a table in brackets, and its value: each as what stands there and after it.
+fn pair_in<'a>(
+    alloc: Global,
+    table: &'a str,
+    key: &str,
+) -> Result<Option<(&'a str, &'a str)>, AllocError> {
     let mut rest = table.strip_prefix("{").unwrap_or(table);
     for _ in 0..table.len() {
-        let Some((is_key, value)) = pair_next(alloc, skip_blank(rest, true), key)? else {
+        let pair = skip_blank(rest, true);
+        let Some((is_key, value)) = pair_next(alloc, pair, key)? else {
             return Ok(None);
         };
         if is_key {
-            return Ok(Some(value));
+            return Ok(Some((pair, value)));
         }
         let Some(behind) = behind_comma(alloc, value)? else {
             return Ok(None);
@@ -206,6 +211,8 @@ pub struct Found<'a> {
     row: Option<&'a str>,
     // Whether the row stands in brackets, among others of its line.
     is_in_brackets: bool,
+    // The key.
+    key: Option<&'a str>,
     /// The value of the key.
     pub value: Option<&'a str>,
 }
@@ -262,19 +269,24 @@ fn with_header<'a>(
 // What is found of an array whose value is this: its row and the row's key, or where it isn't one in brackets, the value.
 fn in_brackets<'a>(
     alloc: Global,
-    text: &'a str,
+    looked: Looked<'a>,
     value: &'a str,
     wanted: &Wanted<'_>,
 ) -> Result<Found<'a>, AllocError> {
     let row = item_of(alloc, value, wanted.row)?;
-    let value = match row {
-        Some(row) => value_in(alloc, row, wanted.key)?,
-        None => Some(value),
+    let pair = match row {
+        Some(row) => pair_in(alloc, row, wanted.key)?,
+        None => Some((looked.rest, value)),
+    };
+    let (key, value) = match pair {
+        Some((key, value)) => (Some(key), Some(value)),
+        None => (None, None),
     };
     Ok(Found {
-        text,
+        text: looked.found.text,
         row,
         is_in_brackets: true,
+        key,
         value,
     })
 }
@@ -287,9 +299,10 @@ fn found_at<'a>(
     value: &'a str,
 ) -> Result<Found<'a>, AllocError> {
     if looked.part == FilePart::Head && wanted.row > 0 {
-        return in_brackets(alloc, looked.found.text, value, wanted);
+        return in_brackets(alloc, looked, value, wanted);
     }
     let mut found = looked.found;
+    found.key = Some(looked.rest);
     found.value = Some(value);
     Ok(found)
 }
@@ -358,6 +371,7 @@ fn find<'a>(
             text,
             row: None,
             is_in_brackets: false,
+            key: None,
             value: None,
         },
         rest: text,
@@ -377,6 +391,14 @@ impl Found<'_> {
     /// The line and the column at which the last part of the file begins.
     pub fn position_of(&self, rest: &str) -> Position {
         position_of(self.text, rest)
+    }
+
+    /// Where the key stands, or else the row.
+    pub fn key_place(&self) -> Place {
+        match self.key {
+            Some(key) => Place::At(position_of(self.text, key)),
+            None => self.place(),
+        }
     }
 
     /// Where it stands: the key's value, or else the row.
@@ -399,6 +421,17 @@ pub struct File<'a> {
 }
 
 impl<'a> File<'a> {
+    /// Begins a line of an explanation at a key itself, or where it isn't found, as `begin` does.
+    pub fn begin_at_key(
+        &self,
+        out: &mut String,
+        array: &str,
+        row: u32,
+        key: &str,
+    ) -> Result<(), AllocError> {
+        begin(out, self.name, self.find(array, row, key)?.key_place())
+    }
+
     /// Where a key of a row of an array stands.
     pub fn find(&self, array: &str, row: u32, key: &str) -> Result<Found<'a>, AllocError> {
         find(self.alloc, self.text, array, row, key)

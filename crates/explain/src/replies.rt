@@ -6,7 +6,9 @@ use crate::denied::tell_denied;
 use crate::faults::{tell_failed, tell_fault};
 use crate::known::Known;
 use crate::refusals::{tell_spent, tell_step};
-use crate::rings::{tell_busy, tell_empty, tell_waiting};
+use crate::rings::{
+    is_never_ready, tell_busy, tell_dependencies, tell_empty, tell_never_ready, tell_waiting,
+};
 use crate::scene::{Scene, begin};
 use aql_packet::{PacketId, QueueId};
 use core_model::{Answer, Outcome, Polled, Taken, Worked};
@@ -41,15 +43,59 @@ fn busy(
     }
 }
 
+// A packet that was launched and never leaves flight by itself.
+fn launched(
+    out: &mut String,
+    scene: &Scene<'_>,
+    queue: QueueId,
+    packet: PacketId,
+) -> Result<(), AllocError> {
+    match scene.core.flying(queue, packet) {
+        Some(place) if is_never_ready(&place.packet) => {
+            tell_never_ready(out, scene, queue, packet)
+        }
+        _ => Ok(()),
+    }
+}
+
+// What a barrier packet waits for that isn't ready.
+fn pending(out: &mut String, scene: &Scene<'_>, asked: Asked) -> Result<(), AllocError> {
+    let Asked::Flying { queue, packet, .. } = asked else {
+        return Ok(());
+    };
+    match scene.core.flying(queue, packet) {
+        Some(place) if is_never_ready(&place.packet) => {
+            tell_never_ready(out, scene, queue, packet)
+        }
+        Some(place) => tell_dependencies(out, scene, place),
+        None => Ok(()),
+    }
+}
+
+// A dispatch all of whose groups ran before.
+fn done(out: &mut String, scene: &Scene<'_>, asked: Asked) -> Result<(), AllocError> {
+    let Asked::Flying { queue, packet, .. } = asked else {
+        return Ok(());
+    };
+    let number = queue.0;
+    let id = packet.0;
+    begin(out, scene)?;
+    writeln!(
+        out,
+        "all groups of packet {id} of queue {number} ran before: `finish {number} {id}` is left"
+    )
+}
+
 // What became of a packet that was handed over.
 fn taken(
     out: &mut String,
     scene: &Scene<'_>,
     queue: QueueId,
+    packet: PacketId,
     taken: &Taken,
 ) -> Result<(), AllocError> {
     match taken {
-        Taken::Launched => Ok(()),
+        Taken::Launched => launched(out, scene, queue, packet),
         Taken::Denied(error) => tell_denied(out, scene, error),
         Taken::Waiting(cause) => tell_waiting(out, scene, queue, *cause),
     }
@@ -60,10 +106,13 @@ fn outcome(
     alloc: Global,
     out: &mut String,
     scene: &Scene<'_>,
+    asked: Asked,
     outcome: &Outcome,
 ) -> Result<(), AllocError> {
     match outcome {
         Outcome::Worked(Worked::Faulted(error)) => tell_fault(alloc, out, scene, error),
+        Outcome::Worked(Worked::Done) => done(out, scene, asked),
+        Outcome::Polled(Polled::Pending(_)) => pending(out, scene, asked),
         Outcome::Polled(Polled::Failed(error)) => tell_failed(out, scene, error),
         _ => Ok(()),
     }
@@ -78,8 +127,11 @@ fn answered(
     answer: &world::Answer,
 ) -> Result<(), AllocError> {
     match answer {
-        world::Answer::Taken { taken: became, .. } => { taken(out, scene, queue_of(asked), became) }
-        world::Answer::Core(Answer::Outcome(came)) => outcome(alloc, out, scene, came),
+        world::Answer::Taken {
+            packet,
+            taken: became,
+        } => taken(out, scene, queue_of(asked), *packet, became),
+        world::Answer::Core(Answer::Outcome(came)) => outcome(alloc, out, scene, asked, came),
         world::Answer::Header { word, .. } => {
             if !aql_packet::is_invalid(*word) {
                 return Ok(());
@@ -135,7 +187,7 @@ fn tell(
 }
 
 /// Puts behind a text what is told beside the reply to a line of a script, the line of this number, by the world after
-/// it: why it was refused or denied, failed, waits or found nothing, in lines; nothing where none of that happened.
+/// it: why it was refused or denied, failed, waits, never ends or found nothing, in lines; nothing where none of that happened.
 pub fn retold(
     alloc: Global,
     out: &mut String,

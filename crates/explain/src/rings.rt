@@ -1,11 +1,12 @@
 //! What stands in a queue's ring.
 
+use crate::downs::tell_down_ring;
 use crate::scene::{Scene, begin, say};
 use crate::texts::put_object;
-use aql_packet::{Packet, PacketId, QueueId, SignalHandle};
+use aql_packet::{KernelDispatch, Packet, PacketId, QueueId, SignalHandle};
 use core_model::{Satisfied, WaitCause};
-use packet_processor::{Place, is_barrier};
-use policy::Object;
+use packet_processor::{Place, is_barrier, is_ready};
+use policy::{Object, Right, Rights};
 use ring_core::{RingState, SeatPart};
 use std::alloc::AllocError;
 
@@ -55,6 +56,10 @@ pub fn tell_empty(
     let standing = standing_of(ring);
     let number = queue.0;
     let head = standing.head;
+    let before = "no packet is published at the head of its ring, and none would be served: ";
+    if tell_down_ring(out, scene, queue, before)? {
+        return Ok(());
+    }
     begin(out, scene)?;
     let Some(producer) = standing.holder else {
         return writeln!(
@@ -92,6 +97,16 @@ pub fn tell_busy(
         out,
         "the ring of queue {number} has {size} slots, and its head is at id {head}: there is room for ticket {id} once the head is at {room}"
     )?;
+    if tell_down_ring(out, scene, queue, "the head stays there: ")? {
+        return Ok(());
+    }
+    if let Some(producer) = standing_of(ring).holder {
+        begin(out, scene)?;
+        return writeln!(
+            out,
+            "ticket {head} stands at the head, and isn't published: `publish {number} {producer} {head} PACKET`, `serve {number}`, and then `publish` under ticket {id}"
+        );
+    }
     say(
         out,
         scene,
@@ -107,7 +122,7 @@ pub fn dependencies(packet: &Packet) -> [SignalHandle; 5] {
     }
 }
 
-// A signal that a barrier packet still waits for, and its value.
+// A signal that a barrier packet still waits for, and its value; one that has come to 0 wants a poll alone.
 fn tell_dependency(
     out: &mut String,
     scene: &Scene<'_>,
@@ -117,6 +132,7 @@ fn tell_dependency(
     out.push_str("it waits for ")?;
     put_object(out, scene.policy, Object::Signal(signal))?;
     match scene.core.value_of(signal) {
+        Some(0) => out.push_str(", whose value is 0: the next `poll` sees that\n"),
         Some(value) => writeln!(out, ", whose value is {value}"),
         None => out.push_str("\n"),
     }
@@ -147,6 +163,82 @@ pub fn tell_dependencies(
     tell_unseen(out, scene, dependencies(&place.packet), seen)
 }
 
+// How many work-groups there are along a dimension.
+fn groups_along(grid: u32, size: u16) -> u64 {
+    let size = size as u64;
+    if size == 0 {
+        return 0;
+    }
+    (grid as u64).saturating_add(size.saturating_sub(1)) / size
+}
+
+// How many work-groups a kernel dispatch has.
+fn groups_of(dispatch: &KernelDispatch) -> u64 {
+    groups_along(dispatch.grid_size_x, dispatch.workgroup_size_x)
+        .saturating_mul(groups_along(dispatch.grid_size_y, dispatch.workgroup_size_y))
+        .saturating_mul(groups_along(dispatch.grid_size_z, dispatch.workgroup_size_z))
+}
+
+/// How many work-groups of a packet in flight are left to run; none of a barrier packet.
+pub fn groups_left(place: &Place) -> u64 {
+    let groups = match &place.packet {
+        Packet::Kernel(dispatch) => groups_of(dispatch),
+        Packet::Agent(_) => 1,
+        _ => 0,
+    };
+    groups.saturating_sub(place.progress.groups_run as u64)
+}
+
+/// Whether a packet is a barrier packet that never gets ready: one that waits for any of no signals.
+pub fn is_never_ready(packet: &Packet) -> bool {
+    match packet {
+        Packet::BarrierOr(barrier) => barrier.dependencies.iter().all(|signal| signal.0 == 0),
+        _ => false,
+    }
+}
+
+/// What ends a barrier packet that never gets ready.
+pub fn tell_never_ready(
+    out: &mut String,
+    scene: &Scene<'_>,
+    queue: QueueId,
+    packet: PacketId,
+) -> Result<(), AllocError> {
+    let queue = queue.0;
+    let id = packet.0;
+    begin(out, scene)?;
+    writeln!(
+        out,
+        "barrier packet {id} of queue {queue} waits for any of no signals, and never gets ready: `stop {queue}` or `close {queue}` ends it"
+    )
+}
+
+// A barrier packet of a queue in flight, and what brings it to its end.
+fn tell_flying_barrier(
+    out: &mut String,
+    scene: &Scene<'_>,
+    queue: QueueId,
+    place: &Place,
+) -> Result<(), AllocError> {
+    if is_never_ready(&place.packet) {
+        return tell_never_ready(out, scene, queue, place.id);
+    }
+    let queue = queue.0;
+    let id = place.id.0;
+    begin(out, scene)?;
+    if is_ready(&place.packet, &place.progress.satisfied) {
+        return writeln!(
+            out,
+            "barrier packet {id} of queue {queue} is in flight, and ready: `finish {queue} {id}`"
+        );
+    }
+    writeln!(
+        out,
+        "barrier packet {id} of queue {queue} is in flight: `poll {queue} {id}` until it is ready, and `finish {queue} {id}`"
+    )?;
+    tell_dependencies(out, scene, place)
+}
+
 // A packet of a queue in flight, and what brings it to its end.
 fn tell_flying(
     out: &mut String,
@@ -154,15 +246,17 @@ fn tell_flying(
     queue: QueueId,
     place: &Place,
 ) -> Result<(), AllocError> {
+    if is_barrier(&place.packet) {
+        return tell_flying_barrier(out, scene, queue, place);
+    }
     let queue = queue.0;
     let id = place.id.0;
     begin(out, scene)?;
-    if is_barrier(&place.packet) {
-        writeln!(
+    if groups_left(place) == 0 {
+        return writeln!(
             out,
-            "barrier packet {id} of queue {queue} is in flight: `poll {queue} {id}` until it is ready, and `finish {queue} {id}`"
-        )?;
-        return tell_dependencies(out, scene, place);
+            "packet {id} of queue {queue} is in flight, and all its groups ran: `finish {queue} {id}`"
+        );
     }
     writeln!(
         out,
@@ -230,18 +324,40 @@ fn tell_held_by(
     )
 }
 
-/// The packet that holds a right, and what would release it.
+// Which right it is that is held: of several that are to be taken, one of them.
+fn put_held(
+    out: &mut String,
+    scene: &Scene<'_>,
+    taken: Option<(Object, Rights)>,
+) -> Result<(), AllocError> {
+    let Some((object, rights)) = taken else {
+        return out.push_str("a right that the further policy doesn't allow");
+    };
+    let mut is_first = true;
+    for right in Right::ALL {
+        if rights.has(right) {
+            out.push_str(if is_first { "" } else { " or " })?;
+            out.push_str(right.name())?;
+            is_first = false;
+        }
+    }
+    out.push_str(" on ")?;
+    put_object(out, scene.policy, object)
+}
+
+/// The packet that holds a right, one of those that were to be taken from an object or that a further policy doesn't allow,
+/// and what would release it.
 pub fn tell_holder(
     out: &mut String,
     scene: &Scene<'_>,
     queue: QueueId,
     packet: PacketId,
+    taken: Option<(Object, Rights)>,
 ) -> Result<(), AllocError> {
-    say(
-        out,
-        scene,
-        "a packet in flight holds a right that is to be taken; it is released once it is finished",
-    )?;
+    begin(out, scene)?;
+    out.push_str("a packet in flight holds ")?;
+    put_held(out, scene, taken)?;
+    out.push_str(": it is released once that is finished\n")?;
     match scene.core.flying(queue, packet) {
         Some(place) => tell_held_by(out, scene, queue, place),
         None => Ok(()),

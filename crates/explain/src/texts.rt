@@ -1,8 +1,9 @@
 //! Names, ranges and bytes as explanations have them.
 
+use crate::lacks::Lack;
 use aql_packet::{Address, ClientId, REGION_SPAN, RegionHandle};
 use core_model::Range;
-use policy::{Kind, Object, Policy, Right};
+use policy::{Kind, Object, Policy};
 use std::alloc::AllocError;
 
 // How many bytes of a word are shown at the most.
@@ -90,22 +91,50 @@ pub fn lies_whole(policy: &Policy, range: Range) -> bool {
     }
 }
 
-/// The line that grants a client a right on an object.
+// Puts what grants a client a right on an object behind a text, up to the right.
+fn put_grantee(out: &mut String, policy: &Policy, lack: &Lack) -> Result<(), AllocError> {
+    let kind = lack.object.kind();
+    out.push_str("grant ")?;
+    put_client(out, policy, lack.client)?;
+    write!(out, " {kind} ")?;
+    if let Some(name) = policy.object_name(lack.object) {
+        out.push_str(name)?;
+    }
+    Ok(())
+}
+
+// Puts a right to grant behind a text: the first behind what it is granted to and on, a further one behind a comma.
+fn put_granted(
+    out: &mut String,
+    policy: &Policy,
+    lack: &Lack,
+    is_first: bool,
+) -> Result<(), AllocError> {
+    let right = lack.right;
+    if is_first {
+        put_grantee(out, policy, lack)?;
+        return write!(out, " {right}");
+    }
+    write!(out, ",{right}")
+}
+
+/// Puts the line that grants a client the rights behind a text that it lacks on one object and the policy allows; nothing
+/// where there are none.
 pub fn put_grant(
     out: &mut String,
     policy: &Policy,
-    client: ClientId,
-    object: Object,
-    right: Right,
+    lacks: &[Option<Lack>],
 ) -> Result<(), AllocError> {
-    let kind = object.kind();
-    out.push_str("grant ")?;
-    put_client(out, policy, client)?;
-    write!(out, " {kind} ")?;
-    if let Some(name) = policy.object_name(object) {
-        out.push_str(name)?;
+    let mut is_first = true;
+    for lack in lacks {
+        if let Some(lack) = lack {
+            if lack.is_allowed {
+                put_granted(out, policy, lack, is_first)?;
+                is_first = false;
+            }
+        }
     }
-    writeln!(out, " {right}")
+    out.push_str(if is_first { "" } else { "\n" })
 }
 
 // How many names are listed at the most.

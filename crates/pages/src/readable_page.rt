@@ -43,8 +43,8 @@ Q is a queue's number, P that of a producer; what stands in capitals is put in.
 |---|---|
 | `dispatch CLIENT? Q P KERNEL grid SIZES group SIZES` | a kernel dispatch. After the sizes may stand `arguments VALUE..`, and then options |
 | `fill Q P ADDRESS length N with BYTE` | an agent dispatch of FILL: N bytes become the low byte of BYTE |
-| `copy Q P ADDRESS to ADDRESS length N` | of COPY: N bytes, as if by a copy aside |
-| `add Q P N to ADDRESS` | of ADD64: the 64-bit number there gains N |
+| `copy Q P ADDRESS to ADDRESS length N` | an agent dispatch of COPY: N bytes, as if by a copy aside |
+| `add Q P N to ADDRESS` | an agent dispatch of ADD64: the 64-bit number there gains N |
 | `all-of Q P SIGNAL..` | a barrier-AND on up to five signals; those not named are null |
 | `any-of Q P SIGNAL..` | a barrier-OR |
 

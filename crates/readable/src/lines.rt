@@ -11,7 +11,7 @@ use crate::drained::Drained;
 use crate::draining::drain;
 use crate::moves::{command_of, reply_of};
 use aql_packet::QueueId;
-use assemble::{Book, LineError, Turned, fault_text, put_lines, without_comment};
+use assemble::{Book, Fault, LineError, Turned, fault_text, help_text, put_lines, without_comment};
 use json_replies::Json;
 use policy::Policy;
 use script::{Flow, RunFault, ScriptFault, Style, Text, Voice, Watch, answer};
@@ -272,6 +272,23 @@ impl<'a, S: DrainVoice> Readable<'a, S> {
         }
     }
 
+    // What is wanted in a line of no form, and behind it what may stand there, where that is known.
+    fn wanted_text(
+        &self,
+        alloc: Global,
+        number: u64,
+        line: &[u8],
+        fault: Fault,
+    ) -> Result<String, AllocError> {
+        let mut text = fault_text(alloc, number, line, fault)?;
+        let help = help_text(alloc, &self.book.policy, number, line, fault)?;
+        if !help.is_empty() {
+            text.push_str("\n")?;
+            text.push_str(help.as_str())?;
+        }
+        Ok(text)
+    }
+
     // Keeps what is wanted in a line of no form.
     fn refuse<F>(
         &mut self,
@@ -285,7 +302,7 @@ impl<'a, S: DrainVoice> Readable<'a, S> {
         let LineError::Fault(fault) = error else {
             return Err(RunFault::Script(ScriptFault::OutOfMemory));
         };
-        match fault_text(alloc, number, line, fault) {
+        match self.wanted_text(alloc, number, line, fault) {
             Ok(text) => {
                 self.wanted = text;
                 Ok(None)

@@ -26,7 +26,7 @@ const REFUSALS: [RefusalRow; 17] = refusals! {
     2 "UnknownQueue" "no open queue has that number";
     3 "Denied" "the right that is named isn't in force for the client on that object, or on the whole range";
     4 "Busy" "a packet in flight holds a right that is to be revoked, or that a reload is to take: it is the one that is named; finish it, stop its queue if it is a barrier packet, or close its queue";
-    5 "NotAllowed" "no allow row of the policy covers each of these rights for the client on that object";
+    5 "NotAllowed" "the policy doesn't allow one of these rights: the allow rows that cover the client and the object don't have it together, a deny row takes it, or objects of that kind have no such right";
     6 "OutOfStep" "packets of a queue are taken in the order of their ids: the next one is named";
     7 "QueueDown" "the queue had an error or was stopped, and launches nothing more";
     8 "NotInFlight" "no packet of that id is in flight, or it is of another kind than this call takes";
@@ -36,7 +36,7 @@ const REFUSALS: [RefusalRow; 17] = refusals! {
     12 "TooMany" "64 queues are open";
     13 "UnknownObject" "the policy declares no object of that kind and name";
     14 "NotAStep" "the seat may not make this step of its ring now: a foreign or published ticket, no room seen, no packet read whole, or a packet not taken yet";
-    15 "Spent" "the ring's producers have reserved 1099511627776 ids";
+    15 "Spent" "the producer has reserved 1099511627776 ids, the most; each other producer of the ring has its own";
     16 "OtherObjects" "the policy that is handed in declares other clients or objects than the first one, or one of them with another key";
 };
 
