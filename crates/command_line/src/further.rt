@@ -8,7 +8,7 @@ use crate::session::GREETING;
 use crate::terminal::{Beside, TerminalReader};
 use crate::watchers::{Recorder, Teller, Telling};
 use assemble::{Book, BookError};
-use commands::{Opened, PolicyText, Span, Status, draw_audit, run_over, tell_run};
+use commands::{Opened, PolicyText, Span, Status, draw_audit, run_over, tell_run, tell_unwatched};
 use journal_commands::{JournalFault, JournalWriter};
 use json_replies::Json;
 use readable::Readable;
@@ -177,7 +177,7 @@ fn run_unwatched<L: Style, R: io::Read>(
     let out = &mut Noted::new(rt.stdout());
     let script = &mut Noted::new(script);
     let ended = run_over(alloc, opened, style, &mut Nobody, script, out);
-    tell_run(alloc, ended, &mut Noted::new(rt.stderr()))
+    tell_unwatched(alloc, ended, &mut Noted::new(rt.stderr()))
 }
 
 // Runs a script each of whose lines is one of a script: with nobody who watches, unless something else is asked for.

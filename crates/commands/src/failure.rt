@@ -1,7 +1,7 @@
 //! Why a command doesn't do what was asked, and how that is told.
 
 ghost use Rattle.std.specs.Prelude.{◌≡◌, IfOk, IfSome, None, string_bytes, true};
-ghost use Rattle.commands.specs.Commands.{EndsBy, TellsEnd, TellsRun};
+ghost use Rattle.commands.specs.Commands.{EndsBy, TellsEnd, TellsRun, no_stop};
 ghost use Rattle.commands.specs.Failures.{status_of, has_number, line_of_failure, stream, text_of_failure, NamesFailure, TellsLine, failure_of_reading, failure_of_kernels, failure_of_opening, failure_of_script};
 
 use crate::kernel_judging::{KernelError, KernelFault};
@@ -213,16 +213,6 @@ pub trait Stops {
         ensures { stops result };
 }
 
-impl Stops for Never {
-    ghost use Rattle.commands.specs.Commands.{no_stop};
-
-    ghost stops = { no_stop };
-
-    fn stop(self) -> Stop {
-        match self {}
-    }
-}
-
 impl Stops for NotDone {
     ghost use Rattle.commands.specs.Commands.{refused_quietly};
 
@@ -268,5 +258,20 @@ pub fn tell_run<F: Stops + Drop, E: Sink>(
         Ok(()) => Status::Done,
         Err(RunFault::Script(why)) => name_failure(alloc, Failure::of_script(why), err),
         Err(RunFault::Watcher(fault)) => tell_stop(alloc, fault.stop(), err),
+    }
+}
+
+/// Names why a run that nobody watched wasn't done to its end, if it wasn't.
+pub fn tell_unwatched<E: Sink>(
+    alloc: Global,
+    ended: Result<(), RunFault<Never>>,
+    err: &mut E,
+) -> Status
+    ensures { TellsRun no_stop ended (stream (E.contents err.old) (E.failed err.old)) (stream (E.contents err.new) (E.failed err.new)) result }
+{
+    match ended {
+        Ok(()) => Status::Done,
+        Err(RunFault::Script(why)) => name_failure(alloc, Failure::of_script(why), err),
+        Err(RunFault::Watcher(fault)) => match fault {},
     }
 }

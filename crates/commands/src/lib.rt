@@ -14,7 +14,7 @@ mod status;
 
 pub use check::{Setup, check_policy, count_rows, judge};
 pub use draw::draw_audit;
-pub use failure::{Failure, Stop, Stops, name_failure, tell_end, tell_run};
+pub use failure::{Failure, Stop, Stops, name_failure, tell_end, tell_run, tell_unwatched};
 pub use further::{Further, FurtherFault, PolicyText, read_further};
 pub use kernel_judging::{KernelCause, KernelError, KernelFault, check_kernels};
 pub use laws::law_missing_entries_are_told;

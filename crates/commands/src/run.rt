@@ -10,7 +10,7 @@ ghost use Rattle.script.specs.declared.watchers.NotDone.{NotDone};
 ghost use Rattle.world.specs.Starting.{Begins};
 
 use crate::check::{Setup, judge};
-use crate::failure::{Failure, Stops, name_failure, tell_run};
+use crate::failure::{Failure, Stops, name_failure, tell_run, tell_unwatched};
 use crate::further::{Further, PolicyText, read_further};
 use crate::status::Status;
 use access_core::{Kernel, OpenFault};
@@ -151,7 +151,25 @@ where
     tell_run(alloc, ended, err)
 }
 
-// Runs a script over the policies in texts so.
+// Runs a script over what was opened so, with nobody who watches.
+fn run_unwatched<R: Source, O: Sink, E: Sink>(
+    alloc: Global,
+    opened: Opened,
+    script: &mut R,
+    out: &mut O,
+    err: &mut E,
+) -> Status
+    ensures { RunsIn Never worlds no_stop opened
+        (streams (stream (R.remaining script.old) (R.failed script.old)) (stream (O.contents out.old) (O.failed out.old)) (stream (E.contents err.old) (E.failed err.old)))
+        (streams (stream (R.remaining script.new) (R.failed script.new)) (stream (O.contents out.new) (O.failed out.new)) (stream (E.contents err.new) (E.failed err.new))) result }
+{
+    let mut opened = opened;
+    let style = &mut Plain { voice: Text };
+    let ended = run_over(alloc, &mut opened, style, &mut Nobody, script, out);
+    tell_unwatched(alloc, ended, err)
+}
+
+// Runs a script over the policies in texts, under a watcher.
 fn run_watching<V: Watch, R: Source, O: Sink, E: Sink>(
     alloc: Global,
     text: &[u8],
@@ -194,8 +212,10 @@ pub fn run_policies<R: Source, O: Sink, E: Sink>(
         (streams (stream (R.remaining script.old) (R.failed script.old)) (stream (O.contents out.old) (O.failed out.old)) (stream (E.contents err.old) (E.failed err.old)))
         (streams (stream (R.remaining script.new) (R.failed script.new)) (stream (O.contents out.new) (O.failed out.new)) (stream (E.contents err.new) (E.failed err.new))) result }
 {
-    let watcher = &mut Nobody;
-    run_watching(alloc, text, further, places, watcher, script, out, err)
+    match open_policies(alloc, text, further, places) {
+        Ok(opened) => run_unwatched(alloc, opened, script, out, err),
+        Err(why) => name_failure(alloc, why.failure, err),
+    }
 }
 
 /// Runs a script over the policy in a text as `run_policies` does, with no further policies.

@@ -193,6 +193,7 @@ impl<S: Voice> Style for Plain<S> {
 
     ghost answering = { by_line S.tells };
 
+    #[inline(always)]
     fn answer<V: Watch>(
         &mut self,
         alloc: Global,

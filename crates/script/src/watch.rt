@@ -40,7 +40,7 @@ pub enum Turn {
 }
 
 /// Why a watcher that never ends a run ended it: it has no value.
-#[derive(Clone, Copy, Debug)]
+#[derive(Clone, Copy)]
 pub enum Never {}
 
 /// Sees what each line asks and what it is answered, and says whether the run goes on at once. Where it doesn't, the replies so
