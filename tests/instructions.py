@@ -242,18 +242,33 @@ class Counter:
         many, few = (self.instructions([self.brokerd, "run", self.policy(sized(count))]) for count in (4, 0))
         return many - few
 
-    def through_library(self, others, told="no"):
-        """A packet through the library for C, with so many others in flight, its changes told in this way."""
-        driver = f"{self.room}/counted_driver"
+    def driver(self, name):
+        """The driver in C of this name, built; none if it can't be."""
+        driver = f"{self.room}/{name}"
         with self.alone:
             if not os.path.exists(driver):
-                words = ["gcc", "-std=c11", "-O2", "-Wall", "-Wextra", "-Wpedantic", "-Werror", INCLUDE, "-o", driver, f"{HERE}/c_counted.c", ARCHIVE, library_of_c()]
+                words = ["gcc", "-std=c11", "-O2", "-Wall", "-Wextra", "-Wpedantic", "-Werror", INCLUDE, "-o", driver, f"{HERE}/{name}.c", ARCHIVE, library_of_c()]
                 built = subprocess.run(words, capture_output=True, text=True)
                 if built.returncode:
-                    self.wrong.append(f"{HERE}/c_counted.c: {built.stderr[-300:]}")
-                    return 0
+                    self.wrong.append(f"{HERE}/{name}.c: {built.stderr[-300:]}")
+                    return None
+        return driver
+
+    def through_library(self, others, told="no"):
+        """A packet through the library for C, with so many others in flight, its changes told in this way."""
+        driver = self.driver("c_counted")
+        if driver is None:
+            return 0
         few, many = (self.instructions([driver, str(count), str(others), told]) for count in (500, 1500))
         return (many - few) / 1000
+
+    def emptied(self, mebibytes):
+        """4 KB written, and the audit emptied, over 64 KB and so many MiB of regions, through the library for C."""
+        driver = self.driver("c_emptied")
+        if driver is None:
+            return 0
+        few, many = (self.instructions([driver, str(mebibytes), str(count)]) for count in (50, 150))
+        return (many - few) / 100
 
     def told_beside(self, told):
         """What it takes to tell the changes of a packet in this way."""
@@ -298,6 +313,8 @@ class Counter:
             yield "packet through the library for C, 441 others in flight, in hundredths of one alone", lambda: hundredths(self.through_library(441), self.through_library(0))
             yield "changes of a packet told by hd_effects, through the library for C", lambda: self.told_beside("once")
             yield "the same told by hd_effect_count, hd_effect_at and hd_effect_bytes, through the library for C", lambda: self.told_beside("singly")
+            yield "audit emptied of which 4 KB was written, over 64 KB", lambda: self.emptied(0)
+            yield "audit emptied of which 4 KB was written, over 64 MiB, in hundredths of one over 64 KB", lambda: hundredths(self.emptied(64), self.emptied(0))
         if os.path.exists(BENCH) and not self.is_unproved:
             yield "packet of a lane", self.lanes
             yield "packet of a lane, from its ring to its finish", lambda: self.lanes() - self.lanes([SETTLING])

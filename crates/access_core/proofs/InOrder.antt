@@ -8,6 +8,7 @@ use Rattle.std.proofs.lemmas.List.Elements.{All-contains, Contains-append_left, 
 use Rattle.core_model.specs.declared.origin.PacketOrigin.{PacketOrigin}
 use Rattle.access_core.specs.inner.ArgumentBlocks.{Ascend, by_number}
 use Rattle.access_core.specs.inner.Origins.{AreInOrder, packet_origin, sooner}
+use Rattle.access_core.specs.inner.Ready.{later}
 use Rattle.access_core.proofs.Ascending.{filter-every, filter-none}
 use Rattle.access_core.proofs.Lying.{all-alike, contains-cases}
 use Rattle.access_core.proofs.Terms.{All-head, All-nil, All-push, All-tail, All-weaker, ArgumentBlock, Queue, all_blocks, append-nil, ltb-false, ltb-true}
@@ -75,9 +76,6 @@ module _ (from : ℕ) where
   soonest-is bs = steps [] bs None (All-nil Past)
 
 -- ---- those that aren't told yet
-
-abbrev pub later : ℕ → List ArgumentBlock → List ArgumentBlock
-later from bs = filter (λ (b : ArgumentBlock). nat_le from b.number) bs
 
 le-false : (m n : ℕ) → n < m → nat_le m n ≡ false
 le-false m n less = grind arith
@@ -189,3 +187,9 @@ none-found queues count blocks are origins from turns less none was =
     let before = was.left in
     let all = are.are_all in
     omega (arith, empty, before, all, less)
+
+-- it isn't before the number
+pub found-late : (queues : List Queue) (from : ℕ) (one : ArgumentBlock) → fold (sooner from) None (all_blocks queues) ≡ Some one → from ≤ one.number
+found-late queues from one found =
+    let is : IsSoonest from (all_blocks queues) (Some one) = subst (IsSoonest from (all_blocks queues)) found (soonest-is from (all_blocks queues)) in
+    is.1

@@ -138,6 +138,18 @@ impl Cells {
         self.rules.set_rows(rows);
     }
 
+    /// The same, in exchange for those before, which come back.
+    pub fn exchange_rows(&mut self, rows: &mut PolicyRows)
+        ensures kept { (client : ClientId) (object : Object) (right : Right) → in_table self.new client object right
+            ≡ (in_table self.old client object right && rows_allow rows.old client object right) }
+        ensures counts { (client : ClientId) (object : Object) (right : Right) → hold_count self.new client object right ≡ hold_count self.old client object right }
+        ensures rules { self.new.rules ≡ record self.old.rules { rows = rows.old } }
+    {
+        self.allowed.weigh(&self.rules, rows);
+        settle(&mut self.cells, self.allowed.table.as_slice());
+        self.rules.exchange_rows(rows);
+    }
+
     /// Whether other rows allow all that is in force. The table stays: what it changes is room to reckon in. It takes no
     /// memory.
     pub fn are_allowed_by(&mut self, rows: &PolicyRows) -> bool

@@ -314,6 +314,14 @@ impl Grants {
         self.table.put_rows(rows);
     }
 
+    /// The same, in exchange for the rows before, which come back.
+    pub fn exchange_rows(&mut self, rows: &mut PolicyRows)
+        requires { IsBlockedBy self.old rows.old None }
+        ensures { Reloads self.old self.new rows.old }
+    {
+        self.table.exchange_rows(rows);
+    }
+
     /// The same grants and holds in memory of their own, with no more room than they take.
     pub fn copy(&self, alloc: Global) -> Result<Grants, AllocError>
         ensures { IfOk result (IsCopy self.now) }

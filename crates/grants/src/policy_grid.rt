@@ -6,6 +6,7 @@ use aql_packet::ClientId;
 use policy::{Kind, Object, Policy, PolicyRows, Target};
 use std::alloc::{AllocError, Global};
 use std::marker::Model;
+use std::mem::swap;
 
 /// How many clients and objects a policy declares, and its rows on rights.
 #[derive(Drop)]
@@ -78,6 +79,14 @@ impl PolicyGrid {
         ensures { self.new ≡ record self.old { rows = rows } }
     {
         self.rows = rows;
+    }
+
+    /// Exchanges the rows on rights for others.
+    pub fn exchange_rows(&mut self, rows: &mut PolicyRows)
+        ensures grid { self.new ≡ record self.old { rows = rows.old } }
+        ensures rows { rows.new ≡ self.old.rows }
+    {
+        swap(&mut self.rows, rows);
     }
 
     /// The rows on rights.

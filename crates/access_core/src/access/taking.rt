@@ -310,6 +310,12 @@ impl AccessCore {
             rights,
             bytes: block,
         };
+        self.fresh.provide(
+            alloc,
+            self.in_flight_count + 1,
+            given.rights.len(),
+            given.bytes.len(),
+        )?;
         place_next(&mut self.queues, queue, *launching.asked.packet(), given);
         self.in_flight_count += 1;
         let event = Event::Take {

@@ -9,7 +9,9 @@ use Rattle.core_model.specs.States.{state_after}
 use Rattle.core_model.proofs.States.{rotated-part, same-begin}
 use Rattle.regions.specs.Memory.{lengths_of}
 use Rattle.sequences.specs.Room.{Roomy}
-use Rattle.access_core.proofs.Rotating.{IsCached-rotated, few-behind}
+use Rattle.grants.specs.Ledger.{IsCopy}
+use Rattle.access_core.specs.inner.Cached.{IsKeptStart}
+use Rattle.access_core.proofs.Rotating.{IsCached-rotated, few-behind, same-kept}
 use Rattle.access_core.proofs.Seen.{seen}
 use Rattle.access_core.proofs.Terms.{history_of, program_of, start_of}
 use Rattle.access_core.proofs.access.AccessCore.rotate.Goals as goal
@@ -27,6 +29,10 @@ invariant_of-self c =
     (ap (λ (list : Roomy Entry). list.items) c.replace-entries.ensures.after ∙ c.in_ok-empty.ensures.empty)
     (ap (λ (list : Roomy Entry). list.room) c.replace-entries.ensures.after ∙ c.in_ok-empty.ensures.room)
     (few-behind a c.self.invariant c.replace-start.new.dest near begins)
+    (subst IsKeptStart (sym c.replace-start.ensures.after)
+    (same-kept c.in_ok-next.next c.in_ok-end.end (subst (SameOrigin c.in_ok-next.next) c.as_ref.ensures c.in_ok-next.ensures.same)
+    (c.in_ok-next.ensures.policy ∙ ap (λ (o : Origin). o.policy) c.as_ref.ensures)
+    (subst (λ (o : Origin). IsCopy o.grants c.in_ok-next.next.grants) c.as_ref.ensures c.in_ok-next.ensures.grants) c.in_ok-end.ensures.kept))
 
 pub returns-clause-rotated : goal.returns-clause-rotated
 returns-clause-rotated c =
