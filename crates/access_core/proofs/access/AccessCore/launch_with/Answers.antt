@@ -74,17 +74,17 @@ invariant_of-self c =
           (queues-launched a c.self.invariant c.args.queue c.args.packet c.args.bytes.now can p c.requires.decided.1 next.id_is block refl (refl, client-of a c.self.invariant c.args.queue can _ owned) within);
       laid = rw (c.place_next.ensures.queues, c.packet-2.ensures)
           (laid-launched a.queues.items (a.start.before + length a.audit.items) c.self.invariant.blocks c.self.invariant.laid c.args.queue can.opened.q can.opened.found can.opened.ascending p block refl number_is);
-      ready = ready-launched a.fresh a.told a.start c.self.invariant.blocks c.self.invariant.ready c.provide.new.fresh c.provide.ensures.rights_kept c.provide.ensures.bytes_kept block
+      ready = ready-launched a.fresh a.told a.start c.self.invariant.blocks c.self.invariant.ready c.provide.new.self c.provide.ensures.rights_kept c.provide.ensures.bytes_kept block
           (let told = c.self.invariant.ready.before in omega (arith, told, number_is))
-          (subst (λ n. n ≤ c.provide.new.fresh.rights.each) c.len-2.ensures c.in_ok-provide.ensures.rights.1, subst (λ n. n ≤ c.provide.new.fresh.bytes.each) c.len-3.ensures c.in_ok-provide.ensures.bytes.1)
-          (subst (HasLists c.provide.new.fresh) (sym (ap (λ n. n + 1) (blocks-count a c.self.invariant))) (c.in_ok-provide.ensures.rights.0, c.in_ok-provide.ensures.bytes.0));
+          (subst (λ n. n ≤ c.provide.new.self.rights.each) c.len-2.ensures c.in_ok-provide.ensures.rights.1, subst (λ n. n ≤ c.provide.new.self.bytes.each) c.len-3.ensures c.in_ok-provide.ensures.bytes.1)
+          (subst (HasLists c.provide.new.self) (sym (ap (λ n. n + 1) (blocks-count a c.self.invariant))) (c.in_ok-provide.ensures.rights.0, c.in_ok-provide.ensures.bytes.0));
     })
     _ (seen c.self.view_is) c.requires.decided.0
 
 pub invariant_of-self-2 : goal.invariant_of-self-2
 invariant_of-self-2 c =
     let a = c.self.inside in
-    IsCached-provided a c.self.invariant c.provide.new.fresh c.provide.ensures.rights_kept c.provide.ensures.bytes_kept
+    IsCached-provided a c.self.invariant c.provide.new.self c.provide.ensures.rights_kept c.provide.ensures.bytes_kept
 
 pub returns-in_err-provide-clause-met : goal.returns-in_err-provide-clause-met
 returns-in_err-provide-clause-met c =
