@@ -1,5 +1,5 @@
 -- A start that moved on by the audit's entries, with what is kept of queues and packets, tells of the state behind them.
-use Rattle.std.proofs.Common.{◌≡◌, ℕ, ◌+◌, ◌≤◌, List, [], Ok, length, map, refl, sym, ◌∙◌, ap, subst, true, false, Bool, Option, Some, None, fold}
+use Rattle.std.proofs.Common.{◌≡◌, ℕ, ◌+◌, ◌<◌, ◌≤◌, All, List, [], Ok, length, map, refl, sym, ◌∙◌, ap, subst, arith, true, false, Option, Some, fold}
 use Rattle.std.specs.List.{filter_map}
 use Rattle.std.specs.Option.{unwrap_or}
 use Rattle.policy.specs.declared.rows.PolicyRows.{PolicyRows}
@@ -17,21 +17,39 @@ use Rattle.regions.specs.Memory.{lengths_of}
 use Rattle.grants.specs.Ledger as ledger
 use Rattle.access_core.specs.inner.Cached.{IsKeptStart}
 use Rattle.access_core.specs.declared.fresh.Fresh.{Fresh}
-use Rattle.access_core.specs.inner.MovingOn.{MayMove, MovesOn}
+use Rattle.access_core.specs.inner.MovingOn.{MayMove, MayTell, MovesOn}
 use Rattle.access_core.specs.inner.Ready.{AreReady, Fits, IsTold, Spends, WasTold, later}
 use Rattle.access_core.proofs.InOrder.{later-none}
 use Rattle.access_core.proofs.Rotated.{all-told}
 use Rattle.core_model.specs.declared.origin.PacketOrigin.{PacketOrigin}
+use Rattle.core_model.specs.declared.origin.QueueOrigin.{QueueOrigin}
 use Rattle.access_core.specs.inner.Origins.{SameInForce, packet_origin, queue_origin}
 use Rattle.access_core.proofs.Rotating.{IsCached-rotated, copied-behind, few-behind}
-use Rattle.access_core.proofs.Terms.{history_of, IsCached, Inside, Ledger, Rules, are_region_lengths, byte_at, lies_in_region, program_of, region_lengths, rules_in, rules_of, start_of}
+use Rattle.access_core.proofs.TellingAgain.{may-tell}
+use Rattle.access_core.proofs.Terms.{history_of, All-weaker, ArgumentBlock, IsCached, Inside, Ledger, Queue, Rules, are_region_lengths, byte_at, lies_in_region, program_of, region_lengths, rules_in, rules_of, start_of}
 
 module _ (a : Inside) (kept : IsCached a) (fit : are_region_lengths (region_lengths a.start.policy) ≡ true) where
   -- the audit's entries follow lawfully from the start
   pub may-move : MayMove a.start a.audit.items
   may-move = record { kernels = map program_of a.kernels.items; legal = kept.legal; kept = kept.start_kept; fit = fit }
 
+  -- an empty audit in the memory of the one before has room for as many entries
+  audit-room : (audit : Roomy Entry) → audit.room ≡ length a.audit.items + a.audit.room → audit.room ≡ a.capacity
+  audit-room audit room = room ∙ sym kept.places
+
   module _ (moved : Origin) (is : MovesOn a.start a.audit.items moved) where
+    -- it has what was told of packets before, which is told anew
+    module _ (queues : List Queue) (same : queues ≡ a.queues.items) where
+      pub tells-anew : MayTell queues a.in_flight_count a.told moved.packets a.fresh kept.blocks
+      tells-anew =
+          subst (λ (qs : List Queue). MayTell qs a.in_flight_count a.told moved.packets a.fresh kept.blocks) (sym same)
+          (subst (λ (ps : List PacketOrigin). MayTell a.queues.items a.in_flight_count a.told ps a.fresh kept.blocks) (sym (ap (λ (o : Origin). o.packets) is.others)) (may-tell a kept))
+
+      pub told-anew : (packets : List PacketOrigin)
+          → ((blocks : List ArgumentBlock) → MayTell queues a.in_flight_count a.told moved.packets a.fresh blocks → packets ≡ filter_map (packet_origin queues) blocks)
+          → packets ≡ filter_map (packet_origin a.queues.items) kept.blocks
+      told-anew packets told = told kept.blocks tells-anew ∙ ap (λ (qs : List Queue). filter_map (packet_origin qs) kept.blocks) same
+
     abbrev b : Inside
     b = record a { grants = moved.grants; memory = moved.memory; signals = moved.signals }
 
@@ -149,8 +167,7 @@ module _ (a : Inside) (kept : IsCached a) (fit : are_region_lengths (region_leng
         pub is-truncated : Truncates (history_of a) (Ok tt) (history_of (record a { start = new; audit = audit }))
         is-truncated = (
           record { start = a.start; entries = a.audit.items; end = new },
-          near,
-          record {
+          (near, record {
             start_is = refl;
             entries_are = refl;
             end_is = begins-behind;
@@ -170,5 +187,30 @@ module _ (a : Inside) (kept : IsCached a) (fit : are_region_lengths (region_leng
             kernels_are = refl;
             capacity_is = refl;
             empty = empty;
-          },
+          }),
         )
+
+  -- ---- as the call leaves it
+
+  -- the start, in its memory, and what is kept of queues and packets
+  abbrev start_behind : Origin → List QueueOrigin → List PacketOrigin → ℕ → Origin
+  start_behind moved queues packets before = record moved { opened = a.opened; queues = queues; packets = packets; before = before }
+
+  module _ (near : lies_too_far (history_of a) ≡ false) (start : Origin) (start_is : start ≡ a.start) (list : Roomy Entry) (list_is : list ≡ a.audit) (moved : Origin) (moves : MovesOn start list.items moved)
+      (queues : List QueueOrigin) (queues_are : queues ≡ map queue_origin a.queues.items) (kept_queues : List Queue) (same : kept_queues ≡ a.queues.items)
+      (packets : List PacketOrigin) (told : (blocks : List ArgumentBlock) → MayTell kept_queues a.in_flight_count a.told moved.packets a.fresh blocks → packets ≡ filter_map (packet_origin kept_queues) blocks)
+      (before : ℕ) (before_is : before ≡ a.start.before + length a.audit.items) (audit : Roomy Entry) (empty : audit.items ≡ []) where
+    moved-on : MovesOn a.start a.audit.items moved
+    moved-on = subst (λ (o : Origin). MovesOn o a.audit.items moved) start_is (subst (λ (l : Roomy Entry). MovesOn start l.items moved) list_is moves)
+
+    made : start_behind moved queues packets before ≡ start_behind moved (map queue_origin a.queues.items) (filter_map (packet_origin a.queues.items) kept.blocks) (a.start.before + length a.audit.items)
+    made = λ i. start_behind moved (queues_are i) (told-anew moved moved-on kept_queues same packets told i) (before_is i)
+
+    pub left-cached : (fresh : Fresh) → Spends a.in_flight_count a.fresh fresh → audit.room ≡ length list.items + list.room
+        → IsCached (record a { start = start_behind moved queues packets before; audit = audit; fresh = fresh; told = before })
+    left-cached fresh spent room =
+        truncated-cached moved moved-on (start_behind moved queues packets before) made near audit empty fresh spent
+        (audit-room audit (room ∙ ap (λ (l : Roomy Entry). length l.items + l.room) list_is))
+
+    pub left-truncated : Truncates (history_of a) (Ok tt) (history_of (record a { start = start_behind moved queues packets before; audit = audit }))
+    left-truncated = is-truncated moved moved-on (start_behind moved queues packets before) made near audit empty
