@@ -1,5 +1,5 @@
 -- No more packets are in flight than all queues have places for.
-use Rattle.std.proofs.Common.{◌≡◌, ℕ, ◌+◌, ◌*◌, ◌≤◌, ◌||◌, ◌⊎◌, inl, inr, Bool, true, false, not, List, [], ◌∷◌, length, length-map, filter, refl, sym, ◌∙◌, ap, subst, Option, Some, None, arith, All, if◌then◌else◌}
+use Rattle.std.proofs.Common.{◌≡◌, ℕ, ◌+◌, ◌*◌, ◌≤◌, ◌||◌, ◌⊎◌, inl, inr, Bool, true, false, not, List, [], ◌∷◌, length, filter, refl, sym, ◌∙◌, ap, subst, Option, Some, None, arith, All, if◌then◌else◌}
 use Rattle.std.specs.List.{Contains, list_any}
 use Rattle.std.proofs.lemmas.Bool.{eq-eqb}
 use Rattle.std.proofs.lemmas.List.Elements.{All-contains, All-contains_itself, Contains-append_cases}
@@ -12,7 +12,7 @@ use Rattle.access_core.proofs.Laid.{blocks-count}
 use Rattle.access_core.proofs.Lying.{are-in_order}
 use Rattle.access_core.proofs.ReadyLemmas.{filter-fewer}
 use Rattle.access_core.proofs.ChangedQueue.{sound-at}
-use Rattle.access_core.proofs.Terms.{All-filter, All-head, All-tail, All-weaker, ArgumentBlock, Inside, IsCached, Queue, QueueId, all_blocks}
+use Rattle.access_core.proofs.Terms.{length-map, All-filter, All-head, All-tail, All-weaker, ArgumentBlock, Inside, IsCached, Queue, QueueId, all_blocks}
 
 -- a list is parted by a test
 parted : {X : Type 0} (test : X → Bool) (xs : List X) → length xs ≡ length (filter test xs) + length (filter (λ x. not (test x)) xs)
@@ -51,13 +51,13 @@ few-blocks (q ∷ qs) bs lie few =
 -- a block that lies in queues is of one of them
 of-one-there : (qs : List Queue) (b : ArgumentBlock) → All IsSound qs → Contains (all_blocks qs) b → is_of_one qs b ≡ true
 of-one-there [] b sound there = let none = there.1 in absurd (omega (arith, none))
-of-one-there (q ∷ qs) b sound there = by_place (Contains-append_cases q.blocks (all_blocks qs) b there)
+of-one-there (q ∷ qs) b sound there = by_place (of-one-there qs b (All-tail IsSound q qs sound)) (Contains-append_cases q.blocks (all_blocks qs) b there)
   where
-    by_place : Contains q.blocks b ⊎ Contains (all_blocks qs) b → is_of_one (q ∷ qs) b ≡ true
-    by_place (inl here) =
+    by_place : (Contains (all_blocks qs) b → is_of_one qs b ≡ true) → Contains q.blocks b ⊎ Contains (all_blocks qs) b → is_of_one (q ∷ qs) b ≡ true
+    by_place more (inl here) =
         let its = All-contains _ q.blocks b (All-head IsSound q qs sound).of_queue here in
         ap (λ (x : Bool). x || is_of_one qs b) (eq-eqb _ _ (ap (λ (k : QueueId). k.0) its.0))
-    by_place (inr behind) = ap (λ (x : Bool). is_of q.number b || x) (of-one-there qs b (All-tail IsSound q qs sound) behind) ∙ either (is_of q.number b)
+    by_place more (inr behind) = ap (λ (x : Bool). is_of q.number b || x) (more behind) ∙ either (is_of q.number b)
       where
         either : (x : Bool) → (x || true) ≡ true
         either true = refl

@@ -17,14 +17,23 @@ pub filter-shorter : {X : Type 0} (test : X → Bool) (xs : List X) → length (
 filter-shorter test [] = omega arith
 filter-shorter test (x ∷ xs) = step-left x (test x) (filter test xs) xs (filter-shorter test xs)
 
+both-left : {X : Type 0} (x : X) (b : Bool) (some many : List X) → length some ≤ length many → length (if b then x ∷ some else some) ≤ length (if b then x ∷ many else many)
+both-left x true some many fewer = omega (arith, fewer)
+both-left x false some many fewer = fewer
+
+one-left : {X : Type 0} (x : X) (b : Bool) (some many : List X) → length some ≤ length many → length some ≤ length (if b then x ∷ many else many)
+one-left x true some many fewer = omega (arith, fewer)
+one-left x false some many fewer = fewer
+
+next-fewer : {X : Type 0} (test before : X → Bool) (x : X) (xs : List X) (b : Bool) → length (filter test (filter before xs)) ≤ length (filter test xs)
+    → length (filter test (if b then x ∷ filter before xs else filter before xs)) ≤ length (filter test (x ∷ xs))
+next-fewer test before x xs true fewer = both-left x (test x) (filter test (filter before xs)) (filter test xs) fewer
+next-fewer test before x xs false fewer = one-left x (test x) (filter test (filter before xs)) (filter test xs) fewer
+
 -- nor are more left of those that are left by a test before
 pub filter-fewer : {X : Type 0} (test before : X → Bool) (xs : List X) → length (filter test (filter before xs)) ≤ length (filter test xs)
 filter-fewer test before [] = omega arith
-filter-fewer test before (x ∷ xs) = by_before (before x) (test x) (filter-fewer test before xs)
-  where
-    by_before : (b c : Bool) → length (filter test (filter before xs)) ≤ length (filter test xs)
-        → length (filter test (if b then x ∷ filter before xs else filter before xs)) ≤ length (if c then x ∷ filter test xs else filter test xs)
-    by_before b c fewer = grind (arith, fewer)
+filter-fewer test before (x ∷ xs) = next-fewer test before x xs (before x) (filter-fewer test before xs)
 
 -- ---- what is there
 

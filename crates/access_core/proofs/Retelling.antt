@@ -1,6 +1,6 @@
 -- What was told of packets in flight is told anew: of those that were launched before a number in the memory that it has, of the others in
 -- room that was got.
-use Rattle.std.proofs.Common.{◌≡◌, ℕ, zero, suc, ◌+◌, ◌-◌, ◌<◌, ◌≤◌, ◌⊎◌, inl, inr, Bool, true, false, List, [], ◌∷◌, ◌++◌, length, length-append, filter, find, fold, max, refl, sym, ◌∙◌, ap, subst, Option, Some, None, arith, All, get_or, nat_le, remove, slice_get, take, if◌then◌else◌}
+use Rattle.std.proofs.Common.{◌≡◌, ℕ, zero, suc, ◌+◌, ◌-◌, ◌<◌, ◌≤◌, ◌⊎◌, inl, inr, Bool, true, false, List, [], ◌∷◌, ◌++◌, length, filter, find, fold, max, refl, sym, ◌∙◌, ap, subst, Option, Some, None, arith, All, get_or, nat_le, remove, slice_get, take, if◌then◌else◌}
 use Rattle.std.specs.List.{Contains, filter_map}
 use Rattle.std.specs.Prelude.{option_to_list}
 use Rattle.std.proofs.lemmas.List.Elements.{All-contains_itself}
@@ -175,7 +175,6 @@ lie-later from bs =
 -- Of packets in flight those so far are told anew.
 pub record AreRetold (queues : List Queue) (told : ℕ) (blocks : List ArgumentBlock) (origins : List PacketOrigin) (first fresh : Fresh) (from turns : ℕ) : Type 0 where
   pub so_far : AreTold queues blocks origins from turns
-  pub few : length origins ≤ turns
   pub were_told : All (WasTold told fresh.packets) (later from blocks)
   pub room : HasLists fresh (length (later (max told from) blocks))
   pub spent : Spends turns first fresh
@@ -185,7 +184,6 @@ module _ (queues : List Queue) (count told : ℕ) (packets : List PacketOrigin) 
   pub retold-none : first.packets ≡ packets → AreRetold queues told blocks [] first first 0 0
   retold-none same = record {
     so_far = told-none queues blocks;
-    few = omega arith;
     were_told = subst (All (WasTold told first.packets)) (sym (later-all blocks)) (subst (λ (ps : List PacketOrigin). All (WasTold told ps) blocks) (sym same) may.were_told);
     room = subst (λ n. HasLists first (length (later n blocks))) (sym (max-left told 0 (omega arith))) may.room;
     spent = record { rights_each = refl; bytes_each = refl; rights = omega arith; bytes = omega arith };
@@ -228,12 +226,8 @@ module _ (queues : List Queue) (count told : ℕ) (packets : List PacketOrigin) 
         let bytes = before.bytes in
         let more_rights = spent.rights in
         let more_bytes = spent.bytes in
-        let fewer = was.few in
-        let longer = ap length is ∙ length-append origins (option_to_list (packet_origin queues one)) in
-        let at_most = one-at-most (packet_origin queues one) in
         record {
           so_far = told-next queues count blocks may.in_order origins new from turns one found is was.so_far;
-          few = omega (arith, fewer, longer, at_most);
           were_told = kept;
           room = by_order (nat_le told one.number) refl;
           spent = record {
@@ -244,10 +238,6 @@ module _ (queues : List Queue) (count told : ℕ) (packets : List PacketOrigin) 
           };
         }
       where
-        one-at-most : (o : Option PacketOrigin) → length (option_to_list o) ≤ 1
-        one-at-most None = omega arith
-        one-at-most (Some p) = omega arith
-
         kept : All (WasTold told after.packets) (later (one.number + 1) blocks)
         kept =
             All-weaker (λ (b : ArgumentBlock). (Contains blocks b × (one.number + 1 ≤ b.number)) × WasTold told fresh.packets b) (WasTold told after.packets)

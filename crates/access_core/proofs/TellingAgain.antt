@@ -31,18 +31,18 @@ pub names-once : (fs : List InFlight) (bs : List ArgumentBlock) → map packet_o
 names-once [] [] names apart one other there lies same = let none = there.1 in absurd (omega (arith, none))
 names-once [] (b ∷ bs) names apart one other there lies same = absurd cc
 names-once (f ∷ fs) [] names apart one other there lies same = let none = there.1 in absurd (omega (arith, none))
-names-once (f ∷ fs) (b ∷ bs) names apart one other there lies same = by_places (contains-cases b bs one there) (contains-cases b bs other lies)
+names-once (f ∷ fs) (b ∷ bs) names apart one other there lies same =
+    let rest : map packet_of bs ≡ map name_of fs = cc in
+    by_places (λ behind further. names-once fs bs rest apart.1 one other behind further same) (contains-cases b bs one there) (contains-cases b bs other lies)
   where
-    by_places : (b ≡ one) ⊎ Contains bs one → (b ≡ other) ⊎ Contains bs other → one ≡ other
-    by_places (inl this) (inl that) = sym this ∙ that
-    by_places (inl this) (inr behind) =
+    by_places : (Contains bs one → Contains bs other → one ≡ other) → (b ≡ one) ⊎ Contains bs one → (b ≡ other) ⊎ Contains bs other → one ≡ other
+    by_places more (inl this) (inl that) = sym this ∙ that
+    by_places more (inl this) (inr behind) =
         absurd (not-behind f fs b bs names apart.0 other behind (subst (λ (x : ArgumentBlock). same_packet x.queue x.packet other.queue other.packet ≡ true) (sym this) same))
-    by_places (inr behind) (inl that) =
+    by_places more (inr behind) (inl that) =
         absurd (not-behind f fs b bs names apart.0 one behind
         (subst (λ (x : ArgumentBlock). same_packet x.queue x.packet one.queue one.packet ≡ true) (sym that) (turned-name other.queue other.packet one.queue one.packet ∙ same)))
-    by_places (inr behind) (inr further) =
-        let rest : map packet_of bs ≡ map name_of fs = cc in
-        names-once fs bs rest apart.1 one other behind further same
+    by_places more (inr behind) (inr further) = more behind further
 
 pub may-tell : (a : Inside) (kept : IsCached a) → MayTell a.queues.items a.in_flight_count a.told a.start.packets a.fresh kept.blocks
 may-tell a kept = record {

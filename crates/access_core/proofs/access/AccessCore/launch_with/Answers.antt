@@ -42,8 +42,8 @@ argument_block-requires c =
 pub place_next-requires-clause-sound : goal.place_next-requires-clause-sound
 place_next-requires-clause-sound c = c.self.invariant.sound
 
-pub invariant_of-self : goal.invariant_of-self
-invariant_of-self c =
+pub invariant_of-self-2 : goal.invariant_of-self-2
+invariant_of-self-2 c =
     let a = c.self.inside in
     let p = c.args.launching.now.asked.packet in
     let can = can-take a c.self.invariant c.args.queue (subst (λ h. TakesNext h c.args.queue) (sym (seen c.self.view_is)) c.requires.decided.3) in
@@ -81,8 +81,8 @@ invariant_of-self c =
     })
     _ (seen c.self.view_is) c.requires.decided.0
 
-pub invariant_of-self-2 : goal.invariant_of-self-2
-invariant_of-self-2 c =
+pub invariant_of-self : goal.invariant_of-self
+invariant_of-self c =
     let a = c.self.inside in
     IsCached-provided a c.self.invariant c.provide.new.self c.provide.ensures.rights_kept c.provide.ensures.bytes_kept
 
@@ -93,7 +93,7 @@ returns-in_err-provide-clause-met c =
       asks = launch-asks c.args.self.now.history c.args.queue c.args.packet c.args.bytes.now (opening_of c.args.launching.now) c.args.launching.now.asked.packet
           (due c.args.self.now.history (Take c.args.queue c.args.packet c.args.bytes.now)) c.requires.decided.4 c.requires.decided.1;
       reply_is = search rules;
-      history_is = refl;
+      history_is = seen c.self.view_is;
     })
 
 pub returns-in_err-block-clause-met : goal.returns-in_err-block-clause-met

@@ -1,11 +1,13 @@
 -- Copies of the fields give the answers of the state behind the audit.
-use Rattle.std.proofs.Common.{◌≡◌, ◌+◌, ◌<◌, ◌^◌, ◌∙◌, List, All, arith, length, map, refl, sym, ap, subst, true}
+use Rattle.std.proofs.Common.{◌≡◌, ◌+◌, ◌<◌, ◌≤◌, ◌^◌, ◌∙◌, List, All, arith, length, map, refl, sym, ap, subst, true}
 use Rattle.std.specs.List.{filter_map}
 use Rattle.core_model.specs.declared.origin.Origin.{Origin}
 use Rattle.core_model.specs.History.{History, begin, beginning}
 use Rattle.core_model.specs.States.{state_after}
 use Rattle.regions.specs.Memory.{lengths_of}
 use Rattle.access_core.specs.inner.Origins.{AreInOrder, NumbersFit, packet_origin, queue_origin}
+use Rattle.core_model.specs.declared.limits.TheConstants.{ALL_IN_FLIGHT}
+use Rattle.access_core.proofs.FewInFlight.{few-in-flight}
 use Rattle.access_core.proofs.Lying.{all-laid, are-in_order}
 use Rattle.access_core.proofs.Rotating.{copied-behind, copied-kept, copy-same}
 use Rattle.access_core.proofs.Seen.{seen}
@@ -22,6 +24,13 @@ packet_origins-requires-clause-few c =
     subst (λ (qs : List Queue). NumbersFit (all_blocks qs)) (sym c.as_slice-2.ensures.value)
     (all-laid a kept (λ (b : ArgumentBlock). b.number < 2 ^ 63)
     (All-weaker (λ (b : ArgumentBlock). b.number < a.start.before + length a.audit.items) (λ (b : ArgumentBlock). b.number < 2 ^ 63) (λ b less. omega (arith, less, before, room, few)) kept.blocks kept.laid.before))
+
+pub packet_origins-requires-clause-fit : goal.packet_origins-requires-clause-fit
+packet_origins-requires-clause-fit c =
+    let a = c.self.inside in
+    let kept = c.self.invariant in
+    subst (λ (qs : List Queue). (a.in_flight_count ≤ ALL_IN_FLIGHT) × ((blocks : List ArgumentBlock) × AreInOrder qs a.in_flight_count blocks)) (sym c.as_slice-2.ensures.value)
+    (few-in-flight a kept, (kept.blocks, are-in_order a kept))
 
 pub returns-clause-begins : goal.returns-clause-begins
 returns-clause-begins c =

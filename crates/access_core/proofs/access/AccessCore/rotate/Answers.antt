@@ -19,8 +19,8 @@ use Rattle.access_core.proofs.Seen.{seen}
 use Rattle.access_core.proofs.Terms.{history_of, program_of, start_of}
 use Rattle.access_core.proofs.access.AccessCore.rotate.Goals as goal
 
-pub invariant_of-self : goal.invariant_of-self
-invariant_of-self c =
+pub invariant_of-self-2 : goal.invariant_of-self-2
+invariant_of-self-2 c =
     let a = c.self.inside in
     let near : lies_too_far (history_of a) ≡ false = ap lies_too_far (seen c.self.view_is) ∙ sym c.lies_too_far.ensures ∙ c.if-lies_too_far.false in
     let ends : begin (map program_of a.kernels.items) c.in_ok-end.end ≡ state_after (start_of a) a.audit.items =
@@ -40,8 +40,8 @@ invariant_of-self c =
     (c.in_ok-next.ensures.policy ∙ ap (λ (o : Origin). o.policy) c.as_ref.ensures)
     (subst (λ (o : Origin). IsCopy o.grants c.in_ok-next.next.grants) c.as_ref.ensures c.in_ok-next.ensures.grants) c.in_ok-end.ensures.kept))
 
-pub invariant_of-self-2 : goal.invariant_of-self-2
-invariant_of-self-2 c = IsCached-provided c.self.inside c.self.invariant c.provide.new.self c.provide.ensures.rights_kept c.provide.ensures.bytes_kept
+pub invariant_of-self : goal.invariant_of-self
+invariant_of-self c = IsCached-provided c.self.inside c.self.invariant c.provide.new.self c.provide.ensures.rights_kept c.provide.ensures.bytes_kept
 
 pub returns-clause-rotated : goal.returns-clause-rotated
 returns-clause-rotated c =

@@ -24,7 +24,7 @@ overflow_add-from c =
 
 pub tell_packet-requires-clause-free : goal.tell_packet-requires-clause-free
 tell_packet-requires-clause-free c =
-    let few = (c.loop-turns.invariant c.requires.ready.0 c.requires.ready.1).few in
+    let few = (c.loop-turns.invariant c.requires.ready.0 c.requires.ready.1).so_far.few in
     let most = c.requires.ready.1.few in
     omega (arith, few, most)
 
