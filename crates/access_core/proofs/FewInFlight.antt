@@ -5,7 +5,7 @@ use Rattle.std.proofs.lemmas.Bool.{eq-eqb}
 use Rattle.std.proofs.lemmas.List.Elements.{All-contains, All-contains_itself, Contains-append_cases}
 use Rattle.core_model.specs.declared.limits.TheConstants.{ALL_IN_FLIGHT, MOST_IN_FLIGHT, QUEUES}
 use Rattle.packet_processor.specs.declared.places.Place.{Place}
-use Rattle.access_core.specs.inner.ArgumentBlocks.{blocks_in, is_of}
+use Rattle.access_core.specs.inner.ArgumentBlocks.{IsOfQueue, blocks_in, is_of}
 use Rattle.access_core.specs.inner.CachedQueue.{AreLaid, IsSound}
 use Rattle.access_core.specs.inner.Numbers.{queue_in}
 use Rattle.access_core.proofs.Laid.{blocks-count}
@@ -55,7 +55,7 @@ of-one-there (q ∷ qs) b sound there = by_place (of-one-there qs b (All-tail Is
   where
     by_place : (Contains (all_blocks qs) b → is_of_one qs b ≡ true) → Contains q.blocks b ⊎ Contains (all_blocks qs) b → is_of_one (q ∷ qs) b ≡ true
     by_place more (inl here) =
-        let its = All-contains _ q.blocks b (All-head IsSound q qs sound).of_queue here in
+        let its : IsOfQueue q.number q.client b = All-contains (IsOfQueue q.number q.client) q.blocks b (All-head IsSound q qs sound).of_queue here in
         ap (λ (x : Bool). x || is_of_one qs b) (eq-eqb _ _ (ap (λ (k : QueueId). k.0) its.0))
     by_place more (inr behind) = ap (λ (x : Bool). is_of q.number b || x) (more behind) ∙ either (is_of q.number b)
       where
