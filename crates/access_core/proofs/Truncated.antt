@@ -167,27 +167,30 @@ module _ (a : Inside) (kept : IsCached a) (fit : are_region_lengths (region_leng
         pub is-truncated : Truncates (history_of a) (Ok tt) (history_of (record a { start = new; audit = audit }))
         is-truncated = (
           record { start = a.start; entries = a.audit.items; end = new },
-          (near, record {
-            start_is = refl;
-            entries_are = refl;
-            end_is = begins-behind;
-            lengths = lengths-stay;
-            declared = (policy-stays, policy-stays);
-            goes_on = record {
-              policy = refl;
-              granted = λ client on right. refl;
-              held = λ queue id client on right. refl;
-              memory = refl;
-              signals = refl;
-              opened = refl;
-              queues = refl;
-              packets = refl;
-              before = refl;
-            };
-            kernels_are = refl;
-            capacity_is = refl;
-            empty = empty;
-          }),
+          (
+            near,
+            record {
+              start_is = refl;
+              entries_are = refl;
+              end_is = begins-behind;
+              lengths = lengths-stay;
+              declared = (policy-stays, policy-stays);
+              goes_on = record {
+                policy = refl;
+                granted = λ client on right. refl;
+                held = λ queue id client on right. refl;
+                memory = refl;
+                signals = refl;
+                opened = refl;
+                queues = refl;
+                packets = refl;
+                before = refl;
+              };
+              kernels_are = refl;
+              capacity_is = refl;
+              empty = empty;
+            },
+          ),
         )
 
   -- ---- as the call leaves it

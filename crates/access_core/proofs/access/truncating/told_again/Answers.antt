@@ -10,7 +10,7 @@ pub remove-before-requires : goal.remove-before-requires
 remove-before-requires c = (
   omega arith,
   index-inside c.args.packets.now c.args.block.now.queue c.args.block.now.packet c.index_in-index.result c.requires.told
-    (subst (λ ps. IsIndexIn ps c.args.block.now.queue c.args.block.now.packet c.index_in-index.result) c.as_slice.ensures.items c.index_in-index.ensures) c.requires.found,
+      (subst (λ ps. IsIndexIn ps c.args.block.now.queue c.args.block.now.packet c.index_in-index.result) c.as_slice.ensures.items c.index_in-index.ensures) c.requires.found,
 )
 
 pub returns-clause-origin : goal.returns-clause-origin
