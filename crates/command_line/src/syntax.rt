@@ -458,14 +458,14 @@ pub struct Described {
     pub arguments: &'static [Argument],
 }
 
-macro_rules! commands {
+macro_rules! command_table {
     ($($name:ident $about:literal $arguments:ident;)*) => {
         [$(Described { name: $name, about: $about, arguments: &$arguments }),*]
     };
 }
 
 /// The commands, in the order in which the help has them.
-pub const DESCRIBED: [Described; 10] = commands! {
+pub const DESCRIBED: [Described; 10] = command_table! {
     CHECK "Checks a policy: counts its rows, or names its first fault" CHECK_ARGUMENTS;
     RUN "Runs the script on standard input over a policy, and writes the replies" RUN_ARGUMENTS;
     PICTURE "Runs the script on standard input over a policy, and writes a picture of the run, an SVG page" PICTURE_ARGUMENTS;
