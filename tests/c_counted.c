@@ -59,42 +59,61 @@ static void tell_singly(void)
     }
 }
 
-static void tell_nothing(void)
+/* Takes the packet of an id of a queue, which is launched. */
+static inline int take(uint64_t queue, uint64_t packet, hd_taken *taken)
 {
+    static uint64_t fill[8] = { 0x80001404, 0, (uint64_t)REGION << 32, 4, 0x5a, 0, 0, SIGNAL };
+    uint64_t next;
+    return hd_take(&broker, queue, packet, (const uint8_t *)fill, taken, &next) != HD_OK;
 }
 
-static void take(uint64_t queue, uint64_t packet)
+/* Takes, runs and finishes so many packets of a queue. */
+static int pass(uint64_t queue, uint64_t packets)
 {
-    static const uint64_t fill[8] = { 0x80001404, 0, (uint64_t)REGION << 32, 4, 0x5a, 0, 0, SIGNAL };
-    uint8_t bytes[64];
     hd_taken taken;
-    uint64_t next;
-    memcpy(bytes, fill, sizeof bytes);
-    MUST(hd_take(&broker, queue, packet, bytes, &taken, &next));
-    if (taken.became != HD_LAUNCHED) exit(1);
+    hd_worked worked;
+    for (uint64_t packet = 0; packet < packets; packet++)
+        if (take(queue, packet, &taken) || hd_run(&broker, queue, packet, &worked) || hd_finish(&broker, queue, packet)) return 1;
+    return 0;
+}
+
+/* The same, with their changes told. */
+static void pass_told(uint64_t queue, uint64_t packets, void (*tell)(void))
+{
+    hd_taken taken;
+    hd_worked worked;
+    for (uint64_t packet = 0; packet < packets; packet++) {
+        if (take(queue, packet, &taken)) exit(1);
+        MUST(hd_run(&broker, queue, packet, &worked));
+        tell();
+        MUST(hd_finish(&broker, queue, packet));
+        tell();
+    }
 }
 
 int main(int count, char **words)
 {
     if (count != 4) return 2;
     uint64_t packets = strtoull(words[1], NULL, 10), others = strtoull(words[2], NULL, 10), queue;
-    void (*tell)(void) = !strcmp(words[3], "once") ? tell_once : !strcmp(words[3], "singly") ? tell_singly : tell_nothing;
+    void (*tell)(void) = !strcmp(words[3], "once") ? tell_once : !strcmp(words[3], "singly") ? tell_singly : NULL;
     hd_fault fault;
-    hd_worked worked;
+    hd_taken taken;
+    int64_t left;
     MUST(hd_open(&broker, (const uint8_t *)policy, sizeof policy - 1, PLACES, &fault));
     MUST(hd_grant(&broker, CLIENT, HD_AGENT, AGENT, HD_USE));
     MUST(hd_grant(&broker, CLIENT, HD_REGION, REGION, HD_READ | HD_WRITE));
     MUST(hd_grant(&broker, CLIENT, HD_SIGNAL, SIGNAL, HD_WAIT | HD_CHANGE));
     for (int opened = 0; opened < QUEUES; opened++) MUST(hd_open_queue(&broker, CLIENT, AGENT, SLOTS, &queue));
-    for (uint64_t other = 0; other < others; other++) take(1 + other / IN_FLIGHT, other % IN_FLIGHT);
-    for (uint64_t packet = 0; packet < packets; packet++) {
-        take(queue, packet);
-        MUST(hd_run(&broker, queue, packet, &worked));
-        tell();
-        MUST(hd_finish(&broker, queue, packet));
-        tell();
-    }
+    for (uint64_t other = 0; other < others; other++)
+        if (take(1 + other / IN_FLIGHT, other % IN_FLIGHT, &taken) || taken.became != HD_LAUNCHED) return 1;
+    if (tell)
+        pass_told(queue, packets, tell);
+    else if (pass(queue, packets))
+        return 1;
+    /* Each packet that was launched has taken one off its signal. */
+    MUST(hd_load(&broker, CLIENT, SIGNAL, &left));
+    if (left != 1 - (int64_t)packets) return 1;
     MUST(hd_close(&broker));
-    int is_told = tell != tell_nothing;
+    int is_told = tell != NULL;
     return changes == packets * 3 * is_told && written == packets * 4 * is_told ? 0 : 1;
 }

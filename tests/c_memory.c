@@ -13,10 +13,11 @@ void *__wrap_realloc(void *at, size_t size);
 
 static long left = -1; /* how many requests are answered before one is refused; none is where this is less than 0 */
 static int was_refused;
+static int are_all_refused;
 
 static int refuses(void)
 {
-    if (left < 0 || left-- > 0) return 0;
+    if (!are_all_refused && (left < 0 || left-- > 0)) return 0;
     was_refused = 1;
     return 1;
 }
@@ -39,6 +40,17 @@ void *__wrap_realloc(void *at, size_t size) { return refuses() ? NULL : __real_r
 static uint8_t policy[1 << 20];
 static size_t length;
 static const hd_digest NO_DIGEST[1];
+
+/* Whether an audit is emptied where every request is refused, and none is made. */
+static int is_emptied(hd_broker *broker)
+{
+    uint64_t before, entries = 1;
+    was_refused = 0;
+    are_all_refused = 1;
+    hd_status status = hd_truncate(broker);
+    are_all_refused = 0;
+    return status == HD_OK && !was_refused && hd_audit_count(broker, &before, &entries) == HD_OK && entries == 0;
+}
 
 /* A kernel's packet is published, run and completed, with the request of this number refused. */
 static int life(long at, int *was_told)
@@ -83,8 +95,19 @@ static int life(long at, int *was_told)
     MAKE(hd_audit_line(&broker, 1, line, sizeof line, &needed));
     MAKE(hd_reload(&broker, policy, length, &fault, &queue, &next));
     MAKE(hd_rotate(&broker));
-    packet[0] = 0;
+    MAKE(hd_open_queue(&broker, 1, 1, 16, &queue));
+    MAKE(hd_take(&broker, queue, 0, packet, &taken, &next));
     MAKE(hd_take(&broker, 1, 1, packet, &taken, &next));
+    for (int turn = 0; turn < 2; turn++) {
+        MAKE(hd_run(&broker, queue, 0, &worked));
+        if (!is_emptied(&broker) || !is_emptied(&broker)) {
+            printf("refused at %ld: an emptied audit wants memory\n", at);
+            return 1;
+        }
+    }
+    MAKE(hd_finish(&broker, queue, 0));
+    packet[0] = 0;
+    MAKE(hd_take(&broker, 1, 2, packet, &taken, &next));
     MAKE(hd_errors(&broker, 1, &error, 1, &errors));
     if (hd_close_queue(&broker, 1) != HD_OK) {
         printf("refused at %ld: a close wants memory\n", at);

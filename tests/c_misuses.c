@@ -78,6 +78,7 @@ static void all_closed(hd_broker *broker)
     IS(hd_audit_count(broker, &one, &two), HD_CLOSED);
     IS(hd_audit_line(broker, 1, (char *)bytes, 64, &one), HD_CLOSED);
     IS(hd_rotate(broker), HD_CLOSED);
+    IS(hd_truncate(broker), HD_CLOSED);
     IS(hd_journal_head(broker, (const hd_digest *)before, 1, (char *)bytes, 64, &one, &chain), HD_CLOSED);
     IS(hd_journal_line(broker, (char *)bytes, 64, &one, &chain), HD_CLOSED);
     IS(hd_close(broker), HD_CLOSED);

@@ -26,7 +26,7 @@ def commands(program):
         "scripts": [program, "run", "{POLICY}", "{NEXT}..", "--audit", "{AUDIT}"],
         "strict": [program, "run", "{POLICY}", "{NEXT}..", "--audit", "{AUDIT}", "--strict"],
         "assembled": [program, "assemble", "{POLICY}"],
-        "policies": [program, "check", "{POLICY}"],
+        "policies": [program, "check", "--explain=never", "{POLICY}"],
         "listings": [program, "kernel", "{TEXT}"],
         "kernels": [program, "kernel", "--steps", "{TEXT}"],
         "words": [program, "explain", "{WORD}"],

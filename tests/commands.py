@@ -205,6 +205,7 @@ TYPED = [
     "drain",
     "all-of 1 1 go signal done",
     "drain",
+    "state",
     "signal alice go store 0",
     "drain 1",
     "audit",
@@ -393,6 +394,8 @@ def files(room):
         "second.toml": "version = 2\n" + sample + deny_row("alice", "WRITE"),
         "inc.hsail": inc,
         "bad.hsail": inc.replace("ret;", "ret"),
+        "making.toml": sample.replace(f"text = '''\n{inc}'''", 'text_file = "inc.hsail"'),
+        "bad_making.toml": sample.replace(f"text = '''\n{inc}'''", 'text_file = "bad.hsail"'),
     }
     for name, text in texts.items():
         with open(f"{room}/{name}", "w", encoding="utf-8") as it:
@@ -409,7 +412,7 @@ def is_want(reply):
     """Whether a reply tells that memory was wanted: a drain's where a request that waits was refused for it."""
     if reply.startswith("{"):
         return '"name":"OutOfMemory"' in reply
-    return reply == WANT or reply.startswith("drained ") and any(line.endswith(f" {WANT}") for line in reply.split("\n"))
+    return reply == WANT or reply.startswith(("drained ", "packet ")) and any(line.endswith(f" {WANT}") for line in reply.split("\n"))
 
 
 class Row:
@@ -445,6 +448,10 @@ def rows(room):
         Row("completions", ["completions", "fish"], is_new=True),
         Row("kernel", ["kernel", file("inc.hsail")]),
         Row("kernel of a fault", ["kernel", file("bad.hsail")]),
+        Row("embed", ["embed", file("making.toml")], is_new=True),
+        Row("embed of a fault of a kernel", ["embed", file("bad_making.toml")], is_new=True),
+        Row("policy", ["policy", file("inc.hsail"), file("inc.hsail")], is_new=True),
+        Row("policy of a fault", ["policy", file("bad.hsail")], is_new=True),
         Row("explain", ["explain", "L8"]),
         Row("explain of an unknown word", ["explain", "L11"]),
         Row("assemble", ["assemble", SAMPLE], READABLE),

@@ -7,7 +7,7 @@ import re
 import sys
 import tempfile
 
-from trial import BARRIER, FILL, KERNEL, TOP, Ended, Trials, run
+from trial import BARRIER, FILL, KERNEL, SAMPLE, TOP, Ended, Trials, run
 
 KINDS = {2: "Kernel dispatch", 4: "Agent dispatch", 3: "Barrier-AND and barrier-OR", 5: "Barrier-AND and barrier-OR"}
 NAMES = {"setup: bits 1:0 dimensions": "dimensions", "setup: bits 15:2": "reserved"}
@@ -153,6 +153,27 @@ def main(program):
     trials.every("what an agent dispatch does", lambda it: None if it[1] in run([program, "decode", it[0]]).out.decode().splitlines() else "it isn't told", work)
     wrong = [[], [FILL[1:]], [FILL + "0"], [FILL + "00"], ["x" + FILL[1:]], ["", ""]]
     refused = lambda it: None if (ended := run([program, "decode", *it])).status == 2 and not ended.out and b"128 hexadecimal digits" in ended.err else f"{ended}"
+    address = lambda packet, at, number: packet[: 2 * at] + number.to_bytes(8, "little").hex() + packet[2 * at + 16 :]
+
+    def named(it):
+        """That a policy's names come behind the fields, and all else is as without."""
+        packet, names = it
+        plain, ended = run([program, "decode", packet]), run([program, "decode", packet, "--policy", SAMPLE])
+        lines = ended.out.decode().splitlines()
+        at = sum(line.startswith("bytes ") for line in lines)
+        well = ended.status == plain.status and lines[at : at + len(names)] == names and lines[:at] + lines[at + len(names) :] == plain.out.decode().splitlines()
+        return None if well and not ended.err else f"{ended}"
+
+    trials.every("what the numbers of a packet stand for in a policy", named, [
+        (KERNEL, ["kernel_object: kernel inc", "kernarg_address: region args", "completion_signal: signal done"]),
+        (FILL, ["target: region buf", "completion_signal: signal done"]), (BARRIER, ["dependency: signal done", "dependency: signal go"]),
+        (address(FILL, 16, 0x100000010), ["target: region buf+16", "completion_signal: signal done"]),
+        (address(FILL, 16, 0x100000040), ["target: region buf+64, past its end", "completion_signal: signal done"]),
+        (address(address(FILL, 16, 0x300000000), 56, 0), ["target: in no region of the policy"]),
+        (address(KERNEL, 32, 3), ["kernel_object: the policy declares no such kernel", "kernarg_address: region args", "completion_signal: signal done"]),
+        (address(FILL, 56, 3), ["target: region buf", "completion_signal: the policy declares no such signal"]), ("00" * 64, []),
+    ])
+    trials.every("a policy for names that can't be read", lambda it: None if run([program, "decode", FILL, "--policy", it]) == Ended(3, b"", b"read fault\n") else "it is told otherwise", [f"{TOP}/nothing"])
     trials.every("what is no packet ends with 2", refused, wrong)
 
     with tempfile.TemporaryDirectory(prefix="decode-") as room:

@@ -106,7 +106,7 @@ def requests_of(path, count):
 
 def reply_length(line):
     """How many lines a reply has that begins with this one."""
-    found = re.fullmatch(r"(audit|rotated|errors|list) (\d+)", line)
+    found = re.fullmatch(r"(audit|rotated|errors|list|state) (\d+)", line)
     return 1 + int(found[2]) if found else 1
 
 

@@ -183,7 +183,7 @@ WALKED = [
     ("a length in letters of a readable read", ["--readable"], ["read alice buf four"], ["`four`, word 4, isn't understood: there stands a decimal number"], ["`buf`"], [], None),
     *[(f"a readable line: {line}", [], [line], [f"`{line.split()[0]}` begins a readable line: `brokerd run --readable` takes it\n"], ["nearest"], [], None) for line in ("fill 1 1 buf length 4 with 1", "copy 1 1 buf to buf length 4", "add 1 1 1 to buf", "drain", "drain 1", "all-of 1 1", "any-of 1 1 go", "dispatch alice 1 1 inc grid 4 group 2")],
     ("a region's name", [], ["read alice buf 4"], ["`buf`, word 3, isn't understood", "`brokerd run --readable` takes a region's name there too"], [], [], None),
-    *[(f"{word} as a line", [], [word], [f"`{word}` is no word that a line begins with\n", told], ["nearest"], [], None) for word, told in (("quit", "it ends where its lines do, at a prompt by Ctrl-D"), ("exit", "it ends where its lines do"), ("help", "`brokerd explain lines`, lists the forms of lines"), ("?", "`brokerd explain lines`"), ("state", "`list CLIENT`, `errors Q`"), ("xyzzy", "`brokerd explain lines`"))],
+    *[(f"{word} as a line", [], [word], [f"`{word}` is no word that a line begins with\n", told], ["nearest"], [], None) for word, told in (("quit", "it ends where its lines do, at a prompt by `quit` or Ctrl-D"), ("exit", "it ends where its lines do"), ("why", "`--explain` tells why"), ("help", "`brokerd explain lines`, lists the forms of lines"), ("?", "`brokerd explain lines`"), ("state", "`list CLIENT`, `errors Q`"), ("xyzzy", "`brokerd explain lines`"))],
     ("the digits of a packet", [], [f"submit 1 1 {FILL[:-1]}"], ["it has 127 digits, and 128 are wanted\n"], [], [], None),
     ("a strange digit of a packet", [], [f"submit 1 1 {FILL[:-1]}z"], ["of its 128 characters, number 128, `z`, is no hexadecimal digit\n"], [], [], None),
     ("the digits of an address", [], ["read alice 00000001000000 8"], ["it has 14 digits, and 16 are wanted\n"], [], [], None),
@@ -405,10 +405,44 @@ def policies(trials, explained, room):
         with open(path, "w") as file:
             file.write('[[client]]\nname = "carol"\n')
         ended = run([explained.program, "run", SAMPLE, path, "--explain"], text(["reload 1"]))
-        told = b"declares other clients or objects than the first" in ended.err
+        told = b"declares other clients or objects than the first" in ended.err and f"{path}, line 2, column 8: client 1 is carol, and alice in the first policy\n" in ended.err.decode()
         return None if ended.out == b"refused 16 OtherObjects\n" and told else f"{ended}"
 
     trials.every("a policy that declares others is told", others, [0])
+    with open(SAMPLE, encoding="utf-8") as it:
+        sample = it.read()
+
+    def named(it):
+        """That the object, the key and the place are told in which a further policy is another."""
+        old, new, told = it
+        path = f"{tempfile.mkdtemp(dir=room)}/next.toml"
+        with open(path, "w", encoding="utf-8") as file:
+            file.write(changed := sample.replace(old, new, 1))
+        place = changed.index(new)
+        value = place + (new.index(" = ") + 3 if new.startswith(("length", "initial", "takes", "entry")) else 0)
+        line, column = changed.count("\n", 0, value) + 1, value - changed.rfind("\n", 0, value)
+        ended = run([explained.program, "run", SAMPLE, SAMPLE, path, "--explain"], text(["reload 1", "reload 2"]))
+        wanted = f"{path}, line {line}, column {column}: {told}\n" if told.startswith("`") else told
+        return None if ended.out == b"ok\nrefused 16 OtherObjects\n" and ended.err.decode().endswith(wanted) else f"{ended}"
+
+    trials.every("the object, the key and the place of another further policy are told", named, [
+        ("length = 16", "length = 17", "`length` of region args isn't that of the first policy"), ("initial = 1", "initial = -1", "`initial` of signal done isn't that of the first policy"),
+        ('takes = ["kernel", "agent"]', 'takes = ["agent"]', "`takes` of agent gpu isn't that of the first policy"), ('entry = "&spin"', 'entry = "&spun"', "`entry` of kernel spin isn't that of the first policy"),
+        ("br @a;", "br  @a;", ": `text` of kernel spin isn't that of the first policy\n"), ('[[signal]]\nname = "go"\ninitial = 1\n', "", ": signal 2, go, isn't declared here\n"),
+        ('[[signal]]\nname = "go"', '[[signal]]\nname = "x"\ninitial = 0\n[[signal]]\nname = "go"', ", column 8: signal 2 is x, and go in the first policy\n"),
+        ("[[kernel]]", '[[signal]]\nname = "x"\ninitial = 0\n[[kernel]]', ", column 8: signal 3, x, is none that the first policy has\n"),
+    ])
+
+    def reloaded(_):
+        """That a row that doesn't allow a right is told to be of the policy's file, and behind a reload of that one's."""
+        path = f"{room}/narrow.toml"
+        with open(path, "w", encoding="utf-8") as file:
+            file.write(sample.replace('rights = ["READ"]', "rights = []"))
+        ended = run([explained.program, "run", SAMPLE, path, "--explain"], text(["grant bob region args READ", "reload 1", "grant bob region buf READ"]))
+        first, second = "line 1: no allow row of the policy covers READ on region args", f"line 3: no allow row of {path} covers READ on region buf"
+        return None if first in ended.err.decode() and second in ended.err.decode() else f"{ended}"
+
+    trials.every("behind a reload the policy's file is named", reloaded, [0])
 
     def starved(_):
         library = library_of("refuse.c", room)

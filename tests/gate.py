@@ -5,6 +5,8 @@ The last line is `N passed, M failed` over all, and the status is 0 only where n
 above it. `rt ci` leaves each program that it has proved as crates/NAME/out/NAME. The trials are those of `make quick`, here on
 the proved program, and those that it leaves out. `make` builds the program unproved besides, and the versions of both are held. With a path, gate.py PROGRAM,
 the trials alone are run, on that one in place of brokerd.
+
+tests/leaks.py runs behind the others, on as many processes as there are processors, and takes at most 10 minutes of processor.
 """
 import importlib.machinery
 import importlib.util
@@ -28,19 +30,23 @@ PROVED = re.compile(r"brokerd [\d.]+ \(rattle-kit-\w+ logic [0-9a-f]{16}\)\n")
 # the lines that tell what failed, and how many of them are told once more
 WRONG = re.compile(r"NOT PROVED|FAILED|BAD EDIT|NOT TRIED|no verdict|not in the layout|^rt: .*(?:killed|signal)")
 WRONG_LINES = 40
+# the lines of counts that stand beside a figure which is wanted; they are told once more, too
+BESIDE = re.compile(r"^(?:ok|FAILED) .*, wanted [\d_.]+$")
 # the seconds after which what failed isn't run once more
 LATE = 6000
 
 
-def told(words, wrong):
+def told(words, wrong, beside=None):
     """Runs a command and passes on what it prints: how many passed and failed, by its last line and its status. The lines that tell
-    what failed are kept."""
+    what failed are kept, and counts beside what is wanted."""
     last = ""
     with subprocess.Popen(words, cwd=TOP, stdout=subprocess.PIPE, text=True, errors="replace") as command:
         for line in command.stdout:
             print(line, end="", flush=True)
             last = line if line.strip() else last
             wrong += [line.rstrip()] if WRONG.search(line) else []
+            if beside is not None and BESIDE.match(line):
+                beside.append(line.rstrip())
     found = re.match(r"(\d+) passed, (\d+) failed", last)
     passed, failed = (int(found[1]), int(found[2])) if found else (0, 1)
     return passed, max(failed, 1) if command.returncode else failed
@@ -119,7 +125,7 @@ def tell_cost(watch, since):
 
 
 def main(program=None):
-    counts, watch, since, wrong = [], None, time.monotonic(), []
+    counts, watch, since, wrong, beside = [], None, time.monotonic(), [], []
     if not program:
         os.environ.setdefault("RT_JOBS", str(checks_at_once()))
         with Watch() as watch:
@@ -127,13 +133,15 @@ def main(program=None):
         build_archive()
         program = f"{TOP}/crates/brokerd/out/brokerd"
         counts.append(try_versions(program))
-    counts.append(told([sys.executable, "-B", f"{HERE}/quick.py", os.path.abspath(program), ARCHIVE], wrong))
-    for script in "joins.py", "wants.py":
+    counts.append(told([sys.executable, "-B", f"{HERE}/quick.py", os.path.abspath(program), ARCHIVE], wrong, beside))
+    for script, tried in ("joins.py", BENCH), ("wants.py", BENCH), ("leaks.py", os.path.abspath(program)):
         print(f"== {script}", flush=True)
-        counts.append(told([sys.executable, "-B", f"{HERE}/{script}", BENCH], wrong))
+        counts.append(told([sys.executable, "-B", f"{HERE}/{script}", tried], wrong))
     if watch:
         tell_cost(watch, since)
     passed, failed = (sum(column) for column in zip(*counts))
+    if beside:
+        print("what was counted beside what is wanted:", *beside, sep="\n")
     if wrong:
         print("what failed:", *wrong[:WRONG_LINES], sep="\n")
     print(f"{passed} passed, {failed} failed")

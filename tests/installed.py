@@ -20,7 +20,7 @@ SHELLS = ("bash", "zsh", "fish")
 
 def commands(program):
     """The commands by name, each with its options, as the help has them."""
-    return {name: re.findall(r"^ +(?:-h, )?(--[a-z]+)", run([program, name, "--help"]).out.decode(), re.MULTILINE) for name, _ in man.rows(man.blocks(run([program, "--help"]).out.decode())["Commands"]) if name != "help"}
+    return {name: re.findall(r"^ +(?:-[a-z], )?(--[a-z]+)", run([program, name, "--help"]).out.decode(), re.MULTILINE) for name, _ in man.rows(man.blocks(run([program, "--help"]).out.decode())["Commands"]) if name != "help"}
 
 
 def laid_out(path):

@@ -34,6 +34,8 @@ FOR_PROVED = {
 ARCHIVE = f"{TOP}/crates/hobbydresser_c/out/libhobbydresser_c.a"
 # counts only what lies in the settling of a broker that has run, and in letting it go
 SETTLING = "--toggle-collect=bench::lane_speed::is_settled*"
+# a figure that is wanted stands behind a ceiling that is above it
+WANTED = re.compile(r'^"(.+)" = [\d_.]+ # ([\d_.]+)$', re.M)
 # how many rows are counted side by side
 AT_ONCE = 2
 
@@ -242,18 +244,33 @@ class Counter:
         many, few = (self.instructions([self.brokerd, "run", self.policy(sized(count))]) for count in (4, 0))
         return many - few
 
-    def through_library(self, others, told="no"):
-        """A packet through the library for C, with so many others in flight, its changes told in this way."""
-        driver = f"{self.room}/counted_driver"
+    def driver(self, name):
+        """The driver in C of this name, built; none if it can't be."""
+        driver = f"{self.room}/{name}"
         with self.alone:
             if not os.path.exists(driver):
-                words = ["gcc", "-std=c11", "-O2", "-Wall", "-Wextra", "-Wpedantic", "-Werror", INCLUDE, "-o", driver, f"{HERE}/c_counted.c", ARCHIVE, library_of_c()]
+                words = ["gcc", "-std=c11", "-O2", "-Wall", "-Wextra", "-Wpedantic", "-Werror", INCLUDE, "-o", driver, f"{HERE}/{name}.c", ARCHIVE, library_of_c()]
                 built = subprocess.run(words, capture_output=True, text=True)
                 if built.returncode:
-                    self.wrong.append(f"{HERE}/c_counted.c: {built.stderr[-300:]}")
-                    return 0
+                    self.wrong.append(f"{HERE}/{name}.c: {built.stderr[-300:]}")
+                    return None
+        return driver
+
+    def through_library(self, others, told="no"):
+        """A packet through the library for C, with so many others in flight, its changes told in this way."""
+        driver = self.driver("c_counted")
+        if driver is None:
+            return 0
         few, many = (self.instructions([driver, str(count), str(others), told]) for count in (500, 1500))
         return (many - few) / 1000
+
+    def emptied(self, mebibytes):
+        """4 KB written, and the audit emptied, over 64 KB and so many MiB of regions, through the library for C."""
+        driver = self.driver("c_emptied")
+        if driver is None:
+            return 0
+        few, many = (self.instructions([driver, str(mebibytes), str(count)]) for count in (50, 150))
+        return (many - few) / 100
 
     def told_beside(self, told):
         """What it takes to tell the changes of a packet in this way."""
@@ -298,6 +315,8 @@ class Counter:
             yield "packet through the library for C, 441 others in flight, in hundredths of one alone", lambda: hundredths(self.through_library(441), self.through_library(0))
             yield "changes of a packet told by hd_effects, through the library for C", lambda: self.told_beside("once")
             yield "the same told by hd_effect_count, hd_effect_at and hd_effect_bytes, through the library for C", lambda: self.told_beside("singly")
+            yield "audit emptied through the library for C of which 4 KB was written, over 64 KB", lambda: self.emptied(0)
+            yield "audit emptied through the library for C of which 4 KB was written, over 64 MiB, in hundredths of one over 64 KB", lambda: hundredths(self.emptied(64), self.emptied(0))
         if os.path.exists(BENCH) and not self.is_unproved:
             yield "packet of a lane", self.lanes
             yield "packet of a lane, from its ring to its finish", lambda: self.lanes() - self.lanes([SETTLING])
@@ -314,8 +333,9 @@ class Counter:
 
 def main():
     brokerd = program_given()
-    with open(f"{HERE}/instructions.toml", "rb") as it:
-        ceilings = tomllib.load(it)
+    with open(f"{HERE}/instructions.toml", encoding="utf-8") as it:
+        text_of_ceilings = it.read()
+    ceilings, wanted = tomllib.loads(text_of_ceilings), dict(WANTED.findall(text_of_ceilings))
     if not shutil.which("valgrind"):
         print("skipped: there is no valgrind to count with")
         print("0 passed, 0 failed")
@@ -332,7 +352,8 @@ def main():
             well = is_within or found > 0 and (counter.is_unproved or name in told)
             passed, failed = passed + well, failed + (not well)
             bound = "at most" if is_within or not well else "above what a proved program may take,"
-            print(f"{'ok' if well else 'FAILED'} {name}: {found:,.1f}, {'told alone' if name in told else f'{bound} {most:,}'}", flush=True)
+            beside = f", wanted {wanted[name]}" if name in wanted else ""
+            print(f"{'ok' if well else 'FAILED'} {name}: {found:,.1f}, {'told alone' if name in told else f'{bound} {most:,}'}{beside}", flush=True)
         for why in counter.wrong:
             print(f"    {why}")
     for name in ceilings:

@@ -24,19 +24,26 @@ OTHER_SIGNS = {ast.Add: ast.Sub, ast.Sub: ast.Add, ast.BitAnd: ast.BitOr, ast.Bi
 
 @dataclass
 class Change:
-    """A change of a module's text: where it is and how it is made. `whole` is the function around it, or the module."""
+    """A change of a module's text: where it is and how it is made. `whole` is the function around it, or the module, and `statement` what
+    of the module has it."""
 
     module: str
     name: str
     path: str
     whole: ast.AST
+    statement: ast.AST
     node: ast.AST
     made: object
 
     def tree(self):
-        """A copy of the whole with the change in it."""
+        """A copy of the whole with the change in it. Of a module the other statements are no copies."""
+        if not isinstance(self.whole, ast.Module):
+            return self.copied(self.whole)
+        return ast.Module([self.copied(it) if it is self.statement else it for it in self.whole.body], [])
+
+    def copied(self, part):
         self.node.is_changed = True
-        copied = copy.deepcopy(self.whole)
+        copied = copy.deepcopy(part)
         del self.node.is_changed
         return ast.fix_missing_locations(Put(self.made).visit(copied))
 
@@ -256,18 +263,19 @@ def mark_what_has_no_order(tree):
 
 
 def nodes(tree):
-    """Each node behind the path of the function or class that it is in, and the outermost function or the module around it."""
-    def walk(node, path, around):
+    """Each node behind the path of the function or class that it is in, the outermost function or the module around it, and the module's
+    statement that has it."""
+    def walk(node, path, around, statement):
         for child in ast.iter_child_nodes(node):
             if isinstance(child, ast.arg) or getattr(node, "returns", None) is child:
                 continue
             is_inner = isinstance(node, (ast.Module, ast.ClassDef)) and isinstance(child, (ast.FunctionDef, ast.ClassDef))
             inner = f"{path}.{child.name}".lstrip(".") if is_inner else path
             whole = child if is_inner and isinstance(child, ast.FunctionDef) else around
-            yield inner, whole, child
-            yield from walk(child, inner, whole)
+            yield inner, whole, statement or child, child
+            yield from walk(child, inner, whole, statement or child)
 
-    yield from walk(tree, "", tree)
+    yield from walk(tree, "", tree, None)
 
 
 def spelled(node):
@@ -283,15 +291,50 @@ def changes_in(module, tree):
     """All changes of a module, each with a name of its own."""
     found, seen, others = [], {}, neighbours(tree)
     mark_what_has_no_order(tree)
-    for path, whole, node in nodes(tree):
+    for path, whole, statement, node in nodes(tree):
         told = list(changes_of(node))
         if node in others:
             told.append((f"{node.id} is {others[node]}", with_field("id", others[node])))
         for what, made in told:
             name = f"{module}{'.' * bool(path)}{path}: `{spelled(node)}`: {what}"
             seen[name] = seen.get(name, 0) + 1
-            found.append(Change(module, name if seen[name] == 1 else f"{name} ({seen[name]})", path, whole, node, made))
+            found.append(Change(module, name if seen[name] == 1 else f"{name} ({seen[name]})", path, whole, statement, node, made))
     return found
+
+
+def functions(tree):
+    """The functions of a module and those of its classes, by their paths."""
+    for path, whole, _, node in nodes(tree):
+        if node is whole:
+            yield path, node
+
+
+def names_in(*parts):
+    """The names that stand in some nodes, also behind a dot."""
+    found = [it for part in parts for it in ast.walk(part)]
+    return {it.id for it in found if isinstance(it, ast.Name)} | {it.attr for it in found if isinstance(it, ast.Attribute)}
+
+
+def own_parts(statement):
+    """What of a module's statement is made as the module is loaded: of a class all but its functions."""
+    if isinstance(statement, ast.ClassDef):
+        return [it for it in statement.body if not isinstance(it, ast.FunctionDef)]
+    return [] if isinstance(statement, (ast.FunctionDef, ast.Import, ast.ImportFrom)) else [statement]
+
+
+def named_by(statement):
+    """The names that a module's statement gives."""
+    if isinstance(statement, (ast.FunctionDef, ast.ClassDef)):
+        return {statement.name}
+    return {it.id for it in ast.walk(statement) if isinstance(it, ast.Name) and isinstance(it.ctx, ast.Store)}
+
+
+def telling(module, tree):
+    """A copy of a module whose functions tell that they are called."""
+    copied = copy.deepcopy(tree)
+    for path, function in functions(copied):
+        function.body.insert(0, ast.parse(f"CALLED.add({module + '.' + path!r})").body[0])
+    return ast.fix_missing_locations(copied)
 
 
 class Model:
@@ -303,16 +346,25 @@ class Model:
             with open(f"{folder}/{module}.py", encoding="utf-8") as file:
                 self.trees[module] = ast.parse(file.read())
             self.changes += changes_in(module, self.trees[module])
-        self.codes = {module: compile(tree, f"{module}.py", "exec", dont_inherit=True) for module, tree in self.trees.items()}
+        self.codes = {module: compiled(module, tree) for module, tree in self.trees.items()}
         self.right = self.loaded(modules, self.codes)
 
-    def loaded(self, modules, codes):
-        """Modules that are loaded anew, in turn."""
+    def loaded(self, modules, codes, **given):
+        """Modules that are loaded anew, in turn; these names are given to each."""
         for module in modules:
             made = types.ModuleType(f"model.{module}")
+            made.__dict__.update(given)
             sys.modules[f"model.{module}"] = made
             exec(codes[module], made.__dict__)
         return {f"model.{module}": sys.modules[f"model.{module}"] for module in self.modules}
+
+    def telling(self):
+        """The right broker, and a set into which its functions put their paths as they are called."""
+        called = set()
+        codes = {module: compiled(module, telling(module, tree)) for module, tree in self.trees.items()}
+        made = self.loaded(self.modules, codes, CALLED=called)
+        sys.modules.update(self.right)
+        return made[f"model.{self.modules[-1]}"], called
 
     def function(self, change):
         """The function of the right broker around a change."""
@@ -320,6 +372,18 @@ class Model:
         for name in change.path.split("."):
             found = vars(found)[name]
         return inspect.unwrap(getattr(found, "fget", found))
+
+    def reached(self, change):
+        """The paths of the functions whose calls may show a change: the one around it, or those that name what the module's statement
+        makes, or what is made of that."""
+        if not isinstance(change.whole, ast.Module):
+            return {f"{change.module}.{change.path}"}
+        names, before = named_by(change.statement), None
+        while names != before:
+            before = set(names)
+            for it in (it for tree in self.trees.values() for it in tree.body):
+                names |= named_by(it) if names_in(*own_parts(it)) & names else set()
+        return {f"{module}.{path}" for module, tree in self.trees.items() for path, it in functions(tree) if names_in(it) & names}
 
     @contextlib.contextmanager
     def broker(self, change=None):
@@ -329,7 +393,7 @@ class Model:
         if change is None:
             yield self.right[script]
         elif isinstance(change.whole, ast.Module):
-            code = compile(change.tree(), f"{change.module}.py", "exec", dont_inherit=True)
+            code = compiled(change.module, change.tree())
             yield self.loaded(self.modules[self.modules.index(change.module) :], {**self.codes, change.module: code})[script]
         else:
             function, right = self.function(change), self.function(change).__code__
@@ -338,6 +402,10 @@ class Model:
                 yield self.right[script]
             finally:
                 function.__code__ = right
+
+
+def compiled(module, tree):
+    return compile(tree, f"{module}.py", "exec", dont_inherit=True)
 
 
 def code_of(function):

@@ -1,5 +1,7 @@
 #!/usr/bin/env python3
 """Pictures of runs, held against the audits of the same runs: picture.py PROGRAM"""
+import itertools
+import math
 import random
 import re
 import subprocess
@@ -10,14 +12,32 @@ from memory import NO_MEMORY, Memory
 from trial import BARRIER, FILL, HERE, KERNEL, PRELUDE, SAMPLE, TOP, Ended, Trials, program_given, run, text
 
 SVG = "{http://www.w3.org/2000/svg}"
-MARGIN = 150
+# Where entries stand at the left, where an arrow from another band begins, where bands begin, how much room a band has, and how wide a screen is.
+MARGIN, LEAD, BANDS, ROOM, SCREEN = 150, 138, 72, 1400, 1920
+MOST_DRAWN = 20000
+# How many packets the pages are looked at with.
+SIZES = (6, 60, 600, 6000)
+# How who sees all colours, no red (protanopia) or no green (deuteranopia) sees linear red, green and blue: Machado, Oliveira and Fernandes, A
+# Physiologically-based Model for Simulation of Color Vision Deficiency (2009), at severity 1.0.
+SIGHTS = {
+    "all": ((1, 0, 0), (0, 1, 0), (0, 0, 1)),
+    "no red": ((0.152286, 1.052583, -0.204868), (0.114503, 0.786281, 0.099216), (-0.003882, -0.048116, 1.051998)),
+    "no green": ((0.367322, 0.860646, -0.227968), (0.280085, 0.672501, 0.047413), (-0.011820, 0.042940, 0.968881)),
+}
+# Marks that stand in one place, and so have to differ by colour.
+KINDS = (
+    ("finished", "faulted", "failed", "stopped", "open"), ("group", "look", "completion", "fault", "failure"),
+    ("grant", "revocation", "write", "change", "reload"), ("stop", "close"),
+)
+# How far colours of one kind are from each other at the least, in CIE 1976 L*a*b*: 2.3 is what an eye just tells.
+APART = 18
 EXAMPLES = ("fill", "increment", "two_queues")
 BAD_NAMES = ("a<b", "a&b", 'a\\"b', "a'b", "a>b", "a&amp;b", "\\u00e9", "a b", "", "x" * 65)
 # the entries of an audit, by how their lines go on, and what each is drawn as; the first that fits counts
 SIGNS = (
     (r"grant ", "grant"), (r"revoke ", "revocation"), (r"queue ", "lane"), (r"stop ", "stop"), (r"close ", "close"),
     (r"take \d+ \d+ launched", "bar"), (r"take \d+ \d+ denied ", "denial"), (r"run \d+ \d+ group ", "group"), (r"run \d+ \d+ faulted ", "fault"),
-    (r"poll \d+ \d+ seen ", "look"), (r"poll \d+ \d+ failed ", "fault"),
+    (r"poll \d+ \d+ seen ", "look"), (r"poll \d+ \d+ failed ", "failure"),
     (r"finish ", "completion"), (r"write ", "write"), (r"signal ", "change"), (r"reload", "reload"),
 )
 
@@ -58,7 +78,7 @@ def ends_of(entries):
     ends = {}
     for at, entry in enumerate(entries):
         for packet in re.findall(r"; release (\d+ \d+)(?=;|$)", entry):
-            ends[packet] = ({"finish": "finished", "run": "faulted", "poll": "faulted"}.get(entry.split(" ")[0], "stopped"), at + 1)
+            ends[packet] = ({"finish": "finished", "run": "faulted", "poll": "failed"}.get(entry.split(" ")[0], "stopped"), at + 1)
     return ends
 
 
@@ -74,17 +94,40 @@ class Page:
         self.tree = xml.fromstring(text)
         self.groups = [it for it in self.tree.iter(f"{SVG}g") if it.get("class")]
         self.titles = [it.find(f"{SVG}title").text.split(" ", 1) for it in self.groups]
-        self.numbers = {it.text: int(it.get("x")) for it in self.tree.iter(f"{SVG}text") if it.get("class") == "number"}
-        self.lines = [tuple(int(it.get(name)) for name in ("x1", "y1", "x2", "y2")) for it in self.tree.iter(f"{SVG}line") if it.get("class") != "key"]
+        self.numbers = {it.text: (int(it.get("x")), int(it.get("y"))) for it in self.tree.iter(f"{SVG}text") if it.get("class") == "number"}
+        self.lines = [(tuple(int(it.get(name)) for name in ("x1", "y1", "x2", "y2")), it.find(f"{SVG}title").text) for it in self.tree.iter(f"{SVG}line") if it.get("class") != "key"]
+        self.shown = next(it.text for it in self.tree.iter(f"{SVG}text") if it.get("id") == "shown")
+        self.width, self.height = map(int, self.tree.get("viewBox").split(" ")[2:])
+        self.by_number = {}
+        for group, (told, _) in zip(self.groups, self.titles):
+            self.by_number.setdefault(told, []).append(group)
 
     def of_number(self, number):
         """The elements of an entry."""
-        return [group for group, (told, _) in zip(self.groups, self.titles) if told == str(number)]
+        return self.by_number.get(str(number), [])
 
 
-def box(group):
-    """The rectangle of an element: left, top, width, height."""
-    return tuple(int(group.find(f"{SVG}rect").get(name)) for name in ("x", "y", "width", "height"))
+class Grid:
+    """Where entries are to stand: behind so many that aren't drawn, so many that are."""
+
+    def __init__(self, page, skipped, count):
+        self.skipped, self.count, self.step = skipped, count, max(12, min(26, ROOM // (count + 1)))
+        self.columns = ROOM // self.step
+        self.bands = count // self.columns + 1
+        self.pitch = (page.height - BANDS) / self.bands
+
+    def place(self, number):
+        """How far to the right an entry stands, and in which band."""
+        at = max(0, number - self.skipped)
+        return MARGIN + self.step * (at % self.columns), at // self.columns
+
+    def band(self, top):
+        return int((top - BANDS) // self.pitch)
+
+
+def boxes(group):
+    """The rectangles of an element: left, top, width, height of each."""
+    return [tuple(int(it.get(name)) for name in ("x", "y", "width", "height")) for it in group.iter(f"{SVG}rect")]
 
 
 def letters(it):
@@ -96,22 +139,38 @@ def overlap(one, other):
     return one[0] < other[0] + other[2] and other[0] < one[0] + one[2] and one[1] < other[1] + other[3] and other[1] < one[1] + one[3]
 
 
-def step_of(count):
-    return max(2, min(26, 1400 // (count + 1)))
+def wrong_pieces(number, grid, group):
+    """Why an element's pieces aren't one in each band from its own on, each but the first from the band's begin on, or none."""
+    left, first = grid.place(number)
+    found = [(x, grid.band(y)) for x, y, _, _ in boxes(group)]
+    wanted = [(left, first), *((MARGIN, first + at) for at in range(1, len(found)))]
+    return None if found == wanted else f"the pieces of entry {number} stand at {found}, not at {wanted}"
 
 
-def wrong_element(entry, number, place, step, ending, group):
+def wrong_label(number, group):
+    """Why a bar doesn't show its packet's id where there's room for it, or none."""
+    packet = re.search(r"packet (\d+)", group.find(f"{SVG}title").text)[1]
+    room = [it for it in boxes(group) if it[2] >= 6 * len(packet) + 6]
+    labels = [it.text for it in group.iter(f"{SVG}text")]
+    return None if len(labels) == len(room) and all(it.split(" ")[0] == packet for it in labels) else f"the bar of entry {number} is labelled {labels}"
+
+
+def wrong_element(entry, number, grid, ending, group):
     """Why an element isn't what its entry is to be drawn as, or none. `ending` is how and where the packet ends that it launches, or
     where the queue ends that it opens."""
-    classes, (left, _, width, _) = group.get("class").split(" "), box(group)
+    classes, width, step = group.get("class").split(" "), sum(it[2] for it in boxes(group)), grid.step
     if classes[0] != sign_of(entry):
         return f"entry {number}, {entry!r}, is drawn as {classes}"
-    if left != place:
-        return f"the element of entry {number} stands elsewhere"
+    if wrong := wrong_pieces(number, grid, group):
+        return wrong
     if classes[0] == "bar" and (classes[1] != ending[0] or width - step // 2 != step * (ending[1] - number)):
         return f"the packet of entry {number} ended {ending}, and is drawn as {classes}, {width} wide"
+    if classes[0] == "bar" and (wrong := wrong_label(number, group)):
+        return wrong
     if classes[0] == "lane" and width != step * (ending[1] - number + 1):
         return f"the queue of entry {number} ended at {ending[1]}, and its lane is {width} wide"
+    if classes[0] == "lane" and [it.text for it in group.iter(f"{SVG}text") if it.get("x") == "6"] != [" ".join(group.find(f"{SVG}title").text.split(" ")[1:])] * len(boxes(group)):
+        return f"the lane of entry {number} has no name in each band"
     words = [it.text or "" for it in (*group.iter(f"{SVG}title"), *group.iter(f"{SVG}text"))]
     broken = re.search(r" (denied|faulted|failed) (.*?)(;|$)", entry)
     if broken and not (len(words) == 2 and all(broken[2] in told for told in words)):
@@ -125,7 +184,7 @@ def wrong_element(entry, number, place, step, ending, group):
     return None
 
 
-def wrong_arrows(handed, entries, page, step):
+def wrong_arrows(handed, entries, page, grid):
     """Why the arrows aren't one to each signal that a poll saw, from an entry before it that made one 0."""
     wanted, zeros = [], set()
     for at, entry in enumerate((*handed, *entries)):
@@ -134,14 +193,18 @@ def wrong_arrows(handed, entries, page, step):
             wanted += [number for it in entry.split(";")[0].split(" ")[4].split(",") if it]
         if re.search(r"; signal \d+ -?\d+ 0(;|$)", entry):
             zeros.add(number)
-    told = [(len(handed) + (x1 - step // 2 - MARGIN) // step, len(handed) + (x2 - MARGIN) // step) for x1, _, x2, _ in page.lines]
     unseen = list(wanted)
-    for source, target in told:
+    for (x1, y1, x2, y2), told in page.lines:
+        target, source = map(int, re.fullmatch(r"(\d+) saw the 0 of (\d+)", told).groups())
         if target not in unseen:
             return f"an arrow to {target}, which saw no signal"
         unseen.remove(target)
         if source not in zeros or not len(handed) < source < target:
             return f"an arrow from {source}, which made no signal 0"
+        (left, one), (right, other) = grid.place(source), grid.place(target)
+        begin = left + grid.step // 2 if one == other else LEAD
+        if (x1, x2, grid.band(y2), grid.band(y1)) != (begin, right, other, other):
+            return f"the arrow from {source} to {target} is drawn elsewhere: {(x1, y1, x2, y2)}"
     return None if not unseen or handed else f"no arrows to {unseen}"
 
 
@@ -162,30 +225,49 @@ def wrong_start(handed, entries, page):
     return None
 
 
-def wrong_look(page):
+def wrong_look(page, grid):
     """Why a page can't be read: bars that overlap, words that overlap, or a tick that runs through words."""
-    bars = [box(it) for it in page.groups if it.get("class").startswith("bar")]
-    ticks = [box(it) for it in page.groups if it.get("class") in ("group", "look", "completion", "fault")]
+    bars = [box for it in page.groups if it.get("class").startswith("bar") for box in boxes(it)]
+    ticks = [box for it in page.groups if it.get("class") in ("group", "look", "completion", "fault", "failure") for box in boxes(it)]
     words = [letters(it) for group in page.groups for it in group.iter(f"{SVG}text") if group.get("class") != "reload"]
     words += [letters(it) for it in page.tree.iter(f"{SVG}text") if it.get("class") == "number"]
     for name, some, others in (("bars", bars, bars), ("words", words, words), ("a tick and words", ticks, words)):
-        found = next(((a, b) for i, a in enumerate(some) for b in (others[:i] if others is some else others) if overlap(a, b)), None)
+        by_band = {}
+        for it in others:
+            by_band.setdefault(grid.band(it[1]), []).append(it)
+        found = next(((a, b) for a in some for b in by_band.get(grid.band(a[1]), []) if a is not b and overlap(a, b)), None)
         if found:
             return f"{name} overlap: {found}"
-    _, _, width, height = map(int, page.tree.get("viewBox").split(" "))
-    out = [it for it in (*bars, *ticks, *words) if it[0] + it[2] > width or it[1] + it[3] > height]
+    out = [it for it in (*bars, *ticks, *words) if it[0] + it[2] > page.width or it[1] + it[3] > page.height]
     return f"off the page: {out[:3]}" if out else None
 
 
-def wrong_lanes(page):
+def wrong_lanes(page, grid):
     """Why a lane isn't just as high as the rows that its packets stand in, or none. A lane has 16 above its rows, and a row 22."""
-    marks = [box(it) for it in page.groups if it.get("class").split(" ")[0] in ("bar", "denial")]
-    for _, top, _, height in (box(it) for it in page.groups if it.get("class") == "lane"):
-        rows = [(at - top - 16) // 22 for _, at, _, _ in marks if top <= at < top + height]
+    marks = {(at - BANDS) % grid.pitch for it in page.groups if it.get("class").split(" ")[0] in ("bar", "denial") for _, at, _, _ in boxes(it)}
+    for _, top, _, height in (box for it in page.groups if it.get("class") == "lane" for box in boxes(it)):
+        top = (top - BANDS) % grid.pitch
+        rows = [(at - top - 16) // 22 for at in marks if top <= at < top + height]
         wanted = 16 + 22 * (1 + max(rows, default=0))
         if height != wanted:
             return f"a lane at {top} is {height} high, and not {wanted}"
     return None
+
+
+def wrong_head(page, grid, before):
+    """Why a page doesn't say which entries it shows, isn't as wide as a screen at the most, or has a band without an axis and names, or none."""
+    first, last = before + grid.skipped + 1, before + grid.skipped + grid.count
+    wanted = f"entries {first} to {last}; --from N --to N draws those from one number to another" if grid.count else "no entries"
+    if page.shown != wanted:
+        return f"it says {page.shown!r}, not {wanted!r}"
+    if page.width > SCREEN or page.tree.get("style") != "max-width:100%;height:auto":
+        return f"it is {page.width} wide"
+    for name in ("entry", "administrator, clients"):
+        found = [grid.band(int(it.get("y"))) for it in page.tree.iter(f"{SVG}text") if it.text == name]
+        if found != list(range(grid.bands)):
+            return f"{name!r} stands in the bands {found}, not in all of {grid.bands}"
+    bare = set(range(grid.count // grid.columns)) - {grid.band(y) for _, y in page.numbers.values()}
+    return f"no number in the bands {bare}" if bare else None
 
 
 def wrong_page(parts, text, skipped=0):
@@ -197,17 +279,12 @@ def wrong_page(parts, text, skipped=0):
     except xml.ParseError as error:
         return f"no XML: {error}"
     handed, entries = parts
-    before, step = len(handed), step_of(len(entries) - skipped)
-
-    def x(number):
-        return MARGIN + step * (number - before - skipped)
-
+    before = len(handed)
+    grid = Grid(page, before + skipped, len(entries) - skipped)
     if page.tree.tag != f"{SVG}svg":
         return f"its root is {page.tree.tag}"
-    if any(of != x(int(number)) or not before + skipped < int(number) <= before + len(entries) for number, of in page.numbers.items()):
+    if any((x, grid.band(y)) != grid.place(int(number)) or not before + skipped < int(number) <= before + len(entries) for number, (x, y) in page.numbers.items()):
         return f"its axis is {page.numbers}, behind {before} of {len(entries)} entries"
-    if len(entries) - skipped >= 100 and not page.numbers:
-        return "its axis has no number"
     if [int(told) for group, (told, _) in zip(page.groups, page.titles) if told != "start" and int(told) <= before + skipped and not re.match("lane|bar", group.get("class"))]:
         return "entries that aren't asked for are drawn"
     ends, closes = ends_of(entries), closes_of(entries)
@@ -220,12 +297,11 @@ def wrong_page(parts, text, skipped=0):
         ending, last = ends.get(" ".join(entry.split(" ")[1:3]), ("open", len(entries))) if entry.startswith("take ") else ("", 0)
         if entry.startswith("queue "):
             last = closes.get(entry.split(" ")[1], len(entries))
-        number = before + at + 1
-        wrong = wrong_element(entry, number, x(number), step, (ending, before + last), groups[0])
+        wrong = wrong_element(entry, before + at + 1, grid, (ending, before + last), groups[0])
         if wrong:
             return wrong
-    more = [] if skipped else [wrong_start(handed, entries, page), wrong_arrows(handed, entries, page, step), wrong_lanes(page)]
-    return next((it for it in (*more, wrong_look(page)) if it), None)
+    more = [] if skipped else [wrong_start(handed, entries, page), wrong_arrows(handed, entries, page, grid), wrong_lanes(page, grid)]
+    return next((it for it in (wrong_head(page, Grid(page, skipped, len(entries) - skipped), before), *more, wrong_look(page, grid)) if it), None)
 
 
 def random_script(seed, more=()):
@@ -251,12 +327,17 @@ def long_script(packets):
 
 def ranges(trials, program):
     """What is drawn of long scripts, and of ranges of entries."""
-    long, longer = long_script(200), long_script(1700)
+    long, longer = long_script(200), long_script(6700)
     whole, wholer = history(program, long), history(program, longer)
 
     def fits(packets):
-        width = int(Page(drawn(program, long_script(packets))).tree.get("width"))
-        return None if width <= 1920 else f"it is {width} wide"
+        script = long_script(packets)
+        return wrong_page(history(program, script), drawn(program, script))
+
+    def numbered(packets):
+        bars = [it for it in Page(drawn(program, long_script(packets))).groups if it.get("class").startswith("bar")]
+        bare = [it for it in bars if it.find(f"{SVG}text") is None]
+        return None if len(bars) == packets and len(bare) * 20 <= packets else f"{len(bare)} of {len(bars)} bars have no number"
 
     def asked(case):
         first, last = case
@@ -271,12 +352,38 @@ def ranges(trials, program):
         handed, entries = history(program, script)
         return wrong_page((handed, entries), drawn(program, script, "--from", str(first)), max(0, first - 1 - len(handed)))
 
-    trials.every("two hundred packets fit on a screen", fits, [1, 50, 200])
-    shrinks = lambda packets: None if ((it := Page(drawn(program, long_script(packets))).tree).get("style") is None) == (int(it.get("width")) > 1920) else "it is shown otherwise"
-    trials.every("a page wider than a screen isn't shrunk", shrinks, [1, 200, 400])
+    trials.every("a page of few and of many packets is as wide as a screen, with names and numbers in each band", fits, SIZES)
+    trials.every("of few and of many packets all but one in twenty show their ids", numbered, SIZES)
     trials.every("a range of entries is drawn", asked, [(None, None), (1, None), (None, 1), (300, 420), (300, None), (None, 420), (607, 607), (5000, None)])
     trials.every("a range of entries is drawn behind a rotation", behind, [(100, 80), (100, 200), (401, 1), (402, 310)])
-    trials.every("of more entries than five thousand the last ones are drawn", lambda it: wrong_page(wholer, drawn(program, longer), len(wholer[1]) - 5000), [longer])
+    trials.every("of more entries than twenty thousand the last ones are drawn", lambda it: wrong_page(wholer, drawn(program, longer), len(wholer[1]) - MOST_DRAWN), [longer])
+
+
+def seen(colour, sight):
+    """A colour as it is seen: its place in CIE 1976 L*a*b*, of sRGB under D65."""
+    values = [int(colour[at : at + 2], 16) / 255 for at in (1, 3, 5)]
+    linear = [it / 12.92 if it <= 0.04045 else ((it + 0.055) / 1.055) ** 2.4 for it in values]
+    red, green, blue = (min(1, max(0, sum(a * b for a, b in zip(row, linear)))) for row in SIGHTS[sight])
+    shares = ((0.4124 * red + 0.3576 * green + 0.1805 * blue) / 0.95047, 0.2126 * red + 0.7152 * green + 0.0722 * blue, (0.0193 * red + 0.1192 * green + 0.9505 * blue) / 1.08883)
+    x, y, z = (it ** (1 / 3) if it > 0.008856 else 7.787 * it + 16 / 116 for it in shares)
+    return 116 * y - 16, 500 * (x - y), 200 * (y - z)
+
+
+def colours(trials, program):
+    """The colours of marks that stand in one place, and that the page says what they mean."""
+    tree = Page(drawn(program, example("two_queues"))).tree
+    style = "".join(it.text for it in tree.iter(f"{SVG}style"))
+    fills = {name: fill for names, fill in re.findall(r"([^{}]+)\{fill:(#[0-9a-f]{6})", style) for name in re.findall(r"\.(\w+) rect", names)}
+    legend = next(it for it in tree.iter(f"{SVG}g") if it.get("id") == "legend")
+    keys = [it.get("fill") for it in legend.iter(f"{SVG}rect")]
+
+    def apart(case):
+        kind, sight = case
+        near = [(one, other) for one, other in itertools.combinations(kind, 2) if math.dist(seen(fills[one], sight), seen(fills[other], sight)) < APART]
+        return f"{near} look alike" if near else None
+
+    trials.every("colours of one kind of mark differ, also for who sees no red or no green", apart, list(itertools.product(KINDS, SIGHTS)))
+    trials.every("each colour is told at the page's head", lambda it: None if fills[it] in keys else f"{it} isn't told", [name for kind in KINDS for name in kind])
 
 
 def pages(trials, program):
@@ -366,6 +473,7 @@ def starved(trials, program, room):
 def main():
     program = program_given()
     trials = Trials("pictures")
+    colours(trials, program)
     pages(trials, program)
     ranges(trials, program)
     with tempfile.TemporaryDirectory(prefix="picture-") as room:

@@ -144,7 +144,7 @@ def grant_reply(tree, client, kind, name, rights):
     return "ok" if all(allows(tree, client, kind, name, it) for it in rights) else "refused 5 NotAllowed"
 
 
-@functools.lru_cache(maxsize=64)
+@functools.lru_cache(maxsize=4096)
 def tree_of(text):
     """The tree of a policy's text as bytes; its first fault is raised. Nobody changes a tree."""
     if len(text) > MOST_BYTES:

@@ -17,14 +17,14 @@ from trial import HERE, is_unproved
 # the scripts that are tried, those that take longest first
 TRIED = (
     "memory.py", "journals.py", "instructions.py", "kernels.py", "cases.py", "texts.py", "picture.py", "streams.py", "docs.py", "words.py", "explain.py", "manners.py",
-    "decode.py", "terminal.py", "pages.py", "forms.py", "readable.py", "listing.py", "installed.py", "rotation.py", "long.py", "wrong_bodies.py", "needs.py", "proved.py",
+    "decode.py", "terminal.py", "making.py", "pages.py", "forms.py", "readable.py", "listing.py", "installed.py", "rotation.py", "long.py", "wrong_bodies.py", "needs.py", "proved.py",
 )
 # those that want no program
 ALONE = {"wrong_bodies.py", "needs.py", "proved.py"}
 # what wants another program than brokerd, and which
 OTHERS = {
     "joins.py": "it wants the program bench", "wants.py": "it wants the program bench", "c.py": "it wants the library for C, as `make library` builds it",
-    "leaks.py": "it is run by hand", "hsa.py": "it is run by hand",
+    "leaks.py": "the gate runs it", "hsa.py": "it is run by hand",
 }
 # what the scripts share, what writes cases, and what runs them all
 SHARED = {

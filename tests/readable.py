@@ -9,6 +9,7 @@ import json
 import os
 import re
 import sys
+import tempfile
 
 from commands import FORMS, GROUPS, KERNELS, READABLE, ROTATIONS, TYPED
 from trial import PRELUDE, SAMPLE, TOP, Ended, Trials, run, text
@@ -17,13 +18,16 @@ KIND_OF = {"true": "test", "false": "test"}
 
 
 def replies(out, lines):
-    """The texts of replies, one for each line that asks something: those that count their lines have these behind them."""
+    """The texts of replies, one for each line that asks something: those that count their lines have these behind them, and a drain the lines of its packets, which stand before it."""
     found, left = [], out.decode().splitlines()
     while left:
+        packets = []
+        while left[0].startswith("packet "):
+            packets.append(left.pop(0))
         head = left.pop(0)
         words = head.split(" ")
-        count = int(words[1]) if words[0] in ("list", "errors", "audit", "rotated") else int(words[-1]) if words[0] == "drained" else 0
-        found.append([head, *left[:count]])
+        count = int(words[1]) if words[0] in ("list", "errors", "audit", "rotated", "state") else int(words[-1]) if words[0] == "drained" else 0
+        found.append([head, *packets, *left[:count]])
         left = left[count:]
     return found
 
@@ -56,13 +60,25 @@ def same_as_text(reply, told):
         return None if reply["bytes"] == words[1] else f"{reply}: other bytes"
     elif kind in ("list", "errors", "audit", "rotated"):
         return listed(reply[{"list": "objects", "errors": "errors"}.get(kind, "entries")], kind, told[1:])
+    elif kind == "state":
+        return None if reply["lines"] == told[1:] else f"{reply}: other lines"
     elif kind == "drained":
         counts = dict(zip(words[1::2], map(int, words[2::2])))
         own = {it: reply[it] for it in counts if it != "waiting"} | {"waiting": len(reply["waiting"])}
-        return None if own == counts else f"{reply}: other counts"
+        if own != counts:
+            return f"{reply}: other counts"
+        packets = [packet_line(it) for it in reply["packets"]]
+        return None if packets == [it for it in told if it.startswith("packet ")] else f"{reply}: other packets"
     else:
         wanted, numbers = [], []
     return None if wanted == numbers else f"{reply}: {wanted} and not {numbers}"
+
+
+def packet_line(it):
+    """The line that tells what came of a packet, by its object."""
+    what = {"kernel": f" kernel {it.get('kernel')}", None: ""}.get(it.get("kind"), f" {it.get('kind')}")
+    course = (" launched" if it["launched"] else "") + (f" ran {it['ran']}" if it["ran"] else "") + (" ready" if it["ready"] else "")
+    return f"packet {it['queue']} {it['packet']}{what}{course}" + {"open": "", "finished": " finished"}.get(it["ending"], f" {it['ending']} {it.get('rule')}")
 
 
 def listed(items, kind, lines):
@@ -115,8 +131,14 @@ def as_in_a_row(trials, program):
         ended = run([program, "run", "--readable", SAMPLE], given)
         return None if (ended.out, ended.status) == (wanted.out, max(made.status, wanted.status)) else f"{ended} and not {wanted} of {made}"
 
+    def drawn(lines):
+        made = run([program, "assemble", SAMPLE], text(lines)).out
+        wanted, ended = run([program, "picture", SAMPLE], made), run([program, "picture", "--readable", SAMPLE], text(lines))
+        return None if ended == wanted and ended.status == 0 else f"another picture, {ended.err}"
+
     plain = [*PRELUDE, "write alice buf 01000000 # four bytes", "read alice buf+2 2", "read alice 0x100000000 4", "  # a remark", "read alice 0000000100000000 4", "#", "fill 1 1 buf length 4 with 7 signal done # a fill", "serve 1"]
     trials.every("a readable run is assemble and run in a row", trial, [READABLE, plain, FORMS, KERNELS, GROUPS, ROTATIONS, [], ["list alice", "fill 1"]])
+    trials.every("a picture of readable lines is that of the assembled ones", drawn, [READABLE, plain])
 
 
 def numbered(trials, program):
@@ -129,14 +151,18 @@ def numbered(trials, program):
         ended = run([program, "run", "--readable", SAMPLE, *words], text(lines))
         return None if ended.status == status and (ended.err.decode() == told if isinstance(told, str) else all(it in ended.err.decode() for it in told)) else f"{ended}"
 
-    wanted = "line 9: bad request\nline 9: buff: wanted is an address: a region as buf or buf+16, or a number\n"
+    wanted = "line 9: bad request\nline 9: buff: wanted is an address: a region as buf or buf+16, or a number\nline 9: the nearest region of the policy is buf\n"
     rows = [
         ([*front, "fill 1 1 buff length 4 with 1"], [], 1, wanted),
         ([*front, "fill 1 1 buff length 4 with 1 # no buff"], ["--explain"], 1, wanted),
         ([*front, "fils 1 1"], [], 1, "line 9: bad request\nline 9: fils: wanted is a word that lines begin with, as fill\n"),
         ([*front, "?"], [], 1, "line 9: bad request\nline 9: ?: wanted is a word that lines begin with\n"),
         ([*front, "", "serv 1"], [], 1, "line 10: bad request\nline 10: serv: wanted is a word that lines begin with, as serve\n"),
-        ([*front, "read alice buff 4"], [], 1, "line 9: bad request\nline 9: buff: wanted is an address: 16 hexadecimal digits, a region as buf or buf+16, or a number as 0x100000000\n"),
+        ([*front, "read alice buff 4"], [], 1, "line 9: bad request\nline 9: buff: wanted is an address: 16 hexadecimal digits, a region as buf or buf+16, or a number as 0x100000000\nline 9: the nearest region of the policy is buf\n"),
+        ([*front, "copy 1 1 buf to arggs+4 length 4"], [], 1, ["line 9: the nearest region of the policy is args\n"]),
+        ([*front, "dispatch alise 1 1 inc grid 4 group 2"], [], 1, ["line 9: the nearest client of the policy is alice\n"]),
+        ([*front, "args alise args inc p=1"], [], 1, ["line 9: the nearest client of the policy is alice\n"]),
+        ([*front, "args alice args inc q=1"], [], 1, ["line 9: q=1: wanted is the name of an argument, as `brokerd kernel FILE` lists them\n"]),
         ([*front, "all-of 1 1 acquire=all"], [], 1, ["line 9: acquire=all: wanted is a signal of the policy, or ", "line 9: behind acquire= and release= stands none, agent or system\n"]),
         ([*front, "fill 1 1 buf length 4 with 1 release=x"], [], 1, ["line 9: behind acquire= and release= stands none, agent or system\n"]),
         ([*front, "dispatch 1 1 inc grid 4294967296 group 2"], [], 1, ["line 9: a size of the grid is 4294967295 at the most\n"]),
@@ -182,26 +208,32 @@ def drains(trials, program):
         (["drain", "drain 1"], [none, none]),
         (["drain 2"], [none.replace("waiting 0", "waiting 1"), "queue 2 refused 2 UnknownQueue"]),
         (["drain 18446744073709551615"], [none.replace("waiting 0", "waiting 1"), "queue 18446744073709551615 refused 2 UnknownQueue"]),
-        ([fill, "drain 1", "read alice buf 4", "load alice done"], ["published 0", one, "bytes 5a5a5a5a", "value 0"]),
-        ([fill, "serve 1", "drain", "drain"], ["published 0", "launched 0", one.replace("launched 1", "launched 0"), none]),
-        ([kernel, "serve 1", "run 1 0", "drain 1", "list bob"], ["ok", "published 0", "launched 0", "ran 0 left 1", one.replace("launched 1", "launched 0"), "list 0"]),
+        ([fill, "drain 1", "read alice buf 4", "load alice done"], ["published 0", "packet 1 0 fill launched ran 1 finished", one, "bytes 5a5a5a5a", "value 0"]),
+        ([fill, "serve 1", "drain", "drain"], ["published 0", "launched 0", "packet 1 0 fill ran 1 finished", one.replace("launched 1", "launched 0"), none]),
+        ([kernel, "serve 1", "run 1 0", "drain 1", "list bob"], ["ok", "published 0", "launched 0", "ran 0 left 1", "packet 1 0 kernel inc ran 1 finished", one.replace("launched 1", "launched 0"), "list 0"]),
         # what waits is told, with the signals that it waits for, and what was launched behind it
-        (["all-of 1 1 go done", fill, "drain"], ["published 0", "published 1", "drained launched 1 denied 0 ran 0 faulted 0 ready 0 failed 0 finished 0 waiting 2", "queue 1 waiting 1 Barrier", "queue 1 packet 0 pending on go done"]),
+        (["all-of 1 1 go done", fill, "drain"], ["published 0", "published 1", "packet 1 0 all-of launched", "drained launched 1 denied 0 ran 0 faulted 0 ready 0 failed 0 finished 0 waiting 2", "queue 1 waiting 1 Barrier", "queue 1 packet 0 pending on go done"]),
         (["all-of 1 1 go", fill, "drain", "signal alice go store 0", "drain"],
-         ["published 0", "published 1", "drained launched 1 denied 0 ran 0 faulted 0 ready 0 failed 0 finished 0 waiting 2", "queue 1 waiting 1 Barrier", "queue 1 packet 0 pending on go", "ok",
-          "drained launched 1 denied 0 ran 1 faulted 0 ready 1 failed 0 finished 2 waiting 0"]),
+         ["published 0", "published 1", "packet 1 0 all-of launched", "drained launched 1 denied 0 ran 0 faulted 0 ready 0 failed 0 finished 0 waiting 2", "queue 1 waiting 1 Barrier", "queue 1 packet 0 pending on go", "ok",
+          "packet 1 0 all-of ready finished", "packet 1 1 fill launched ran 1 finished", "drained launched 1 denied 0 ran 1 faulted 0 ready 1 failed 0 finished 2 waiting 0"]),
         # a denied packet stops its queue
         (["revoke alice region buf WRITE", fill, fill, "drain 1"],
-         ["ok", "published 0", "published 1", "drained launched 0 denied 1 ran 0 faulted 0 ready 0 failed 0 finished 0 waiting 1", "queue 1 refused 7 QueueDown"]),
+         ["ok", "published 0", "published 1", "packet 1 0 denied L8", "drained launched 0 denied 1 ran 0 faulted 0 ready 0 failed 0 finished 0 waiting 1", "queue 1 refused 7 QueueDown"]),
         # queues that were closed are passed over, with what a close released
         (["close 1", "drain"], ["ok", none]),
         (["queue alice gpu 4 1", "close 1", "queue alice gpu 2 1", *(fill.replace("1 1", f"{it} 1", 1) for it in (2, 3)), "drain", "drain 1", "drain"],
-         ["queue 2", "ok", "queue 3", "published 0", "published 0", "drained launched 2 denied 0 ran 2 faulted 0 ready 0 failed 0 finished 2 waiting 0",
+         ["queue 2", "ok", "queue 3", "published 0", "published 0", "packet 2 0 fill launched ran 1 finished", "packet 3 0 fill launched ran 1 finished", "drained launched 2 denied 0 ran 2 faulted 0 ready 0 failed 0 finished 2 waiting 0",
           none.replace("waiting 0", "waiting 1"), "queue 1 refused 2 UnknownQueue", none]),
         (["queue alice gpu 2 1", fill, "serve 1", fill.replace("1 1", "2 1", 1), "serve 2", "close 1", "drain"],
-         ["queue 2", "published 0", "launched 0", "published 0", "launched 0", "ok", one.replace("launched 1", "launched 0")]),
+         ["queue 2", "published 0", "launched 0", "published 0", "launched 0", "ok", "packet 2 0 fill ran 1 finished", one.replace("launched 1", "launched 0")]),
         (["close 1", *(line for it in range(2, 71) for line in ("queue alice gpu 2 1", f"close {it}")), "queue alice gpu 2 1", fill.replace("1 1", "71 1", 1), "drain", "load alice done"],
-         ["ok", *(line for it in range(2, 71) for line in (f"queue {it}", "ok")), "queue 71", "published 0", one, "value 0"]),
+         ["ok", *(line for it in range(2, 71) for line in (f"queue {it}", "ok")), "queue 71", "published 0", "packet 71 0 fill launched ran 1 finished", one, "value 0"]),
+        # each kind of packet by the word that begins its line, and a fault with its rule
+        (["copy 1 1 buf to buf+16 length 4", "add 1 1 3 to buf+8", "drain", "signal alice go store 0", "any-of 1 1 go", "drain"],
+         ["published 0", "published 1", "packet 1 0 copy launched ran 1 finished", "packet 1 1 add launched ran 1 finished", "drained launched 2 denied 0 ran 2 faulted 0 ready 0 failed 0 finished 2 waiting 0",
+          "ok", "published 2", "packet 1 2 any-of launched ready finished", "drained launched 1 denied 0 ran 0 faulted 0 ready 1 failed 0 finished 1 waiting 0"]),
+        ([kernel.replace("arguments buf", "arguments 16"), fill, "drain"],
+         ["ok", "published 0", "published 1", "packet 1 0 kernel inc launched faulted A1", "packet 1 1 fill launched ran 1 finished", "drained launched 2 denied 0 ran 1 faulted 1 ready 0 failed 0 finished 1 waiting 0"]),
         # behind a rotation the packets in flight are those that it began with
         (["queue alice gpu 4 1", fill.replace("1 1", "2 1"), "serve 2", "rotate", "drain 1", "drain"], None),
         (["queue alice gpu 4 1", "queue alice gpu 4 1", "close 2", fill.replace("1 1", "3 1"), "serve 3", "rotate", "drain 1", "drain"], None),
@@ -211,7 +243,8 @@ def drains(trials, program):
 
     def rotated(it):
         ended = run([program, "run", "--readable", SAMPLE], text([*PRELUDE, *it]))
-        return None if ended.status == 0 and ended.out.decode().splitlines()[-2:] == [none, one.replace("launched 1", "launched 0")] else f"{ended}"
+        last = ended.out.decode().splitlines()[-3:]
+        return None if ended.status == 0 and last[::2] == [none, one.replace("launched 1", "launched 0")] and re.fullmatch("packet [23] 0 fill ran 1 finished", last[1]) else f"{ended}"
 
     trials.every("a drain behind a rotation", rotated, [it[0] for it in rows if not it[1]])
 
@@ -228,9 +261,71 @@ def drains(trials, program):
     stops = lambda it: None if (ended := run([program, "run", "--readable", *it, SAMPLE], text([*PRELUDE, "revoke alice region buf WRITE", fill, "drain", "list bob"]))).status == (1 if "--strict" in it else 0) and (b"list" in ended.out) == ("--strict" not in it) and (b"line 10: " in ended.err) == ("--explain" in it) else f"{ended}"
     trials.every("a fault of a drain ends a strict run, and is explained", stops, [[], ["--strict"], ["--explain"], ["--strict", "--explain"]])
     told = run([program, "run", "--readable", "--json", SAMPLE], text([*PRELUDE, "all-of 1 1 go", fill, "drain"])).out.splitlines()
-    last = {"line": 10, "reply": "drained", "launched": 1, "denied": 0, "ran": 0, "faulted": 0, "ready": 0, "failed": 0, "finished": 0, "waiting": [
+    last = {"line": 10, "reply": "drained", "launched": 1, "denied": 0, "ran": 0, "faulted": 0, "ready": 0, "failed": 0, "finished": 0, "packets": [
+        {"queue": 1, "packet": 0, "kind": "all-of", "launched": True, "ran": 0, "ready": False, "ending": "open"}], "waiting": [
         {"queue": 1, "reply": "waiting", "packet": 1, "cause": "Barrier"}, {"queue": 1, "packet": 0, "reply": "pending", "seen": [], "on": ["go"]}]}
     trials.every("a drain as JSON", lambda it: None if json.loads(it) == last else f"{it}", told[-1:])
+
+
+ALICE = "client alice: agent gpu USE; region buf READ,WRITE; region args READ,WRITE; signal done WAIT,CHANGE; signal go WAIT,CHANGE; kernel inc LAUNCH"
+QUEUE = "queue 1 of alice on agent gpu: 2 slots, next packet"
+SIGNALS = ["signal done: 1", "signal go: 1"]
+
+
+def audit(taken, kept=0, before=0):
+    return f"audit: {taken} of 65536 places taken, {kept} kept for packets in flight, {before} entries handed out"
+
+
+def states(trials, program):
+    """What there is, told behind some lines; what a packet waits for brings it on."""
+
+    def trial(it):
+        lines, wanted = it
+        ended = run([program, "run", "--readable", SAMPLE], text([*PRELUDE, *lines, "state"]))
+        told = "\n".join([f"state {len(wanted) + 2}", ALICE, "client bob: no rights", *wanted, ""])
+        return None if ended.status == 0 and not ended.err and ended.out.decode().endswith(f"\n{told}") else f"{ended.out.decode()} and not {told}"
+
+    fill, block = "fill 1 1 buf length 4 with 0x5a", "dispatch alice 1 1 inc grid 4 group 2 arguments buf at args"
+    many = ["queue alice gpu 32 1", *["reserve 2 1"] * 18]
+    rows = [
+        ([], [f"{QUEUE} 0", *SIGNALS, audit(7)]),
+        (["all-of 1 1 go signal done", "serve 1", fill, "write alice buf+16 01"],
+         [f"{QUEUE} 1", "packet 0 of queue 1: in flight, a barrier-AND, waits for signal go, which is 1: `poll 1 0` looks",
+          "packet 1 of queue 1: published, waits for `serve 1`, behind the barrier packet in flight", *SIGNALS, "memory buf+16: 01000000000000000000000000000000", audit(9, 1)]),
+        (["all-of 1 1 go done", "serve 1", "signal alice go store 0", "poll 1 0"],
+         [f"{QUEUE} 1", "packet 0 of queue 1: in flight, a barrier-AND, waits for signal done, which is 1: `poll 1 0` looks", "signal done: 1", "signal go: 0", audit(10, 1)]),
+        (["all-of 1 1 go", "serve 1", "signal alice go store 0", "poll 1 0"], [f"{QUEUE} 1", "packet 0 of queue 1: in flight, a barrier-AND, waits for `finish 1 0`", "signal done: 1", "signal go: 0", audit(10, 1)]),
+        (["any-of 1 1", "serve 1"], [f"{QUEUE} 1", "packet 0 of queue 1: in flight, a barrier-OR, waits for `stop 1`: any of no signals is never 0", *SIGNALS, audit(8, 1)]),
+        ([block, "serve 1", "run 1 0"],
+         [f"{QUEUE} 1", "packet 0 of queue 1: in flight, kernel inc, waits for `run 1 0`: groups left: 1", *SIGNALS, "memory buf+0: 01000000010000000000000000000000", "memory args+0: 00000000010000000000000000000000", audit(10, 1)]),
+        ([fill, "serve 1", fill, "run 1 0"], [f"{QUEUE} 1", "packet 0 of queue 1: in flight, an agent dispatch, waits for `finish 1 0`", "packet 1 of queue 1: published, waits for `serve 1`", *SIGNALS, "memory buf+0: 5a5a5a5a000000000000000000000000", audit(9, 1)]),
+        (["reserve 1 2", fill], [f"{QUEUE} 0", "packet 0 of queue 1: reserved, waits for `publish 1 2 0 PACKET`", "packet 1 of queue 1: published, waits for `serve 1`, behind those before it", *SIGNALS, audit(7)]),
+        ([fill, "peek 1", "take 1"], [f"{QUEUE} 1", "packet 0 of queue 1: in flight, an agent dispatch, waits for `run 1 0`: groups left: 1", "packet 0 of queue 1: handed over, its slot waits for `retire 1`", *SIGNALS, audit(8, 1)]),
+        ([fill, "peek 1", "take 1", "clear 1"], [f"{QUEUE} 1", "packet 0 of queue 1: in flight, an agent dispatch, waits for `run 1 0`: groups left: 1", "packet 0 of queue 1: handed over, its slot waits for `advance 1`", *SIGNALS, audit(8, 1)]),
+        (["stop 1", "rotate"], [f"{QUEUE} 0, launches nothing more: it was stopped", *SIGNALS, audit(0, 0, 8)]),
+        ([fill.replace("buf", "buf+64"), "serve 1", "close 2"], [f"{QUEUE} 1, launches nothing more: queue 1 packet 0 rule L8", *SIGNALS, audit(8)]),
+        (["close 1", "queue alice gpu 2 1"], [f"{QUEUE.replace('queue 1', 'queue 2')} 0", *SIGNALS, audit(9)]),
+        (["write alice buf " + "00" * 15 + "0102", "rotate", "write alice buf+16 00"], [f"{QUEUE} 0", *SIGNALS, "memory buf+0: 00000000000000000000000000000001", audit(1, 0, 8)]),
+        (many, [f"{QUEUE} 0", QUEUE.replace("queue 1", "queue 2").replace("2 slots", "32 slots") + " 0", *(f"packet {it} of queue 2: reserved, waits for `publish 2 1 {it} PACKET`" for it in range(16)), "queue 2: 2 more ids reserved or published", *SIGNALS, audit(8)]),
+    ]
+    trials.every("what there is", trial, rows)
+    told = run([program, "run", "--readable", "--json", SAMPLE], text([*PRELUDE, "state"])).out.splitlines()[-1:]
+    last = {"line": 8, "reply": "state", "lines": [ALICE, "client bob: no rights", f"{QUEUE} 0", *SIGNALS, audit(7)]}
+    trials.every("what there is as JSON", lambda it: None if json.loads(it) == last else f"{it}", told)
+    large = b'[[client]]\nname = "a"\n[[region]]\nname = "r"\nlength = 1024\n[[allow]]\nclient = "*"\nkind = "region"\nobject = "*"\nrights = ["WRITE"]\n'
+    with tempfile.NamedTemporaryFile(suffix=".toml") as file:
+        file.write(large)
+        file.flush()
+        ended = run([program, "run", "--readable", file.name], text(["grant a region r WRITE", f"write a r {'01' * 300}", "state"])).out.decode().splitlines()[2:]
+    rows = [f"memory r+{16 * it}: {'01' * 16}" for it in range(16)]
+    wanted = ["state 19", "client a: region r WRITE", *rows, "memory r: 3 more of 16 bytes", audit(2)]
+    trials.every("of each region sixteen rows", lambda it: None if it == wanted else f"{it}", [ended])
+    alone = lambda it: None if run([program, *it[0]], text([it[1]])) == Ended(1, b"", it[2].encode()) else f"{run([program, *it[0]], text([it[1]]))}"
+    trials.every("it is a word by itself, and a line of readable scripts alone", alone, [
+        (["run", "--readable", SAMPLE], "state 1", "line 1: bad request\nline 1: 1: wanted is the end of the line\n"),
+        (["assemble", SAMPLE], "state", "line 1: state: wanted is a line that comes to lines of a script: `run --readable` takes this one\n"),
+    ])
+    trials.every("a plain run takes it not", lambda it: None if (ended := run([program, "run", SAMPLE], text(it))).status == 1 and ended.err.startswith(b"line 1: bad request\n") else f"{ended}", [["state"], ["why"], ["quit"]])
 
 
 def cases(trials, program):
@@ -252,6 +347,7 @@ def main(program):
     as_in_a_row(trials, program)
     numbered(trials, program)
     drains(trials, program)
+    states(trials, program)
     told_as_json(trials, program)
     cases(trials, program)
     trials.end()

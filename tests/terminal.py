@@ -17,6 +17,8 @@ from trial import DEADLINE, FILL, SAMPLE, TOP, Ended, Trials, run, text
 KERNEL_TEXT = f"{TOP}/cases/inc.hsail"
 DENIED = text(["grant alice agent gpu USE", "queue alice gpu 2 1", f"submit 1 1 {FILL}", "serve 1"])
 REPLIES = b"ok\nqueue 1\npublished 0\ndenied queue 1 packet 0 rule L8\n"
+# what there is before the first line
+NOTHING = "state 5\nclient alice: no rights\nclient bob: no rights\nsignal done: 1\nsignal go: 1\naudit: 0 of 65536 places taken, 0 kept for packets in flight, 0 entries handed out\n"
 
 
 def drained(end, into):
@@ -127,7 +129,7 @@ def sessions(trials, program):
         given, words, status, out, told, untold = it
         ended = at_terminal([program, "run", SAMPLE, *words], text(given), typed=True)
         prompts = ended.err.count(b"> ")
-        wanted = len(given) + 1
+        wanted = len(given) + (given[-1].strip() != "quit" if given else 1)
         return has(ended, status, out, told, untold) or (None if "--strict" in words or prompts == wanted else f"{prompts} prompts, and not {wanted}: {ended}")
 
     rows = [
@@ -141,7 +143,16 @@ def sessions(trials, program):
         (["help"], [], 0, b"", [cells[0].strip("`") .split(" ")[0] for verb, (cells, *_) in forms.items() if verb in ("grant", "serve", "reload", "audit")], ["bad request"]),
         (["help mend", "helper"], [], 1, b"", ["nothing is called `mend`", "line 2: bad request"], ["line 1: bad request"]),
         (["help scripts", "help readable"], [], 0, b"", ["`brokerd help scripts` prints the page of this name", "`brokerd help readable`"], ["nothing is called"]),
-        (["nonsense", "quit", "list bob"], ["--journal", "/dev/null"], 1, b"list 0\n", ["line 1: bad request", "line 2: no line ends a run"], []),
+        (["nonsense", "quit"], ["--journal", "/dev/null"], 1, b"", ["line 1: bad request"], ["line 2"]),
+        (["list bob", "quit"], [], 0, b"list 0\n", [], ["bad request"]),
+        (["state", "why", " quit "], [], 0, b"", [NOTHING, "nothing was refused, denied or failed yet"], ["bad request"]),
+        (["state"], ["--readable"], 0, NOTHING.encode(), [], ["bad request", "client alice"]),
+        (["state alice", "why not", "quits"], [], 1, b"", ["line 1: bad request", "line 2: bad request", "line 3: bad request"], []),
+        ([*DENIED.decode().splitlines(), "load bob go", "serve 1", "why"], [], 0, REPLIES + b"refused 3 Denied WAIT\nempty\n", ["refused 3 Denied WAIT\nline 5: bob has no WAIT"], ["bad request"]),
+        ([*DENIED.decode().splitlines(), "list bob", "why"], [], 0, REPLIES + b"list 0\n", ["denied queue 1 packet 0 rule L8\nline 4: packet 0 of queue 1 breaks L8"], ["bad request"]),
+        (["load alice done", "why"], ["--explain=never"], 0, b"refused 3 Denied WAIT\n", ["nothing is explained with `--explain=never`"], ["alice has no WAIT"]),
+        (["\x1b[A", "serve 1\x1b[D"], [], 1, b"", ["line 1: bad request", "the line has a key that moves the cursor", "rlwrap", "line 2: bad request"], []),
+        (["nonsense"], [], 1, b"", ["line 1: bad request"], ["a key that moves"]),
         (["load alice done", "x", "list bob"], ["--strict"], 1, b"refused 3 Denied WAIT\n", ["alice has no WAIT"], ["bad request"]),
         (["x", "list bob"], ["--strict"], 1, b"", ["line 1: bad request"], []),
         (["fill 1", "list bob # nobody", "drain"], ["--readable"], 1, b"list 0\ndrained launched 0 denied 0 ran 0 faulted 0 ready 0 failed 0 finished 0 waiting 0\n",

@@ -168,7 +168,7 @@ class PolicyJudge:
         self.found["with deny rows"] += b"denies" in ended.out and b"denies 0" not in ended.out
 
     def judge(self, policy):
-        ended = run([self.program, "check", "/dev/stdin"], policy)
+        ended = run([self.program, "check", "--explain=never", "/dev/stdin"], policy)
         self.count(policy, ended)
         got, err = (ended.status, ended.out, ended.err), ended.err.decode(errors="replace")
         if policy_model.tomllib:

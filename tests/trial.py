@@ -24,7 +24,7 @@ PRELUDE = [
 ]
 
 # the lines whose reply counts the lines that follow it, and the word that it begins with
-COUNTED = {"list": "list", "errors": "errors", "audit": "audit", "rotate": "rotated"}
+COUNTED = {"list": "list", "errors": "errors", "audit": "audit", "rotate": "rotated", "state": "state"}
 
 
 class Ended:
@@ -124,16 +124,19 @@ class Trials:
 
 
 def blocks(script, out):
-    """The replies to a script's lines, one a line: what follows `list N`, `errors N`, `audit N`, `rotated N` and `drained .. N` belongs to it."""
+    """The replies to a script's lines, one a line: what follows `list N`, `errors N`, `audit N`, `rotated N` and `drained .. N` belongs to it, and the lines `packet ..` before the last."""
     lines = out.decode(errors="replace").split("\n")
     if lines.pop() != "":
         return None
     found, at = [], 0
     while at < len(lines):
+        front = at
+        while lines[at].startswith("packet ") and at + 1 < len(lines):
+            at += 1
         words = lines[at].split(" ")
         asked = script[len(found)].split(" ")[0] if len(found) < len(script) else ""
         count = int(words[1]) if COUNTED.get(asked) == words[0] else int(words[-1]) if words[0] == "drained" else 0
-        found.append("\n".join(lines[at : at + 1 + count]))
+        found.append("\n".join(lines[front : at + 1 + count]))
         at += 1 + count
     return found
 

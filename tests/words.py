@@ -11,7 +11,7 @@ from trial import FILL, PRELUDE, SAMPLE, TOP, Ended, Trials, run, text
 KERNEL_TEXT = f"{TOP}/cases/inc.hsail"
 # how many entries an audit has place for at the most, and where none is named
 MOST, DEFAULT = 1_048_576, 65_536
-COMMANDS = ("check", "run", "picture", "kernel", "assemble", "replay", "explain", "decode", "threads", "completions")
+COMMANDS = ("check", "run", "picture", "kernel", "policy", "embed", "assemble", "replay", "explain", "decode", "threads", "completions")
 
 
 def is_told(words):
@@ -47,10 +47,21 @@ WRONG = [
     (["run", SAMPLE, "--readable=yes"], ["--readable"]),
     (["run", SAMPLE, "--readable", "--readable"], ["--readable"]),
     (["run", SAMPLE, "--json=yes"], ["--json"]),
-    (["picture", SAMPLE, "--readable"], ["--readable"]),
+    (["picture", SAMPLE, "--json"], ["--json"]),
     (["assemble", SAMPLE, "--readable"], ["--readable"]),
     (["kernel"], ["FILE"]),
     (["kernel", KERNEL_TEXT, "--steps=yes"], ["--steps"]),
+    (["policy"], ["KERNEL"]),
+    (["embed"], ["POLICY"]),
+    (["embed", SAMPLE, SAMPLE], [SAMPLE]),
+    (["run", SAMPLE, "-f"], ["--script"]),
+    (["run", SAMPLE, "-f", SAMPLE, "--script", SAMPLE], ["--script"]),
+    (["picture", SAMPLE, "-o"], ["--output"]),
+    (["picture", SAMPLE, "-f", SAMPLE, "--journal", SAMPLE], ["--script", "--journal"]),
+    (["picture", SAMPLE, "--audit", "4", "--journal", SAMPLE], ["--audit", "--journal"]),
+    (["decode", "--slots", SAMPLE, FILL], ["--slots", "DIGITS"]),
+    (["chek", SAMPLE], ["'check'"]),
+    (["run", SAMPLE, "--strct"], ["'--strict'"]),
     (["assemble"], ["POLICY"]),
     (["explain"], ["WORD"]),
     (["decode"], ["128"]),
@@ -115,13 +126,13 @@ def policies(trials, program, room):
     with open(wrong, "wb") as it:
         it.write(b'[[client]]\nname = "alice"\n[[client]]\nname = "alice"\n')
     refused = lambda words: wants(answer(program, [*words, wrong], b"audit\n"), 1, b"", b"policy: 5 DoubleName client 2\n")
-    trials.every("a policy that is refused ends with 1, before anything is read or written", refused, [["check"], ["run"], ["run", "--strict"], ["assemble"]])
+    trials.every("a policy that is refused ends with 1, before anything is read or written", refused, [["check"], ["run"], ["run", "--strict"], ["embed"], ["assemble"]])
     unread = lambda words: wants(answer(program, words), 3, b"", b"read fault\n")
-    readers = (["check"], ["check", "--list"], ["check", "--json"], ["run"], ["run", "--strict"], ["run", "--readable"], ["run", "--json"], ["picture"], ["replay"], ["assemble"], ["kernel"], ["decode", "--slots"])
+    readers = (["check"], ["check", "--list"], ["check", "--json"], ["run"], ["run", "--strict"], ["run", "--readable"], ["run", "--json"], ["picture"], ["replay"], ["assemble"], ["kernel"], ["policy"], ["embed"], ["decode", "--slots"])
     trials.every("a file that isn't there, or a directory, ends with 3", unread, [[*words, file] for words in readers for file in (f"{room}/nothing", room)])
     trials.every("and so does a further policy's", unread, [[*words, SAMPLE, f"{room}/nothing"] for words in (["run"], ["run", "--strict"], ["picture"], ["replay"])])
     line = lambda it: wants(answer(program, [*it[0], wrong]), 1, b"", b"policy: 5 DoubleName client 2\n") if not it[1] else None if b"line 4" in answer(program, [*it[0], wrong]).err else "the line isn't told"
-    trials.every("it is told why a policy is refused where --explain asks for it", line, [([*words, *option], told) for words in (["check"], ["run"], ["assemble"], ["picture"]) for option, told in (([], False), (["--explain=never"], False), (["--explain=always"], True), (["--explain"], True))])
+    trials.every("it is told why a policy is refused where --explain asks for it", line, [([*words, *option], told) for words in (["check"], ["run"], ["embed"], ["assemble"], ["picture"]) for option, told in (([], False), (["--explain=never"], False), (["--explain=always"], True), (["--explain"], True))])
     counts = b"clients 2\nagents 1\nregions 2\nsignals 2\nkernels 2\nallows 6\nok\n"
     trials.every("check counts the sample's rows", lambda it: wants(answer(program, ["check", it]), 0, counts), [SAMPLE])
 
@@ -186,6 +197,11 @@ def texts(trials, program):
         return None if ended.status == 0 and not ended.err and not missing else f"{missing} missing: {ended}"
 
     trials.every("the help names commands, forms of lines, statuses and rules", helps, [["--help"], *([it, "--help"] for it in COMMANDS)])
+    helped = lambda words: answer(program, words).out.decode().splitlines()
+    trials.every("no line of the help has more than 100 columns", lambda it: next((line for line in helped(it) if len(line) > 100), None), [["--help"], *([it, "--help"] for it in COMMANDS)])
+    statuses = "2 the command line isn't understood; 3 reading, writing or memory failed."
+    ends = lambda it: None if (lines := helped([it, "--help"]))[-2].startswith("Exit status: 0 ") and lines[-1] == statuses and f"\nExample: brokerd {it} " in "\n".join(lines) else f"{lines[-4:]}"
+    trials.every("the help of a command ends with an example and the exit statuses", ends, COMMANDS)
     version = lambda words: None if re.fullmatch(rb"brokerd \d+\.\d+\.\d+ \(rattle-kit-\S+ .+\)\n", answer(program, words).out) else "no version"
     trials.every("the version names the kit", version, [["--version"]])
     explained = lambda word: None if (it := answer(program, ["explain", word])).status == 0 and it.out and not it.err else f"it ended otherwise: {it}"
@@ -193,6 +209,8 @@ def texts(trials, program):
     trials.every("explain tells each rule, refusal and cause", explained, [*rules, "AuditFull", "Busy", "NotToml", "WrongRegister", "Lexeme", "NotInProfile"])
     unknown = lambda word: is_told([])(answer(program, ["explain", word]))
     trials.every("explain of a word that it doesn't know ends with 2", unknown, ["L0", "L11", "A8", "B2", "", "Nothing"])
+    alone = lambda word: None if answer(program, ["explain", word]).err.startswith(b"explain takes ") else f"{answer(program, ['explain', word])}"
+    trials.every("and no other word is told where none is near", alone, ["", "Nothing", "xylophone", "L", "L0"])
     kernel = lambda path: None if (it := answer(program, ["kernel", path])).status == 0 and it.out.startswith(b"kernel &inc ") and it.out.endswith(b"\nok\n") and not it.err else f"{it}"
     trials.every("kernel lists a kernel's text", kernel, [KERNEL_TEXT])
     passed_on = b"# a comment\n\nlist alice\nsubmit 1 1 " + FILL.encode() + b"\n"
@@ -229,8 +247,21 @@ def walked(trials, program, room):
         (["picture", SAMPLE, "--from", "1", "--explain"], b"", 0, [""]),
         (["decode", "z" + FILL[1:]], b"", 2, ["128 characters are given: number 1, `z`, is no digit\n"]),
         (["decode", FILL[:-1]], b"", 2, ["127 characters are given\n"]),
-        (["explain", "rule"], b"", 2, ["`rules`, `refusals`, `policy` and `kernel`"]),
+        (["explain", "rule"], b"", 2, ["no word of explain is `rule`: the nearest is `rules`\n", "`rules`, `refusals`, `policy` and `kernel`"]),
+        (["explain", "AuditFul"], b"", 2, ["the nearest is `AuditFull`\n"]),
+        (["explain", "NotTomll"], b"", 2, ["the nearest is `NotToml`\n"]),
+        (["explain", "LAUNCHES"], b"", 2, ["the nearest is `LAUNCH`\n"]),
+        (["explain", "barriers"], b"", 2, ["the nearest is `Barrier`\n"]),
     ])
+
+    with open(f"{room}/entry.toml", "wb") as it:
+        it.write(sample.replace(b'"&spin"', b'"&spun"'))
+    counts = answer(program, ["check", SAMPLE]).out
+    path = f"{room}/entry.toml"
+    line = sample.decode().splitlines().index('entry = "&spin"') + 1
+    missing = f"{path}, line {line}, column 9: kernel spin: its text has no kernel `&spun`\n".encode()
+    entry = lambda it: None if (ended := answer(program, ["check", path, *it[0]])).status == 0 and ended.err == it[1] and (it[0][:1] == ["--list"] or ended.out == counts) else f"it ended otherwise: {ended}"
+    trials.every("check tells on standard error of a kernel that run would find no entry of", entry, [([], missing), (["--explain"], missing), (["--list"], missing), (["--explain=never"], b"")])
 
     def streamed(it):
         how, given, wanted = it
@@ -260,6 +291,52 @@ def walked(trials, program, room):
     trials.every("help of a readable line says what it is", whole, [("copy", b"  an agent dispatch of COPY: "), ("add", b"  an agent dispatch of ADD64: "), ("fill", b"  an agent dispatch of FILL: ")])
 
 
+def files(trials, program, room):
+    """Scripts, pictures and journals in files that are named, and by standard input and output."""
+    script = text([*PRELUDE, f"submit 1 1 {FILL}", "serve 1", "run 1 0", "finish 1 0", "audit"])
+    with open(f"{room}/whole.script", "wb") as it:
+        it.write(script)
+    readable = text([*PRELUDE, "fill 1 1 buf length 4 with 0x5a signal done"])
+    with open(f"{room}/readable.script", "wb") as it:
+        it.write(readable)
+    path, drawn, journal = f"{room}/whole.script", f"{room}/run.svg", f"{room}/run.journal"
+    same = lambda it: None if (ended := answer(program, it[0], it[1])) == answer(program, it[2], it[3]) and ended.status == 0 and ended.out else f"it ended otherwise: {ended}"
+    scripts = [(["run", SAMPLE, *words], b"audit\n", ["run", SAMPLE], script) for words in (["-f", path], ["--script", path], [f"--script={path}"], [f"-f{path}"])]
+    scripts += [(["run", SAMPLE, "-f", "-"], script, ["run", SAMPLE], script), (["run", "-f", path, "-"], open(SAMPLE, "rb").read(), ["run", SAMPLE], script)]
+    scripts += [(["run", "-f", path, "--", SAMPLE], b"", ["run", SAMPLE], script), (["picture", SAMPLE, "-f", path], b"", ["picture", SAMPLE], script)]
+    scripts += [(["assemble", SAMPLE, "-f", f"{room}/readable.script"], b"", ["assemble", SAMPLE], readable)]
+    trials.every("a script in a file is run, drawn and assembled as that on standard input", same, scripts)
+    answer(program, ["run", SAMPLE, "--journal", journal], script)
+    with open(journal, "rb") as it:
+        history = it.read()
+    shown = [([*words, "--journal", journal], b"", [*words, "--journal", "-"], history) for words in (["replay", SAMPLE], ["replay", SAMPLE, "--state"], ["picture", SAMPLE], ["explain", SAMPLE])]
+    trials.every("a journal is handed over by its file's name, and by - on standard input", same, [*shown, (["replay", SAMPLE, "--journal", journal], b"", ["replay", SAMPLE], history)])
+
+    def into_file(it):
+        words, given = it
+        out = tempfile.mktemp(dir=room)
+        ended = answer(program, [*words, "-o", out], given)
+        wanted = answer(program, words, given)
+        well = ended == Ended(0, b"", b"") and wanted.status == 0 and open(out, "rb").read() == wanted.out
+        return None if well else f"it ended otherwise: {ended}"
+
+    pictures = [(["picture", SAMPLE], script), (["picture", SAMPLE, "-f", path, "--from", "3"], b""), (["picture", SAMPLE, "--journal", journal], b""), (["picture", SAMPLE, "--journal", "-"], history)]
+    trials.every("a picture is written into the file that is named", into_file, pictures)
+    out = lambda it: None if answer(program, ["picture", SAMPLE, "-o", it], script) == answer(program, ["picture", SAMPLE], script) else "it is another"
+    trials.every("-o - is standard output", out, ["-"])
+    nothing, nowhere = f"{room}/nothing", f"{room}/nowhere/run.svg"
+    fails = lambda it: None if answer(program, it[0], script) == Ended(3, b"", it[1].encode()) and answer(program, [*it[0], "--explain"], script) == Ended(3, b"", (it[1] + it[2]).encode()) else f"{answer(program, [*it[0], '--explain'], script)}"
+    trials.every("a file that can't be read or written ends with 3, and is named where --explain asks for it", fails, [
+        *((([*words, "-f", nothing], "read fault\n", f"{nothing}: there is no such file\n") for words in (["run", SAMPLE], ["picture", SAMPLE], ["assemble", SAMPLE]))),
+        (["run", SAMPLE, "-f", room], "read fault\n", f"{room}: the script can't be read: a file or a pipe is asked for, and no directory\n"),
+        (["replay", SAMPLE, "--journal", nothing], "read fault\n", f"{nothing}: there is no such file\n"),
+        (["picture", SAMPLE, "-o", nowhere], "write fault\n", f"{nowhere}: what is replied can't be written there\n"),
+        (["picture", SAMPLE, "--journal", journal, "-o", nowhere], "write fault\n", f"{nowhere}: there is no such folder\n"),
+    ])
+    before = lambda it: None if answer(program, ["run", it, "-f", nothing]) == Ended(1, b"", b"policy: 5 DoubleName client 2\n") else f"{answer(program, ['run', it, '-f', nothing])}"
+    trials.every("a fault of the policy is told before a script that can't be read", before, [f"{room}/double.toml"])
+
+
 def main(program):
     trials = Trials("words")
     with tempfile.TemporaryDirectory(prefix="words-") as room:
@@ -270,6 +347,7 @@ def main(program):
         loads(trials, program, room)
         texts(trials, program)
         walked(trials, program, room)
+        files(trials, program, room)
     trials.end()
 
 

@@ -54,7 +54,8 @@ def told(program, *words):
 
 def rows(block):
     """The rows of a block of the help: a word with what it takes, and what is said of it."""
-    return [re.match(r"\s+(\S.*?)(?:\s{2,}(.*))?$", line).groups("") for line in block.splitlines()]
+    lines = re.sub(r"\n\s{8,}(?!-)", " ", block).splitlines()
+    return [re.match(r"\s+(\S.*?)(?:\s{2,}(.*))?$", line).groups("") for line in lines]
 
 
 def tagged(block):
@@ -65,7 +66,7 @@ def blocks(text):
     """The blocks of a help by their titles; what stands before the first one, by none."""
     found, title = {"": []}, ""
     for line in text.splitlines():
-        begins = re.fullmatch(r"(Commands|Arguments|Options|Lines of a script .*|Lines that assemble .*|Pages that help .*|Names that explain tells):(.*)|(Usage|Exit status): (.*)", line)
+        begins = re.fullmatch(r"(Commands|Arguments|Options|Lines of a script .*|Lines that assemble .*|Pages that help .*|Names that explain tells):(.*)|(Usage|Example|Exit status): (.*)", line)
         if begins or line.startswith("Pages that help"):
             title = (begins[1] or begins[3]) if begins else "Pages"
             found[title] = [begins[4] if begins and begins[4] else "" if begins else line]
@@ -74,7 +75,7 @@ def blocks(text):
     return {title: "\n".join(lines).strip("\n") for title, lines in found.items()}
 
 
-def of_command(program, version, name, status):
+def of_command(program, version, name):
     told_of = blocks(told(program, name, "--help"))
     about = told_of[""].strip()
     parts = [
@@ -83,7 +84,8 @@ def of_command(program, version, name, status):
         ("DESCRIPTION", escaped(about) + "."),
         ("ARGUMENTS", tagged(told_of.get("Arguments", ""))),
         ("OPTIONS", tagged(told_of["Options"])),
-        ("EXIT STATUS", escaped(status)),
+        ("EXAMPLE", plain(told_of["Example"])),
+        ("EXIT STATUS", escaped(told_of["Exit status"].replace("\n", " "))),
         ("SEE ALSO", ".BR brokerd (1)"),
     ]
     return page(f"brokerd-{name}", 1, version, "User Commands", parts)
@@ -105,7 +107,7 @@ def of_program(program):
         ("EXIT STATUS", escaped(status)),
         ("SEE ALSO", ",\n".join([f".BR brokerd\\-{name} (1)" for name, _ in commands] + [".BR hobbydresser (3)"]).replace(",\n", " ,\n")),
     ]
-    found = {f"man1/brokerd-{name}.1": of_command(program, version, name, status) for name, _ in commands}
+    found = {f"man1/brokerd-{name}.1": of_command(program, version, name) for name, _ in commands}
     return {"man1/brokerd.1": page("brokerd", 1, version, "User Commands", parts), **found}
 
 

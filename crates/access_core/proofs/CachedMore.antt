@@ -16,7 +16,9 @@ use Rattle.core_model.proofs.Flying.{all-after}
 use Rattle.core_model.proofs.States.{IsLegal-more}
 use Rattle.core_model.specs.Holds.{arguments, held}
 use Rattle.access_core.proofs.QueueAt.{IsQuiet, flight-quiet, queue_at-quiet}
+use Rattle.access_core.specs.inner.Ready.{AreReady}
 use Rattle.grants.specs.Ledger as ledger
+use Rattle.access_core.specs.inner.Cached.{IsKeptStart}
 
 -- How the grants follow an entry, and with them the argument blocks.
 pub record GrantsAfter (a : Inside) (new : Ledger) (blocks : List ArgumentBlock) (event : Event) (outcome : Outcome) (effects : List Effect) : Type 0 where
@@ -54,6 +56,7 @@ pub record FieldsAfter (a b : Inside) (event : Event) (outcome : Outcome) (effec
   pub values : b.signals ≡ fold signals_after a.signals effects
   pub queues : QueuesAfter a b.queues.items b.opened b.in_flight_count event outcome effects
   pub laid : AreLaid b.queues.items (a.start.before + length a.audit.items + 1) blocks
+  pub ready : AreReady b.fresh b.told a.start blocks
 
 -- what is due to an event after a history is due by the fields that show it
 due-inside : (a : Inside) (old : History) (event : Event) (owing : Owed) → history_of a ≡ old → due old event ≡ owing → due (history_of a) event ≡ owing
@@ -121,7 +124,9 @@ module _ (a b : Inside) (event : Event) (outcome : Outcome) (effects : List Effe
         room = omega (arith, longer, room, after.queues.in_flight_count, after.same.1);
         places = omega (arith, longer, after.audit.room, after.same.1, was.places);
         few = omega (arith, after.same.1, was.few);
+        start_kept = subst IsKeptStart (sym after.same.0.0) was.start_kept;
         before = rw after.same.0.0 was.before;
+        ready = subst (λ (o : Origin). AreReady b.fresh b.told o after.blocks) (sym after.same.0.0) after.ready;
         legal = rw (after.same.0.0, after.same.0.1, after.audit.items)
             (IsLegal-more (start_of a) a.audit.items (entry_of event outcome effects) was.legal (owed-inside a was old seen_as event outcome effects is_due));
       }

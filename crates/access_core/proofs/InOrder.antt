@@ -1,5 +1,5 @@
 -- Blocks in the order of launches: the next is the one with the lowest number of those that aren't told yet.
-use Rattle.std.proofs.Common.{◌≡◌, ℕ, ◌+◌, ◌<◌, ◌≤◌, ◌⊎◌, inl, inr, Bool, true, false, List, [], ◌∷◌, ◌++◌, length, filter, fold, refl, sym, ◌∙◌, ap, subst, Option, Some, None, arith, All, nat_le, nat_lt, if◌then◌else◌}
+use Rattle.std.proofs.Common.{◌≡◌, ℕ, ◌+◌, ◌<◌, ◌≤◌, ◌⊎◌, inl, inr, Bool, true, false, List, [], ◌∷◌, ◌++◌, length, length-append, filter, fold, refl, sym, ◌∙◌, ap, subst, Option, Some, None, arith, All, nat_le, nat_lt, if◌then◌else◌}
 use Rattle.std.specs.List.{Contains, filter_map}
 use Rattle.std.specs.Prelude.{option_to_list}
 use Rattle.std.specs.List.{cons_option}
@@ -8,6 +8,7 @@ use Rattle.std.proofs.lemmas.List.Elements.{All-contains, Contains-append_left, 
 use Rattle.core_model.specs.declared.origin.PacketOrigin.{PacketOrigin}
 use Rattle.access_core.specs.inner.ArgumentBlocks.{Ascend, by_number}
 use Rattle.access_core.specs.inner.Origins.{AreInOrder, packet_origin, sooner}
+use Rattle.access_core.specs.inner.Ready.{later}
 use Rattle.access_core.proofs.Ascending.{filter-every, filter-none}
 use Rattle.access_core.proofs.Lying.{all-alike, contains-cases}
 use Rattle.access_core.proofs.Terms.{All-head, All-nil, All-push, All-tail, All-weaker, ArgumentBlock, Queue, all_blocks, append-nil, ltb-false, ltb-true}
@@ -76,9 +77,6 @@ module _ (from : ℕ) where
 
 -- ---- those that aren't told yet
 
-abbrev pub later : ℕ → List ArgumentBlock → List ArgumentBlock
-later from bs = filter (λ (b : ArgumentBlock). nat_le from b.number) bs
-
 le-false : (m n : ℕ) → n < m → nat_le m n ≡ false
 le-false m n less = grind arith
 
@@ -145,13 +143,18 @@ found-there queues from one found =
 pub record AreTold (queues : List Queue) (blocks : List ArgumentBlock) (origins : List PacketOrigin) (from turns : ℕ) : Type 0 where
   pub so_far : origins ++ filter_map (packet_origin queues) (later from blocks) ≡ filter_map (packet_origin queues) blocks
   pub left : turns + length (later from blocks) ≡ length blocks
+  pub few : length origins ≤ turns
 
 pub told-none : (queues : List Queue) (blocks : List ArgumentBlock) → AreTold queues blocks [] 0 0
-told-none queues blocks = record { so_far = ap (filter_map (packet_origin queues)) (later-all blocks); left = let all = ap length (later-all blocks) in omega (arith, all) }
+told-none queues blocks = record { so_far = ap (filter_map (packet_origin queues)) (later-all blocks); left = let all = ap length (later-all blocks) in omega (arith, all); few = omega arith }
 
 one_told : (o : Option PacketOrigin) (more : List PacketOrigin) → option_to_list o ++ more ≡ cons_option o more
 one_told None more = refl
 one_told (Some p) more = refl
+
+one-more : (o : Option PacketOrigin) → length (option_to_list o) ≤ 1
+one-more None = omega arith
+one-more (Some p) = omega arith
 
 pub told-next : (queues : List Queue) (count : ℕ) (blocks : List ArgumentBlock) → AreInOrder queues count blocks → (origins new : List PacketOrigin) (from turns : ℕ) (one : ArgumentBlock)
     → fold (sooner from) None (all_blocks queues) ≡ Some one → new ≡ origins ++ option_to_list (packet_origin queues one) → AreTold queues blocks origins from turns
@@ -166,6 +169,11 @@ told-next queues count blocks are origins new from turns one found is was =
           ∙ ap (λ more. origins ++ more) (one_told (packet_origin queues one) (filter_map (packet_origin queues) (later (one.number + 1) blocks)) ∙ ap (filter_map (packet_origin queues)) (sym next))
           ∙ was.so_far;
       left = omega (arith, shorter, before);
+      few =
+          let longer = ap length is ∙ length-append origins (option_to_list (packet_origin queues one)) in
+          let most = one-more (packet_origin queues one) in
+          let fewer = was.few in
+          omega (arith, longer, most, fewer);
     }
 
 -- as many turns as there are blocks tell all
@@ -189,3 +197,9 @@ none-found queues count blocks are origins from turns less none was =
     let before = was.left in
     let all = are.are_all in
     omega (arith, empty, before, all, less)
+
+-- it isn't before the number
+pub found-late : (queues : List Queue) (from : ℕ) (one : ArgumentBlock) → fold (sooner from) None (all_blocks queues) ≡ Some one → from ≤ one.number
+found-late queues from one found =
+    let is : IsSoonest from (all_blocks queues) (Some one) = subst (IsSoonest from (all_blocks queues)) found (soonest-is from (all_blocks queues)) in
+    is.1

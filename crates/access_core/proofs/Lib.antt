@@ -15,6 +15,7 @@ pub mod ChangedQueue
 pub mod Places
 pub mod Ascending
 pub mod Laid
+pub mod ReadyLemmas
 pub mod Lying
 pub mod InOrder
 pub mod FirstOf
@@ -36,7 +37,6 @@ pub mod HostMemory
 pub mod HeldRights
 pub mod HeldAfter
 pub mod Standing
-pub mod BlockRights
 pub mod Granting
 pub mod Listing
 pub mod ReloadLemmas
@@ -44,4 +44,9 @@ pub mod Least
 pub mod Opened
 pub mod Rotated
 mod Rotating
+mod MovingLemmas
+mod FewInFlight
+mod Retelling
+mod TellingAgain
+mod Truncated
 pub mod PolicyRows

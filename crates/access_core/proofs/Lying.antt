@@ -5,12 +5,11 @@ use Rattle.std.proofs.lemmas.List.Elements.{All-contains, All-contains_itself, C
 use Rattle.std.proofs.lemmas.List.Folds.{list_any_at}
 use Rattle.access_core.specs.inner.ArgumentBlocks.{blocks_in, is_of}
 use Rattle.access_core.specs.inner.CachedQueue.{AreLaid}
-use Rattle.access_core.specs.inner.Origins.{AreInOrder, IsHolding}
-use Rattle.grants.specs.Ledger as ledger
+use Rattle.access_core.specs.inner.Origins.{AreInOrder}
 use Rattle.grants.proofs.HoldLemmas.{first_same}
 use Rattle.access_core.proofs.Laid.{blocks-count}
 use Rattle.access_core.proofs.Numbered.{none-above}
-use Rattle.access_core.proofs.Terms.{All-filter, All-weaker, ArgumentBlock, AscendFrom, Inside, IsCached, IsFirstTo, Ledger, PacketId, Queue, QueueId, all_blocks, has_block, has_number, is_block, list_any, lists_right, queue_in}
+use Rattle.access_core.proofs.Terms.{All-filter, All-weaker, ArgumentBlock, AscendFrom, Inside, IsCached, IsFirstTo, PacketId, Queue, QueueId, all_blocks, has_block, has_number, is_block, list_any, queue_in}
 
 -- ---- what lies in lists
 
@@ -157,11 +156,3 @@ module _ (a : Inside) (kept : IsCached a) where
   pub first-laid : (test : ArgumentBlock → Bool) (queues : List Queue) (o : Option (QueueId × PacketId)) → queues ≡ a.queues.items → IsFirstTo (has_block test (all_blocks queues)) o → IsFirstTo (has_block test kept.blocks) o
   first-laid test queues o same first =
       first_same _ _ o (λ queue id. sym (same-named test queue id)) (subst (λ qs. IsFirstTo (has_block test (all_blocks qs)) o) same first)
-
-  -- and packets that hold what the ones list hold what the others do
-  pub holding-laid : (grants held : Ledger) → IsHolding grants (all_blocks a.queues.items) held → IsHolding grants kept.blocks held
-  holding-laid grants held holding = record {
-    same_rights = holding.same_rights;
-    same_rules = holding.same_rules;
-    given = λ queue id client on right. holding.given queue id client on right ∙ ap (λ b. ledger.holds grants queue id client on right || b) (any-laid (lists_right queue id client on right));
-  }

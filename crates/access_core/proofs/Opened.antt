@@ -17,6 +17,9 @@ use Rattle.core_model.specs.declared.origin.Origin.{Origin}
 use Rattle.core_model.specs.Legal.{IsOpening}
 use Rattle.core_model.proofs.States.{begin-opening, whole-legal}
 use Rattle.grants.specs.Ledger as ledger
+use Rattle.access_core.specs.inner.Ready.{AreReady}
+use Rattle.access_core.proofs.ReadyLemmas.{ready-opened}
+use Rattle.regions.specs.Memory.{lengths_of}
 use Rattle.kernel_check.specs.Programs.{Program}
 
 -- an opening history is legal
@@ -25,10 +28,10 @@ legal-opened policy kernels = whole-legal (opening_state policy kernels) [] (rec
 
 -- what is kept where nothing has happened is what the empty audit says
 pub IsCached-opened : (a : Inside) (policy : Declared) → IsOpeningOrigin policy a.start → IsNew a.grants → rules_in a.grants ≡ rules_of policy → a.memory ≡ zeros (region_lengths policy)
-    → a.signals ≡ initial_values policy → a.queues.items ≡ [] → a.opened ≡ 0 → a.in_flight_count ≡ 0 → a.audit.items ≡ [] → a.audit.room ≡ a.capacity → a.capacity ≤ MOST_ENTRIES
+    → a.signals ≡ initial_values policy → a.queues.items ≡ [] → a.opened ≡ 0 → a.told ≡ 0 → a.in_flight_count ≡ 0 → a.audit.items ≡ [] → a.audit.room ≡ a.capacity → a.capacity ≤ MOST_ENTRIES
     → All (λ kernel. has_entry kernel ≡ true) a.kernels.items → a.segments.items ≡ map segments_of (map program_of a.kernels.items) → IsCached a
 unfolding rows_at in_force memory_at effects_of signals openings next_id errors is_stopped flight held arguments
-IsCached-opened a policy opened fresh ruled memory values queues none_opened flying entries places few kernels segments =
+IsCached-opened a policy opened fresh ruled memory values queues none_opened untold flying entries places few kernels segments =
     let opens : start_of a ≡ opening_state policy (map program_of a.kernels.items) = begin-opening policy (map program_of a.kernels.items) a.start opened in
     let lengths : region_lengths a.start.policy ≡ region_lengths policy = ap region_lengths opened.policy_is in
     let empty : (x : Start → List Entry → Type 0) → x (opening_state policy (map program_of a.kernels.items)) [] → x (start_of a) a.audit.items =
@@ -58,7 +61,13 @@ IsCached-opened a policy opened fresh ruled memory values queues none_opened fly
       room = rw entries (omega (arith, flying));
       places = let none : length a.audit.items ≡ 0 = ap length entries in omega (arith, none, places);
       few = few;
+      start_kept = record {
+        unheld = opened.grants.none_held;
+        rules = opened.rules ∙ sym (λ i. rules_of (record (opened.policy_is i) { rows = (opened.rules i).rows }));
+        lengths = ap lengths_of opened.memory ∙ lengths_of-zeros (region_lengths policy) ∙ sym lengths;
+      };
       before = let none = opened.before in omega (arith, none);
+      ready = subst (λ n. AreReady a.fresh n a.start []) (sym untold) (ready-opened a.fresh a.start);
       legal = empty IsLegal (legal-opened policy (map program_of a.kernels.items));
     }
 

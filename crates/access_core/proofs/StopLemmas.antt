@@ -1,6 +1,8 @@
 -- Stops of queues: what is owed by what is kept, and the room that is left.
 use Rattle.std.proofs.Common.{filter, ◌≡◌, ℕ, ◌-◌, ◌≤◌, List, [], ◌∷◌, length, map, refl, sym, ◌∙◌, ap, subst, Bool, true, false, Option, Some, None, arith, ℤ, ◌==◌}
 use Rattle.std.proofs.Common.{◌+◌, find, fold, is_some, not, option_map, if◌then◌else◌}
+use Rattle.access_core.specs.inner.Ready.{AreReady}
+use Rattle.access_core.proofs.ReadyLemmas.{ready-left}
 use Rattle.access_core.proofs.Terms.{AreLaid, ArgumentBlock, Call, Effect, History, InFlight, Inside, IsCached, IsSound, Outcome, PacketId, Place, Queue, QueueId, QueueView, Stop}
 use Rattle.access_core.proofs.Terms.{byte_after, cached_opening, due, enters, entry_of, flight_of, freed_by, history_of, is_barrier, is_block, is_full, is_place_of, lacks_room}
 use Rattle.access_core.proofs.Terms.{queue_at, refuses, release_of, signals_after, queue_in, start_of, with_leaving, with_queue, without_one}
@@ -137,6 +139,11 @@ module _ (a : Inside) (kept : IsCached a) (queue : QueueId) where
       → AreLaid (with_queue a.queues.items queue (with_leaving barrier leaving.Stopped)) (a.start.before + length a.audit.items + 1) (blocks-stopped barrier)
   stopped-laid None at = kept-laid a kept queue at (with_leaving None leaving.Stopped) (λ x. refl) refl
   stopped-laid (Some id) at = left-laid a kept queue at id leaving.Stopped
+
+  -- and what is there before an audit is emptied
+  pub stopped-ready : (barrier : Option PacketId) → AreReady a.fresh a.told a.start (blocks-stopped barrier)
+  stopped-ready None = kept.ready
+  stopped-ready (Some id) = ready-left a.fresh a.told a.start kept.blocks kept.ready (λ b. not (is_block queue id b))
 
   -- a stop is due its entry where a barrier packet leaves flight for it, or the audit has room
   pub may-stop : (q : Queue) (barrier : Option PacketId) (none : Bool) (old : History) → history_of a ≡ old → queue_in a.queues.items queue ≡ Some q → q.stopped ≡ false

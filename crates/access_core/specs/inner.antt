@@ -14,3 +14,5 @@ pub mod Running
 pub mod Laying
 pub mod Untouched
 pub mod Origins
+pub mod MovingOn
+pub mod Ready

@@ -14,6 +14,7 @@ mod group_writes;
 mod host;
 mod leaving;
 mod lookups;
+mod moving;
 mod opening;
 mod polling;
 mod queries;
@@ -25,8 +26,10 @@ mod running_kernels;
 mod serving;
 mod stopping;
 mod taking;
+mod truncating;
 mod viewing;
 
+use crate::fresh::Fresh;
 use crate::kernel::Kernel;
 use crate::queue::Queue;
 use crate::spare_lists::SpareLists;
@@ -98,6 +101,10 @@ pub struct AccessCore {
     grants: Grants,
     /// Memory for the rights of packets that are launched.
     spare: SpareLists,
+    /// Memory for what an emptied audit leaves to begin from.
+    fresh: Fresh,
+    /// Up to which launch the start tells of packets as the core itself told of them, when it last emptied its audit.
+    told: u64,
     memory: Regions,
     signals: Signals,
     /// The open queues, by number.
@@ -119,6 +126,8 @@ impl Drop for AccessCore {
             segments: _,
             grants: _,
             spare: _,
+            fresh: _,
+            told: _,
             memory: _,
             signals: _,
             queues: _,

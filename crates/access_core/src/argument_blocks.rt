@@ -102,6 +102,19 @@ impl ArgumentBlocks {
         ensures rest { self.new ≡ remove self.old index }
         ensures block { slice_get self.old index ≡ Some result }
     {
+        if index == self.blocks.len() - 1 {
+            return self.blocks.pop().unwrap();
+        }
+        self.remove_before(index)
+    }
+
+    // Takes a block out that others lie behind. It stands apart, since most queues have one packet in flight.
+    #[inline(never)]
+    fn remove_before(&mut self, index: usize) -> ArgumentBlock
+        requires { index < length self.old }
+        ensures rest { self.new ≡ remove self.old index }
+        ensures block { slice_get self.old index ≡ Some result }
+    {
         self.blocks.remove(index)
     }
 }

@@ -6,6 +6,7 @@
 
 mod access;
 mod argument_blocks;
+mod fresh;
 mod holders;
 mod kernel;
 mod lists;

@@ -3,3 +3,4 @@ pub mod Sizes
 pub mod Blocks
 pub mod Packets
 pub mod Verbs
+pub mod Writes

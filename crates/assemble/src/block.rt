@@ -75,8 +75,8 @@ fn put_arguments(
     put_arguments(block, later, others)
 }
 
-// The block of arguments at their places.
-fn laid(alloc: Global, places: &[ArgumentPlace], values: &[u64]) -> Result<Vec<u8>, AllocError>
+/// The block of arguments at their places.
+pub fn laid(alloc: Global, places: &[ArgumentPlace], values: &[u64]) -> Result<Vec<u8>, AllocError>
     ensures { IfOk result (λ block. block.items ≡ block_from [] places.now values.now) }
 {
     let mut block = Vec::new(alloc);

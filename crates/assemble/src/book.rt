@@ -14,11 +14,12 @@ use std::alloc::{AllocError, AllocFailed, Global};
 // The most bytes of an argument block.
 const MOST_ARGUMENT_BYTES: u32 = 4096;
 
-/// How a kernel is dispatched: where its arguments lie in their block, in order, and the bytes of its
+/// How a kernel is dispatched: where its arguments lie in their block, in order, their names, and the bytes of its
 /// group variables.
 #[derive(Drop)]
 pub struct KernelShape {
     pub arguments: Sequence<ArgumentPlace>,
+    pub names: Vec<Sequence<u8>>,
     pub group_bytes: u32,
 }
 
@@ -75,6 +76,17 @@ fn placed(alloc: Global, arguments: &[Argument]) -> Result<Sequence<ArgumentPlac
     Ok(Sequence::from_vec(places))
 }
 
+// The names of a kernel's arguments, in order.
+fn names_of(alloc: Global, arguments: &[Argument]) -> Result<Vec<Sequence<u8>>, BookError> {
+    let mut names = Vec::new(alloc);
+    for argument in arguments {
+        let mut name = Vec::new(alloc);
+        name.extend_from_slice(argument.name.as_slice())?;
+        names.push(Sequence::from_vec(name))?;
+    }
+    Ok(names)
+}
+
 // The shape of the kernel of a module at an index.
 fn shape_at(
     alloc: Global,
@@ -90,6 +102,7 @@ fn shape_at(
     }
     Ok(Some(KernelShape {
         arguments: placed(alloc, kernel.arguments.as_slice())?,
+        names: names_of(alloc, kernel.arguments.as_slice())?,
         group_bytes: checked.group_bytes(index),
     }))
 }

@@ -2,6 +2,7 @@
 
 ghost use Rattle.std.specs.Prelude.{◌≡◌};
 
+use hsail_reader::DataType;
 use std::alloc::{AllocError, AllocFailed};
 use std::fmt;
 
@@ -33,6 +34,18 @@ pub enum Want {
     Value16,
     Value32,
     Value64,
+    /// A value of an argument of this type.
+    Typed(DataType),
+    /// The name of an argument that has no value yet, and its value.
+    Argument,
+    /// The name of an argument of the kernel.
+    ArgumentName,
+    /// The name of an argument that has no value yet.
+    ArgumentOnce,
+    /// A client of the policy.
+    Client,
+    /// Where an argument block lies: an address, or a region.
+    Place,
     /// The option `at`, which says where the argument block lies.
     At,
     /// An address.
@@ -71,6 +84,24 @@ pub enum Want {
     ShorterLine,
 }
 
+// What is wanted of an argument of a type.
+fn text_of_typed(kind: DataType) -> &'static str {
+    match kind {
+        DataType::B1 | DataType::B8 => "a value of b8, -128 to 255",
+        DataType::B16 => "a value of b16, -32768 to 65535",
+        DataType::B32 => "a value of b32, -2147483648 to 4294967295",
+        DataType::B64 => "a value of b64, a region as buf or buf+16, or a signal",
+        DataType::U8 => "a value of u8, 0 to 255",
+        DataType::U16 => "a value of u16, 0 to 65535",
+        DataType::U32 => "a value of u32, 0 to 4294967295",
+        DataType::U64 => "a value of u64, a region as buf or buf+16, or a signal",
+        DataType::S8 => "a value of s8, -128 to 127",
+        DataType::S16 => "a value of s16, -32768 to 32767",
+        DataType::S32 => "a value of s32, -2147483648 to 2147483647",
+        DataType::S64 => "a value of s64, -9223372036854775808 to 9223372036854775807",
+    }
+}
+
 impl Want {
     // What is wanted, in words.
     fn text(self) -> &'static str {
@@ -90,6 +121,13 @@ impl Want {
             Want::Value16 => "a value of 16 bits, -32768 to 65535",
             Want::Value32 => "a value of 32 bits, -2147483648 to 4294967295",
             Want::Value64 => "a value of 64 bits, or a region as buf or buf+16",
+            Want::Typed(kind) => text_of_typed(kind),
+            Want::Argument => "NAME=VALUE of an argument that has no value yet",
+            Want::ArgumentName => "the name of an argument, as `brokerd kernel FILE` lists them",
+            Want::ArgumentOnce => "an argument that has no value yet",
+            Want::Client => "a client of the policy",
+            Want::Place =>
+                "where the block lies: a region as args, an address as args+16, or a number",
             Want::At => "`at` and where the arguments lie, as at args",
             Want::Address => "an address: a region as buf or buf+16, or a number",
             Want::LineAddress =>

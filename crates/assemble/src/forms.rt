@@ -7,6 +7,7 @@ ghost use Rattle.assemble.specs.Verbs.{begins_as_script};
 ghost use Rattle.assemble.specs.Comments.{is_comment};
 ghost use Rattle.words.specs.Lines.{words};
 
+use crate::argument_lines::{args, put_block, read_named_block, read_place};
 use crate::block::read_block;
 use crate::book::{Book, KernelShape};
 use crate::comments::is_comment;
@@ -19,13 +20,14 @@ use crate::options::{Options, PacketKind, is_option, read_options};
 use crate::packets::{
     add_packet, all_of_packet, any_of_packet, copy_packet, dispatch_packet, fill_packet, put_packet,
 };
+use crate::places::Places;
 use crate::spacing::put_word;
 use crate::verbs::{Verb, is_of_script, nearest, verb_named};
 use aql_packet::{Address, KernelObject, Packet, QueueId, SignalHandle};
 use policy::Policy;
 use script::Class;
 use std::alloc::{AllocError, Global};
-use words::{decimal, is_word, put_address, put_bytes, split_word};
+use words::{decimal, is_word, put_address, split_word};
 
 /// The words of a line that name a queue and a producer.
 #[derive(Clone, Copy)]
@@ -187,24 +189,6 @@ fn read_front<'a>(policy: &Policy, line: &'a [u8]) -> Read<'a, Front<'a>>
     ))
 }
 
-// Puts the line by which a client writes an argument block behind a text; there is none for an empty block.
-fn put_block(
-    out: &mut Vec<u8>,
-    writer: &[u8],
-    place: Address,
-    block: &[u8],
-) -> Result<(), AllocError> {
-    if block.is_empty() {
-        return Ok(());
-    }
-    put_word(out, b"write")?;
-    put_word(out, writer)?;
-    put_address(out, place)?;
-    out.push(b' ')?;
-    put_bytes(out, block)?;
-    Ok(out.push(b'\n')?)
-}
-
 // Puts the line that submits a dispatch behind a text.
 fn put_dispatch(
     out: &mut Vec<u8>,
@@ -224,6 +208,7 @@ fn put_dispatch(
 fn with_arguments(
     alloc: Global,
     book: &Book,
+    places: &mut Places,
     front: Front<'_>,
     shape: &KernelShape,
     line: &[u8],
@@ -239,11 +224,41 @@ fn with_arguments(
     let (bytes, rest) = read_block(alloc, &book.policy, shape.arguments.as_slice(), values)?;
     let said = read_options(&book.policy, PacketKind::Dispatch, rest)?;
     match said.block {
-        Some(place) => put_block(out, writer, place, bytes.as_slice())?,
+        Some(place) => {
+            places.take(place, bytes.len())?;
+            put_block(out, writer, place, bytes.as_slice())?
+        }
         None if bytes.is_empty() => {}
         None => return Err(LineError::Fault(fault_at(&[], Want::At))),
     }
     Ok(put_dispatch(out, front, shape, said)?)
+}
+
+// The rest of a dispatch with `args`; `line` begins with that word.
+fn with_named_arguments(
+    alloc: Global,
+    book: &Book,
+    places: &mut Places,
+    front: Front<'_>,
+    shape: &KernelShape,
+    line: &[u8],
+    out: &mut Vec<u8>,
+) -> Result<(), LineError>
+    requires grid { AreGridSizes front.grid }
+    requires group { AreGroupSizes front.group }
+{
+    let (_, behind) = next(line, Want::DispatchOption)?;
+    let Some(writer) = front.writer else {
+        return Err(LineError::Fault(fault_at(line, Want::Writer)));
+    };
+    let (place, named) = read_place(&book.policy, places, behind)?;
+    let (bytes, rest) = read_named_block(alloc, &book.policy, shape, named)?;
+    let said = read_options(&book.policy, PacketKind::Dispatch, rest)?;
+    let place = said.block.unwrap_or(place);
+    places.take(place, bytes.len())?;
+    put_block(out, writer, place, bytes.as_slice())?;
+    let block = Some(place);
+    Ok(put_dispatch(out, front, shape, Options { block, ..said })?)
 }
 
 // Whether a line goes on with a word.
@@ -254,23 +269,34 @@ fn goes_on_with(line: &[u8], spelled: &str) -> bool {
     }
 }
 
-// `dispatch CLIENT? Q P KERNEL grid SIZES group SIZES`, perhaps `arguments VALUE..`, and options.
-fn dispatch(alloc: Global, book: &Book, line: &[u8], out: &mut Vec<u8>) -> Result<(), LineError> {
+// `dispatch CLIENT? Q P KERNEL grid SIZES group SIZES`, perhaps `arguments VALUE..` or `args PLACE NAME=VALUE ..`, and
+// options.
+fn dispatch(
+    alloc: Global,
+    book: &Book,
+    places: &mut Places,
+    line: &[u8],
+    out: &mut Vec<u8>,
+) -> Result<(), LineError> {
     let (front, rest) = read_front(&book.policy, line)?;
     let Some(shape) = book.shape(front.kernel) else {
         return Err(LineError::Fault(fault_at(front.named, Want::Entry)));
     };
     if goes_on_with(rest, "arguments") {
-        return with_arguments(alloc, book, front, shape, rest, out);
+        return with_arguments(alloc, book, places, front, shape, rest, out);
+    }
+    if goes_on_with(rest, "args") {
+        return with_named_arguments(alloc, book, places, front, shape, rest, out);
     }
     let said = read_options(&book.policy, PacketKind::Dispatch, rest)?;
     Ok(put_dispatch(out, front, shape, said)?)
 }
 
-// Puts what a readable line comes to behind a text, by its verb and what stands behind it. A drain comes to no lines.
+// Puts what a readable line comes to behind a text, by its verb and what stands behind it. A drain and a state come to no lines.
 fn put_readable(
     alloc: Global,
     book: &Book,
+    places: &mut Places,
     verb: Verb,
     line: &[u8],
     out: &mut Vec<u8>,
@@ -278,13 +304,15 @@ fn put_readable(
     ensures { IfOk result (λ turned. turned ≡ Turned.Itself → ⊥) }
 {
     match verb {
-        Verb::Dispatch => dispatch(alloc, book, line, out)?,
+        Verb::Args => args(alloc, book, places, line, out)?,
+        Verb::Dispatch => dispatch(alloc, book, places, line, out)?,
         Verb::Fill => put_form(out, fill(&book.policy, line))?,
         Verb::Copy => put_form(out, copy(&book.policy, line))?,
         Verb::Add => put_form(out, add(&book.policy, line))?,
         Verb::AllOf => put_form(out, all_of(&book.policy, line))?,
         Verb::AnyOf => put_form(out, any_of(&book.policy, line))?,
         Verb::Drain => return Ok(Turned::Drain(read_drain(line)?)),
+        Verb::State => return Ok(read_state(line)?),
     }
     Ok(Turned::Lines)
 }
@@ -299,6 +327,16 @@ fn read_drain(line: &[u8]) -> Result<Option<QueueId>, Fault> {
         Some(_) if split_word(rest).is_some() => Err(fault_at(rest, Want::EndOfLine)),
         Some(queue) => Ok(Some(QueueId(queue))),
     }
+}
+
+// `state`.
+fn read_state(line: &[u8]) -> Result<Turned, Fault>
+    ensures { IfOk result (λ turned. turned ≡ Turned.Itself → ⊥) }
+{
+    if split_word(line).is_some() {
+        return Err(fault_at(line, Want::EndOfLine));
+    }
+    Ok(Turned::State)
 }
 
 // The address of a line of a script that doesn't stand there in digits, and what stands behind it.
@@ -361,13 +399,16 @@ pub enum Turned {
     Lines,
     /// No line of a script: a queue is to be drained, or all are.
     Drain(Option<QueueId>),
+    /// No line of a script: what there is is to be told.
+    State,
 }
 
-/// Puts the lines that a line comes to behind a text, and tells what it comes to. A line that comes to itself puts nothing
-/// there, and is a comment, has no word, or begins with a word that a script's line may begin with.
+/// Puts the lines that a line comes to behind a text, and tells what it comes to. The places are those of
+/// the argument blocks of the lines before. A line that comes to itself puts nothing there, and is a comment, has no word, or begins with a word that a script's line may begin with.
 pub fn put_lines(
     alloc: Global,
     book: &Book,
+    places: &mut Places,
     line: &[u8],
     out: &mut Vec<u8>,
 ) -> Result<Turned, LineError>
@@ -381,7 +422,7 @@ pub fn put_lines(
         return Ok(Turned::Itself);
     };
     if let Some(verb) = verb_named(word) {
-        return put_readable(alloc, book, verb, rest, out);
+        return put_readable(alloc, book, places, verb, rest, out);
     }
     if !is_of_script(word) {
         let nearest = nearest(alloc, word)?;

@@ -3,6 +3,7 @@
 // The check tries its tactics on what is left of each proof.
 #![tactic(auto)]
 
+mod argument_lines;
 mod block;
 mod book;
 mod comments;
@@ -10,9 +11,11 @@ mod fault;
 mod forms;
 mod help;
 mod layout;
+mod named;
 mod operands;
 mod options;
 mod packets;
+mod places;
 mod run;
 mod spacing;
 mod verbs;
@@ -23,4 +26,5 @@ pub use fault::{Fault, LineError, Want};
 pub use forms::{Turned, put_lines};
 pub use help::help_text;
 pub use layout::ArgumentPlace;
+pub use places::Places;
 pub use run::{AssembleError, assemble_script, fault_text};

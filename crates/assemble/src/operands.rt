@@ -92,8 +92,8 @@ pub fn kernel<'a>(policy: &Policy, line: &'a [u8]) -> Read<'a, KernelObject> {
     }
 }
 
-// The begin of the region of a name.
-fn region_start(policy: &Policy, name: &[u8]) -> Option<u64> {
+/// The begin of the region of a name.
+pub fn region_start(policy: &Policy, name: &[u8]) -> Option<u64> {
     match policy.object_named(Kind::Region, name) {
         Object::Region(region) if region.0 > 0 => Some(region.0 as u64 * REGION_SPAN),
         _ => None,
@@ -184,6 +184,50 @@ pub fn value<'a>(policy: &Policy, kind: DataType, line: &'a [u8]) -> Read<'a, u6
     match value_in(policy, bits, word) {
         Some(value) => Ok((value, rest)),
         None => Err(fault_at(line, wanted_value(bits))),
+    }
+}
+
+// Whether values of a type may be negative.
+fn may_be_negative(kind: DataType) -> bool {
+    match kind {
+        DataType::U8 | DataType::U16 | DataType::U32 | DataType::U64 => false,
+        _ => true,
+    }
+}
+
+// Whether a type's values are numbers with a sign.
+fn is_signed(kind: DataType) -> bool {
+    match kind {
+        DataType::S8 | DataType::S16 | DataType::S32 | DataType::S64 => true,
+        _ => false,
+    }
+}
+
+// An object that a word names: a region's begin with an offset, or a signal.
+fn object_in(policy: &Policy, word: &[u8]) -> Option<u64> {
+    match address_in(policy, word) {
+        Some(address) => Some(address),
+        None => Some(signal_named(policy, word)?.0),
+    }
+}
+
+// The value of a type without a sign that a word stands for.
+fn plain_value(policy: &Policy, kind: DataType, word: &[u8]) -> Option<u64> {
+    let bits = kind.bits();
+    match natural(word) {
+        Some(number) if is_signed(kind) => positive_in(bits.saturating_sub(1), number),
+        Some(number) => positive_in(bits, number),
+        None if bits == 64 && !is_signed(kind) => object_in(policy, word),
+        None => None,
+    }
+}
+
+/// The value of a type that a word stands for: its low bits are those of the number that is told.
+pub fn typed_value(policy: &Policy, kind: DataType, word: &[u8]) -> Option<u64> {
+    match word {
+        [b'-', digits @ ..] if may_be_negative(kind) => negative_in(kind.bits(), digits),
+        [b'-', ..] => None,
+        _ => plain_value(policy, kind, word),
     }
 }
 

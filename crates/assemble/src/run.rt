@@ -4,6 +4,7 @@ use crate::book::Book;
 use crate::comments::without_comment;
 use crate::fault::{Fault, LineError, Want};
 use crate::forms::{Turned, put_lines};
+use crate::places::Places;
 use script::LONGEST_LINE;
 use std::alloc::{AllocError, AllocFailed, Global};
 use std::io;
@@ -55,12 +56,13 @@ impl<T: Drop> From<AllocFailed<T>> for AssembleError {
 }
 
 /// What is kept between bytes: the line that is begun and its number from 1, and what was assembled and not
-/// written yet.
+/// written yet, and the places of argument blocks.
 #[derive(Drop)]
 struct Session {
     line: Vec<u8>,
     number: u64,
     out: Vec<u8>,
+    places: Places,
 }
 
 // Adds a word as it is shown: what isn't a printing letter of ASCII is `?`.
@@ -104,11 +106,12 @@ fn refused(alloc: Global, number: u64, line: &[u8], fault: Fault) -> AssembleErr
 fn turn_line(
     alloc: Global,
     book: &Book,
+    places: &mut Places,
     number: u64,
     line: &[u8],
     out: &mut Vec<u8>,
 ) -> Result<Turned, AssembleError> {
-    match put_lines(alloc, book, line, out) {
+    match put_lines(alloc, book, places, line, out) {
         Ok(turned) => Ok(turned),
         Err(LineError::OutOfMemory) => Err(AssembleError::OutOfMemory),
         Err(LineError::Fault(fault)) => Err(refused(alloc, number, line, fault)),
@@ -129,10 +132,12 @@ fn put_line(
     end: &[u8],
 ) -> Result<(), AssembleError> {
     let line = without_comment(session.line.as_slice());
-    match turn_line(alloc, book, session.number, line, &mut session.out)? {
+    let number = session.number;
+    let places = &mut session.places;
+    match turn_line(alloc, book, places, number, line, &mut session.out)? {
         Turned::Itself => pass_line(&mut session.out, line, end),
         Turned::Lines => Ok(()),
-        Turned::Drain(_) => {
+        Turned::Drain(_) | Turned::State => {
             let left = skip_blanks(line).len();
             let want = Want::Run;
             Err(refused(alloc, session.number, line, Fault { left, want }))
@@ -260,6 +265,7 @@ pub fn assemble_script<R: io::Read, W: io::Write>(
         line: Vec::new(alloc),
         number: 1,
         out: Vec::new(alloc),
+        places: Places::new(alloc),
     };
     let mut block = [0; BLOCK];
     for _ in 0..MOST_CALLS {

@@ -21,6 +21,9 @@ impl<T> Model for Boxed<T> {
 }
 
 impl<T> Boxed<T> {
+    ghost use Rattle.std.specs.Borrow.{Lends, sem};
+    ghost use Rattle.boxed.specs.contracts.Boxed.{the_row};
+
     /// Puts a value into memory of its own; without memory for it, it comes back.
     pub fn new(alloc: Global, value: T) -> Result<Boxed<T>, AllocFailed<T>>
         ensures kept { IfOk result (λ boxed. boxed ≡ value) }
@@ -37,6 +40,14 @@ impl<T> Boxed<T> {
         ensures { result.now ≡ self.now }
     {
         self.kept.as_ref()
+    }
+
+    /// The value, to be changed in place.
+    pub fn as_mut(&mut self) -> &mut T
+        ensures* writes_back { sem 𝓛 (Lends (the_row T.row) T.row self.entry result (λ w. w)) }
+        ensures value { result.now ≡ self.old }
+    {
+        self.kept.as_mut()
     }
 
     /// The value out of its memory.

@@ -1,7 +1,7 @@
 //! The commands for authors of kernels, scripts and policies.
 
 use crate::explaining::{PolicyFile, tell};
-use crate::meanings::{Unknown, explained};
+use crate::meanings::{Unknown, explained, nearest};
 use crate::perform::{failed, read_most, unread};
 use crate::policies::{judge, name_blame};
 use crate::writers::Nowhere;
@@ -11,11 +11,12 @@ use explain::text_help;
 use kernel_listing::{Form, Listing, TextFault, list, told as fault_told};
 use script::Noted;
 use std::alloc::{AllocError, Global};
+use std::fs::File;
 use std::io;
 use std::io::Write;
 
-// How many bytes of a kernel's text are read: one more than a text may have.
-const MOST_TEXT: u64 = 65_537;
+/// How many bytes of a kernel's text are read: one more than a text may have.
+pub const MOST_TEXT: u64 = 65_537;
 
 /// Writes a text, and tells how that ended.
 pub(crate) fn told<W: io::Write>(out: &mut W, text: &str, status: Status) -> Status {
@@ -174,21 +175,58 @@ pub fn assemble_explaining<R: io::Read, O: io::Write, E: io::Write>(
     }
 }
 
-/// Assembles the script on standard input by the policy in a file, and tells why it has a fault, if it explains.
-pub fn assemble_input(rt: &HostRuntime, file: PolicyFile<'_>, explains: bool) -> Status {
-    let mut script = rt.stdin();
+// Assembles a script by the policy in a file, and tells why it has a fault, if it explains.
+fn assemble_read<R: io::Read>(
+    rt: &HostRuntime,
+    file: PolicyFile<'_>,
+    explains: bool,
+    script: &mut R,
+) -> Status {
     let mut out = rt.stdout();
     let mut err = rt.stderr();
     if explains {
-        assemble_explaining(rt.alloc(), file, &mut script, &mut out, &mut err)
+        assemble_explaining(rt.alloc(), file, script, &mut out, &mut err)
     } else {
-        assemble_policy(rt.alloc(), file.text, &mut script, &mut out, &mut err)
+        assemble_policy(rt.alloc(), file.text, script, &mut out, &mut err)
+    }
+}
+
+/// Assembles the script in a file, or that on standard input, by the policy in another, and tells why it has a fault, if it
+/// explains.
+pub fn assemble_from(
+    rt: &HostRuntime,
+    file: PolicyFile<'_>,
+    script: Option<&str>,
+    explains: bool,
+) -> Status {
+    let Some(name) = script else {
+        return assemble_read(rt, file, explains, &mut rt.stdin());
+    };
+    match File::open(rt, name) {
+        Ok(mut opened) => assemble_read(rt, file, explains, &mut opened),
+        Err(error) => unread(rt, name, explains, &error),
+    }
+}
+
+// Says which word is the nearest to one that isn't known, where one is near.
+fn tell_nearest(rt: &HostRuntime, word: &str) -> Option<Status> {
+    let name = match nearest(rt.alloc(), word) {
+        Ok(Some(near)) => near.name,
+        Ok(None) => return None,
+        Err(_) => return Some(failed(rt, "no memory")),
+    };
+    match eprintln!(rt; "no word of explain is `{word}`: the nearest is `{name}`") {
+        Ok(()) => None,
+        Err(_) => Some(Status::Failed),
     }
 }
 
 // Says what `explain` takes; none where that could be said.
-fn tell_unknown(rt: &HostRuntime) -> Option<Status> {
+fn tell_unknown(rt: &HostRuntime, word: &str) -> Option<Status> {
     let unknown = Unknown;
+    if let Some(status) = tell_nearest(rt, word) {
+        return Some(status);
+    }
     match eprintln!(rt; "{unknown}") {
         Ok(()) => None,
         Err(_) => Some(Status::Failed),
@@ -196,9 +234,9 @@ fn tell_unknown(rt: &HostRuntime) -> Option<Status> {
 }
 
 // Prints what a word means, if it means something.
-fn print_meaning(rt: &HostRuntime, text: &str) -> Option<Status> {
+fn print_meaning(rt: &HostRuntime, word: &str, text: &str) -> Option<Status> {
     if text.is_empty() {
-        return tell_unknown(rt);
+        return tell_unknown(rt, word);
     }
     match told(&mut rt.stdout(), text, Status::Done) {
         Status::Failed => Some(failed(rt, "write fault")),
@@ -209,7 +247,7 @@ fn print_meaning(rt: &HostRuntime, text: &str) -> Option<Status> {
 /// Tells what a rule, a refusal or a cause means; none where the word is none of them, which is told too.
 pub fn explain(rt: &HostRuntime, word: &str) -> Option<Status> {
     match explained(rt.alloc(), word) {
-        Ok(text) => print_meaning(rt, text.as_str()),
+        Ok(text) => print_meaning(rt, word, text.as_str()),
         Err(_) => Some(failed(rt, "no memory")),
     }
 }

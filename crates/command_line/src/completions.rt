@@ -36,7 +36,10 @@ pub fn completions(alloc: Global, shell: Shell) -> Result<String, AllocError> {
 
 // Whether an argument is an option, which begins with two dashes.
 fn is_option(takes: Takes) -> bool {
-    !matches!(takes, Takes::Word | Takes::Words(_) | Takes::Shell)
+    !matches!(
+        takes,
+        Takes::Word | Takes::Words(_) | Takes::Some(_) | Takes::Shell
+    )
 }
 
 // Whether a command takes the name of a shell.
@@ -148,11 +151,14 @@ const ZSH_QUOTE: &str = "'\\''";
 
 const ZSH_READ: &str = "[]:";
 
-// Puts a help between single quotes of a shell: a quote stands there as this, and a backslash before each of these characters.
+// Puts a help between single quotes of a shell, on one line: a quote stands there as this, and a backslash before each of
+// these characters.
 fn put_help(out: &mut String, help: &str, quote: &str, read: &str) -> Result<(), AllocError> {
     for character in help.chars() {
         if character == '\'' {
             out.push_str(quote)?;
+        } else if character == '\n' {
+            out.push(' ')?;
         } else {
             out.push_str(if read.contains(character) { "\\" } else { "" })?;
             out.push(character)?;
@@ -178,7 +184,7 @@ fn put_zsh_option(out: &mut String, argument: &Argument) -> Result<(), AllocErro
     match argument.takes {
         Takes::Nothing => out.push_str("]"),
         Takes::When => write!(out, "]::when:({NEVER} {ALWAYS})"),
-        Takes::Value(_) => out.push_str("]:file:_files"),
+        Takes::Value(_) | Takes::Lettered(_) => out.push_str("]:file:_files"),
         _ => out.push_str("]:number:"),
     }
 }
@@ -188,7 +194,7 @@ fn put_zsh_argument(out: &mut String, argument: &Argument) -> Result<(), AllocEr
     out.push_str(" \\\n    '")?;
     match argument.takes {
         Takes::Word => out.push_str("1:file:_files")?,
-        Takes::Words(_) => out.push_str("*:file:_files")?,
+        Takes::Words(_) | Takes::Some(_) => out.push_str("*:file:_files")?,
         Takes::Shell => {
             out.push_str("1:shell:(")?;
             put_names(out, &SHELLS)?;
@@ -256,6 +262,7 @@ fn put_fish_takes(out: &mut String, argument: &Argument) -> Result<(), AllocErro
         Takes::Nothing => write!(out, "-l {}", argument.name),
         Takes::When => write!(out, "-l {} -f -a '{NEVER} {ALWAYS}'", argument.name),
         Takes::Value(_) => write!(out, "-l {} -r -F", argument.name),
+        Takes::Lettered(letter) => write!(out, "-s {letter} -l {} -r -F", argument.name),
         Takes::Shell => {
             out.push_str("-x -a '")?;
             put_names(out, &SHELLS)?;
@@ -271,7 +278,10 @@ fn put_fish_argument(
     command: &str,
     argument: &Argument,
 ) -> Result<(), AllocError> {
-    if matches!(argument.takes, Takes::Word | Takes::Words(_)) {
+    if matches!(
+        argument.takes,
+        Takes::Word | Takes::Words(_) | Takes::Some(_)
+    ) {
         return Ok(());
     }
     write!(

@@ -1,12 +1,14 @@
 //! The command that tells the bytes of packets field by field.
 
 use crate::author::{fails, told};
+use crate::naming::push_names;
 use aql_packet::{Packet, decode};
 use commands::Status;
 use core_model::{AgentFunction, Range};
 use explain::first_strange;
 use packet_listing::{first_failing, is_slot_empty, packet_of, push_fields, push_verdict};
 use packet_processor::function_of;
+use policy::Policy;
 use std::alloc::{AllocError, Global};
 use std::io;
 
@@ -58,17 +60,28 @@ fn push_work(out: &mut String, bytes: &[u8; 64]) -> Result<(), AllocError> {
     }
 }
 
-// Adds all that is told of a packet.
-fn push_packet(out: &mut String, bytes: &[u8; 64]) -> Result<(), AllocError> {
+// Adds all that is told of a packet, and what its numbers stand for in a policy, if there is one.
+fn push_packet(
+    out: &mut String,
+    policy: Option<&Policy>,
+    bytes: &[u8; 64],
+) -> Result<(), AllocError> {
     push_fields(out, bytes)?;
+    if let Some(policy) = policy {
+        push_names(out, policy, bytes)?;
+    }
     push_work(out, bytes)?;
     push_verdict(out, bytes)
 }
 
 // What is told of a packet.
-fn packet_told(alloc: Global, bytes: &[u8; 64]) -> Result<String, AllocError> {
+fn packet_told(
+    alloc: Global,
+    policy: Option<&Policy>,
+    bytes: &[u8; 64],
+) -> Result<String, AllocError> {
     let mut out = String::new(alloc);
-    push_packet(&mut out, bytes)?;
+    push_packet(&mut out, policy, bytes)?;
     Ok(out)
 }
 
@@ -135,10 +148,11 @@ fn no_packet<E: io::Write>(alloc: Global, digits: &str, err: &mut E) -> Option<S
 }
 
 /// Tells the packet of 128 hexadecimal digits field by field on `out`, with the first of the rules L1 to L3 that it breaks,
-/// if it does: the command is refused then. Blanks between the digits don't count. None where the words are no such digits,
-/// which `err` is told.
+/// if it does: the command is refused then. Blanks between the digits don't count. With a policy it is told what its numbers
+/// stand for. None where the words are no such digits, which `err` is told.
 pub fn decode_digits<O: io::Write, E: io::Write>(
     alloc: Global,
+    policy: Option<&Policy>,
     words: &[&str],
     out: &mut O,
     err: &mut E,
@@ -149,7 +163,7 @@ pub fn decode_digits<O: io::Write, E: io::Write>(
     match packet_of(digits.as_str()) {
         Some(bytes) => {
             let status = status_of(&bytes);
-            Some(write(packet_told(alloc, &bytes), status, out, err))
+            Some(write(packet_told(alloc, policy, &bytes), status, out, err))
         }
         None => no_packet(alloc, digits.as_str(), err),
     }
@@ -158,6 +172,7 @@ pub fn decode_digits<O: io::Write, E: io::Write>(
 // What is told of a slot, and how the command ends after it.
 fn slot_told(
     alloc: Global,
+    policy: Option<&Policy>,
     number: usize,
     bytes: &[u8; 64],
 ) -> (Result<String, AllocError>, Status) {
@@ -165,13 +180,21 @@ fn slot_told(
         let told = format!(in alloc; "slot {number}: INVALID, no packet\n");
         return (told, Status::Done);
     }
-    (full_slot_told(alloc, number, bytes), status_of(bytes))
+    (
+        full_slot_told(alloc, policy, number, bytes),
+        status_of(bytes),
+    )
 }
 
 // What is told of a slot with a packet.
-fn full_slot_told(alloc: Global, number: usize, bytes: &[u8; 64]) -> Result<String, AllocError> {
+fn full_slot_told(
+    alloc: Global,
+    policy: Option<&Policy>,
+    number: usize,
+    bytes: &[u8; 64],
+) -> Result<String, AllocError> {
     let mut out = format!(in alloc; "slot {number}\n")?;
-    push_packet(&mut out, bytes)?;
+    push_packet(&mut out, policy, bytes)?;
     Ok(out)
 }
 
@@ -195,12 +218,13 @@ fn tell_rest<E: io::Write>(alloc: Global, rest: usize, err: &mut E) -> Status {
 // Tells a slot, and how the command ends after it.
 fn tell_slot<O: io::Write, E: io::Write>(
     alloc: Global,
+    policy: Option<&Policy>,
     number: usize,
     bytes: &[u8; 64],
     out: &mut O,
     err: &mut E,
 ) -> Status {
-    let (text, status) = slot_told(alloc, number, bytes);
+    let (text, status) = slot_told(alloc, policy, number, bytes);
     write(text, status, out, err)
 }
 
@@ -209,6 +233,7 @@ fn tell_slot<O: io::Write, E: io::Write>(
 /// ends within a slot, which `err` is told.
 pub fn decode_slots<O: io::Write, E: io::Write>(
     alloc: Global,
+    policy: Option<&Policy>,
     dump: &[u8],
     out: &mut O,
     err: &mut E,
@@ -219,7 +244,7 @@ pub fn decode_slots<O: io::Write, E: io::Write>(
     let mut ended = Status::Done;
     for (number, slot) in dump.chunks(64).enumerate() {
         let status = match slot.first_chunk::<64>() {
-            Some(bytes) => tell_slot(alloc, number, bytes, out, err),
+            Some(bytes) => tell_slot(alloc, policy, number, bytes, out, err),
             None => tell_rest(alloc, slot.len(), err),
         };
         ended = worse(ended, status);

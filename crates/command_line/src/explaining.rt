@@ -98,11 +98,31 @@ pub fn tell<E: io::Write>(err: &mut E, told: Result<String, AllocError>, status:
     }
 }
 
-// Counts a policy that was let pass, and tells which kernel's text has none of its entry's name.
-fn count_and_tell<O: io::Write, E: io::Write>(
+/// What is told of a policy beside its counts: of a fault where it lies, and of one without a fault which kernel's text has
+/// none of its entry's name.
+#[derive(Clone, Copy)]
+pub struct Tells {
+    pub faults: bool,
+    pub entries: bool,
+}
+
+/// Tells which kernel's text of a policy has none of its entry's name, behind what was written of it.
+pub fn tell_entries<E: io::Write>(
     alloc: Global,
     file: PolicyFile<'_>,
     judged: &Setup,
+    err: &mut E,
+    status: Status,
+) -> Status {
+    tell(err, entries_told(alloc, file, judged), status)
+}
+
+// Counts a policy that was let pass.
+fn count<O: io::Write, E: io::Write>(
+    alloc: Global,
+    file: PolicyFile<'_>,
+    judged: &Setup,
+    tells: Tells,
     out: &mut O,
     err: &mut E,
 ) -> Status {
@@ -112,21 +132,21 @@ fn count_and_tell<O: io::Write, E: io::Write>(
         &mut Noted::new(&mut *out),
         &mut Noted::new(&mut *err),
     ) {
-        Status::Failed => Status::Failed,
-        status => tell(err, entries_told(alloc, file, judged), status),
+        Status::Done if tells.entries => tell_entries(alloc, file, judged, err, Status::Done),
+        status => status,
     }
 }
 
-/// Checks the policy in a file as `check_policy` does, and tells after a fault where it lies and what may stand there; of one
-/// without a fault, which kernel's text has none of its entry's name.
-pub fn check_explaining<O: io::Write, E: io::Write>(
+/// Checks the policy in a file as `check_policy` does, and tells beside what is to be told.
+pub fn check_telling<O: io::Write, E: io::Write>(
     alloc: Global,
     file: PolicyFile<'_>,
+    tells: Tells,
     out: &mut O,
     err: &mut E,
 ) -> Status {
-    match judge(alloc, file, true) {
-        Ok(judged) => count_and_tell(alloc, file, &judged, out, err),
+    match judge(alloc, file, tells.faults) {
+        Ok(judged) => count(alloc, file, &judged, tells, out, err),
         Err(blame) => name_blame(alloc, blame, err),
     }
 }

@@ -1,4 +1,4 @@
-//! Runs the script on standard input over the policy in a file, with the policies in further files after it.
+//! Runs a script over the policy in a file, with the policies in further files after it.
 
 use crate::explaining::PolicyFile;
 use crate::perform::{STANDARD_INPUT, failed, read_file, unmade_file, unread};
@@ -18,28 +18,33 @@ use std::fs::File;
 use std::io::{self, IsTerminal};
 use world::World;
 
-/// What is told where standard input has a policy.
+/// What is told where standard input has a policy, and a script is asked of it.
 const NO_SCRIPT: &str =
     "-: the policy is read from standard input, where no script is left: name the policy's file";
-
-/// Lines are those of scripts, and replies are text.
-pub const AS_SCRIPTS: Reads = Reads {
-    is_readable: false,
-    is_json: false,
-};
 
 /// How a script is run: with places for so many entries in the audit, up to the first line that isn't done, if it is
 /// strict, and with a text beside its replies that tells why, if it is explaining; or with a picture of these entries in
 /// place of its replies. In a session with a person it goes on after a line of no form. Its lines may be readable, and
-/// its replies JSON.
+/// its replies JSON. It has these files.
 #[derive(Clone, Copy)]
-pub struct Manner {
+pub struct Manner<'a> {
     pub places: usize,
     pub is_strict: bool,
     pub is_explaining: bool,
     pub is_session: bool,
     pub reads: Reads,
     pub drawn: Option<Span>,
+    pub files: RunFiles<'a>,
+}
+
+/// The files of a run, where they are named: of its script, of the picture of it, and of its journal; and its further
+/// policies, as far as they are read.
+#[derive(Clone, Copy)]
+pub struct RunFiles<'a> {
+    pub further: Further<'a>,
+    pub script: Option<&'a str>,
+    pub output: Option<&'a str>,
+    pub journal: Option<&'a str>,
 }
 
 /// Reads files in their order, up to the first that can't be read.
@@ -55,24 +60,25 @@ pub fn read_files(rt: &HostRuntime, files: &[&str], texts: &mut Vec<PolicyText>)
 fn begin_journal<'a>(
     alloc: Global,
     file: PolicyFile<'_>,
-    further: Further<'_>,
-    places: usize,
+    manner: Manner<'_>,
     journal: Option<&'a mut File>,
 ) -> Result<Option<Recorder<'a, File>>, JournalFault> {
     let Some(journal) = journal else {
         return Ok(None);
     };
-    let begun = JournalWriter::begin(alloc, file.text, further.texts, places, journal)?;
+    let places = manner.places;
+    let texts = manner.files.further.texts;
+    let begun = JournalWriter::begin(alloc, file.text, texts, places, journal)?;
     Ok(Some(Recorder::new(begun, places)))
 }
 
 // What is told of a run beside its replies.
-fn telling_of(manner: Manner) -> Telling {
+fn telling_of(manner: Manner<'_>) -> Telling {
     Telling {
         of_replies: manner.is_explaining && manner.drawn.is_none(),
         of_lines: manner.is_explaining,
         goes_on: manner.is_session && !manner.is_strict,
-        is_readable: manner.reads.is_readable && manner.drawn.is_none(),
+        is_readable: manner.reads.is_readable,
     }
 }
 
@@ -87,19 +93,36 @@ fn tell_outside(rt: &HostRuntime, world: &World, span: Span, explains: bool) {
     }
 }
 
+// Draws what a world's audit tells, into a file, if one is named.
+fn draw_into(
+    rt: &HostRuntime,
+    world: &World,
+    span: Span,
+    output: Option<&str>,
+) -> Result<(), ScriptFault> {
+    let Some(name) = output else {
+        return draw_audit(rt.alloc(), world, span, &mut Noted::new(rt.stdout()));
+    };
+    match File::create(rt, name) {
+        Ok(file) => draw_audit(rt.alloc(), world, span, &mut Noted::new(file)),
+        Err(error) => match error.kind() {
+            io::ErrorKind::OutOfMemory => Err(ScriptFault::OutOfMemory),
+            _ => Err(ScriptFault::Write),
+        },
+    }
+}
+
 // Draws what a world's audit tells, if that is asked for and the run has come to its end.
 fn draw_behind<F: Drop>(
     rt: &HostRuntime,
     world: &World,
-    drawn: Option<Span>,
-    explains: bool,
+    manner: Manner<'_>,
     ended: Result<(), RunFault<F>>,
 ) -> Result<(), RunFault<F>> {
-    match (ended, drawn) {
+    match (ended, manner.drawn) {
         (Ok(()), Some(span)) => {
-            tell_outside(rt, world, span, explains);
-            let out = &mut Noted::new(rt.stdout());
-            match draw_audit(rt.alloc(), world, span, out) {
+            tell_outside(rt, world, span, manner.is_explaining);
+            match draw_into(rt, world, span, manner.files.output) {
                 Ok(()) => Ok(()),
                 Err(fault) => Err(RunFault::Script(fault)),
             }
@@ -108,32 +131,47 @@ fn draw_behind<F: Drop>(
     }
 }
 
+/// What is told of what ended a run early: of which stream, and what.
+#[derive(Clone, Copy)]
+struct Streamed<'a> {
+    stream: &'a str,
+    told: &'static str,
+}
+
 // What is told of what ended a run early, where a stream failed or memory was wanted; no text where neither did.
-fn stream_told<F: Drop>(ended: &Result<(), RunFault<F>>) -> &'static str {
+fn stream_told<'a, F: Drop>(ended: &Result<(), RunFault<F>>, files: RunFiles<'a>) -> Streamed<'a> {
     match ended {
-        Err(RunFault::Script(ScriptFault::Read)) => {
-            "standard input: the script can't be read: a file or a pipe is asked for, and no directory"
-        }
-        Err(RunFault::Script(ScriptFault::Write)) => {
-            "standard output: what is replied can't be written there"
-        }
-        Err(RunFault::Script(ScriptFault::OutOfMemory)) =>
-            "with a smaller `--audit N` it takes less",
-        _ => "",
+        Err(RunFault::Script(ScriptFault::Read)) => Streamed {
+            stream: files.script.unwrap_or("standard input"),
+            told: ": the script can't be read: a file or a pipe is asked for, and no directory",
+        },
+        Err(RunFault::Script(ScriptFault::Write)) => Streamed {
+            stream: files.output.unwrap_or("standard output"),
+            told: ": what is replied can't be written there",
+        },
+        Err(RunFault::Script(ScriptFault::OutOfMemory)) => Streamed {
+            stream: "",
+            told: "with a smaller `--audit N` it takes less",
+        },
+        _ => Streamed {
+            stream: "",
+            told: "",
+        },
     }
 }
 
 // Tells it, if it is told why.
-fn tell_stream(rt: &HostRuntime, told: &str, explains: bool) {
+fn tell_stream(rt: &HostRuntime, streamed: Streamed<'_>, explains: bool) {
+    let Streamed { stream, told } = streamed;
     if explains && !told.is_empty() {
-        let _ = eprintln!(rt; "{told}");
+        let _ = eprintln!(rt; "{stream}{told}");
     }
 }
 
 // Runs a script in a style over a world that was opened.
 fn run_in<L: Style, R: io::Read>(
     rt: &HostRuntime,
-    manner: Manner,
+    manner: Manner<'_>,
     opened: &mut Opened,
     style: &mut L,
     recorder: Option<Recorder<'_, File>>,
@@ -142,18 +180,17 @@ fn run_in<L: Style, R: io::Read>(
     let alloc = rt.alloc();
     let mut beside = rt.stderr();
     let mut err = rt.stderr();
-    let later = opened.later.policies().len();
     let strict = if manner.is_strict { Some(Strict) } else { None };
-    let teller = Teller::new(alloc, telling_of(manner), later, &mut beside);
+    let further = manner.files.further;
+    let teller = Teller::new(alloc, telling_of(manner), further, &mut beside);
     let mut watcher = Both::new(teller, Both::new(recorder, strict));
     let out = &mut Noted::new(rt.stdout());
-    let script = &mut Noted::new(script);
+    let script = &mut Noted::new(&mut *script);
     let ended = run_over(alloc, opened, style, &mut watcher, script, out);
-    let explains = manner.is_explaining;
-    let ended = draw_behind(rt, &opened.world, manner.drawn, explains, ended);
-    let stream = stream_told(&ended);
+    let ended = draw_behind(rt, &opened.world, manner, ended);
+    let streamed = stream_told(&ended, manner.files);
     let status = tell_run(alloc, ended, &mut Noted::new(&mut err));
-    tell_stream(rt, stream, explains);
+    tell_stream(rt, streamed, manner.is_explaining);
     let status = watcher.first.end(status);
     match &mut watcher.second.first {
         Some(recorder) => recorder.end(alloc, &opened.world, &mut err, status),
@@ -162,7 +199,7 @@ fn run_in<L: Style, R: io::Read>(
 }
 
 // Whether nothing is told beside the replies of a run, and nothing ends it before its script does.
-fn is_unwatched(manner: Manner) -> bool {
+fn is_unwatched(manner: Manner<'_>) -> bool {
     !(manner.is_explaining || manner.is_session || manner.is_strict)
 }
 
@@ -183,7 +220,7 @@ fn run_unwatched<L: Style, R: io::Read>(
 // Runs a script each of whose lines is one of a script: with nobody who watches, unless something else is asked for.
 fn run_plain<L: Style, R: io::Read>(
     rt: &HostRuntime,
-    manner: Manner,
+    manner: Manner<'_>,
     opened: &mut Opened,
     style: &mut L,
     recorder: Option<Recorder<'_, File>>,
@@ -200,7 +237,7 @@ fn run_plain<L: Style, R: io::Read>(
 fn run_readable<R: io::Read>(
     rt: &HostRuntime,
     text: &[u8],
-    manner: Manner,
+    manner: Manner<'_>,
     opened: &mut Opened,
     recorder: Option<Recorder<'_, File>>,
     script: &mut R,
@@ -211,7 +248,10 @@ fn run_readable<R: io::Read>(
         Err(BookError::OutOfMemory) => return failed(rt, "no memory"),
         Err(BookError::Refused) => return Status::Refused,
     };
-    if manner.reads.is_json {
+    if manner.drawn.is_some() {
+        let style = &mut Readable::new(alloc, &book, Silent);
+        run_in(rt, manner, opened, style, recorder, script)
+    } else if manner.reads.is_json {
         let style = &mut Readable::new(alloc, &book, Json);
         run_in(rt, manner, opened, style, recorder, script)
     } else {
@@ -224,16 +264,16 @@ fn run_readable<R: io::Read>(
 fn run_as_asked<R: io::Read>(
     rt: &HostRuntime,
     text: &[u8],
-    manner: Manner,
+    manner: Manner<'_>,
     opened: &mut Opened,
     recorder: Option<Recorder<'_, File>>,
     script: &mut R,
 ) -> Status {
-    if manner.drawn.is_some() {
+    if manner.reads.is_readable {
+        run_readable(rt, text, manner, opened, recorder, script)
+    } else if manner.drawn.is_some() {
         let style = &mut Plain { voice: Silent };
         run_in(rt, manner, opened, style, recorder, script)
-    } else if manner.reads.is_readable {
-        run_readable(rt, text, manner, opened, recorder, script)
     } else if manner.reads.is_json {
         let style = &mut Plain { voice: Json };
         run_plain(rt, manner, opened, style, recorder, script)
@@ -244,13 +284,9 @@ fn run_as_asked<R: io::Read>(
 }
 
 // Opens a world over the policies in texts.
-fn open(
-    rt: &HostRuntime,
-    file: PolicyFile<'_>,
-    further: Further<'_>,
-    manner: Manner,
-) -> Result<Opened, Status> {
+fn open(rt: &HostRuntime, file: PolicyFile<'_>, manner: Manner<'_>) -> Result<Opened, Status> {
     let explains = manner.is_explaining;
+    let further = manner.files.further;
     match open_run(rt.alloc(), file, further, explains, manner.places) {
         Ok(opened) => Ok(opened),
         Err(blame) => Err(name_blame(rt.alloc(), blame, &mut rt.stderr())),
@@ -261,46 +297,41 @@ fn open(
 fn run_policies_of<R: io::Read>(
     rt: &HostRuntime,
     file: PolicyFile<'_>,
-    further: Further<'_>,
-    manner: Manner,
+    manner: Manner<'_>,
     journal: Option<&mut File>,
     script: &mut R,
 ) -> Status {
-    let mut opened = match open(rt, file, further, manner) {
+    let mut opened = match open(rt, file, manner) {
         Ok(opened) => opened,
         Err(status) => return status,
     };
-    match begin_journal(rt.alloc(), file, further, manner.places, journal) {
+    match begin_journal(rt.alloc(), file, manner, journal) {
         Ok(recorder) => run_as_asked(rt, file.text, manner, &mut opened, recorder, script),
         Err(JournalFault::OutOfMemory) => failed(rt, "no memory"),
         Err(JournalFault::Write) => failed(rt, "write fault"),
     }
 }
 
-// Tells the first fault of the policies before one that can't be read, and where they have none, why it can't.
+// Tells the first fault of the policies before a file that can't be read, and where they have none, why it can't.
 fn tell_unread(
     rt: &HostRuntime,
     file: PolicyFile<'_>,
-    before: Further<'_>,
-    manner: Manner,
+    manner: Manner<'_>,
+    name: &str,
     error: &io::Error,
 ) -> Status {
-    match open(rt, file, before, manner) {
-        Ok(_) => {
-            let name = before.names.get(before.texts.len()).unwrap_or(&file.name);
-            unread(rt, name, manner.is_explaining, error)
-        }
+    match open(rt, file, manner) {
+        Ok(_) => unread(rt, name, manner.is_explaining, error),
         Err(status) => status,
     }
 }
 
 // The same over the policy in a text.
-fn run_behind(
+fn run_behind<'a>(
     rt: &HostRuntime,
     file: PolicyFile<'_>,
-    names: &[&str],
-    manner: Manner,
-    journal: Option<&str>,
+    names: &'a [&'a str],
+    manner: Manner<'a>,
 ) -> Status {
     let mut texts = Vec::new(rt.alloc());
     let read = read_files(rt, names, &mut texts);
@@ -308,9 +339,17 @@ fn run_behind(
         names,
         texts: texts.as_slice(),
     };
+    let files = RunFiles {
+        further,
+        ..manner.files
+    };
+    let manner = Manner { files, ..manner };
     match read {
-        Ok(()) => run_into(rt, file, further, manner, journal),
-        Err(error) => tell_unread(rt, file, further, manner, &error),
+        Ok(()) => run_from(rt, file, manner),
+        Err(error) => {
+            let name = names.get(texts.len()).unwrap_or(&file.name);
+            tell_unread(rt, file, manner, name, &error)
+        }
     }
 }
 
@@ -336,8 +375,7 @@ fn beside(rt: &HostRuntime) -> Beside {
 fn run_input(
     rt: &HostRuntime,
     file: PolicyFile<'_>,
-    further: Further<'_>,
-    manner: Manner,
+    manner: Manner<'_>,
     journal: Option<&mut File>,
 ) -> Status {
     let beside = beside(rt);
@@ -352,41 +390,67 @@ fn run_input(
     let mut stdin = rt.stdin();
     let mut err = rt.stderr();
     let mut script = TerminalReader::new(rt.alloc(), &mut stdin, &mut err, beside);
-    run_policies_of(rt, file, further, manner, journal, &mut script)
+    run_policies_of(rt, file, manner, journal, &mut script)
+}
+
+// Runs the script in a file, or that on standard input, where none is named.
+fn run_script(
+    rt: &HostRuntime,
+    file: PolicyFile<'_>,
+    manner: Manner<'_>,
+    journal: Option<&mut File>,
+    script: Option<&mut File>,
+) -> Status {
+    let Some(script) = script else {
+        return run_input(rt, file, manner, journal);
+    };
+    let mut err = rt.stderr();
+    let mut script = TerminalReader::new(rt.alloc(), script, &mut err, beside_input(rt));
+    run_policies_of(rt, file, manner, journal, &mut script)
 }
 
 // Runs it, with a journal in a file that is there already or is made, if one is named.
 fn run_into(
     rt: &HostRuntime,
     file: PolicyFile<'_>,
-    further: Further<'_>,
-    manner: Manner,
-    journal: Option<&str>,
+    manner: Manner<'_>,
+    script: Option<&mut File>,
 ) -> Status {
-    let Some(name) = journal else {
-        return run_input(rt, file, further, manner, None);
+    let Some(name) = manner.files.journal else {
+        return run_script(rt, file, manner, None, script);
     };
     match File::create(rt, name) {
-        Ok(mut journal) => run_input(rt, file, further, manner, Some(&mut journal)),
+        Ok(mut journal) => run_script(rt, file, manner, Some(&mut journal), script),
         Err(error) => unmade_file(rt, name, manner.is_explaining, &error),
     }
 }
 
+// Runs the script in the file that is named, or that on standard input.
+fn run_from(rt: &HostRuntime, file: PolicyFile<'_>, manner: Manner<'_>) -> Status {
+    let Some(name) = manner.files.script else {
+        return run_into(rt, file, manner, None);
+    };
+    match File::open(rt, name) {
+        Ok(mut script) => run_into(rt, file, manner, Some(&mut script)),
+        Err(error) => tell_unread(rt, file, manner, name, &error),
+    }
+}
+
 // Tells that a policy was on standard input, where no script is left then.
-fn tell_no_script(rt: &HostRuntime, policy: &str, further: &[&str], explains: bool) {
-    if explains && (policy == STANDARD_INPUT || further.contains(&STANDARD_INPUT)) {
+fn tell_no_script(rt: &HostRuntime, policy: &str, further: &[&str], manner: Manner<'_>) {
+    let is_there = policy == STANDARD_INPUT || further.contains(&STANDARD_INPUT);
+    if manner.is_explaining && manner.files.script.is_none() && is_there {
         let _ = eprintln!(rt; "{NO_SCRIPT}");
     }
 }
 
-/// Runs the script on standard input over the policy in a file, and writes its history into a journal, if one is named.
-/// Faults are told in the order of the policies, before any reply.
-pub fn run(
+/// Runs a script over the policy in a file, and writes its history into a journal, if one is named. Faults are told in the
+/// order of the policies, before any reply.
+pub fn run<'a>(
     rt: &HostRuntime,
     policy: &str,
-    further: &[&str],
-    manner: Manner,
-    journal: Option<&str>,
+    further: &'a [&'a str],
+    manner: Manner<'a>,
 ) -> Status {
     match read_file(rt, policy) {
         Ok(text) => {
@@ -394,8 +458,8 @@ pub fn run(
                 name: policy,
                 text: text.as_slice(),
             };
-            tell_no_script(rt, policy, further, manner.is_explaining);
-            run_behind(rt, file, further, manner, journal)
+            tell_no_script(rt, policy, further, manner);
+            run_behind(rt, file, further, manner)
         }
         Err(error) => unread(rt, policy, manner.is_explaining, &error),
     }

@@ -15,20 +15,24 @@ const COLUMN: usize = 40;
 
 // What stands below the forms of lines, up to the names.
 const BELOW_FORMS: &str = "\
-Q is the number of a queue, T a ticket; KIND is agent, region, signal or kernel; RIGHT is USE, READ, WRITE, WAIT, CHANGE
-or LAUNCH, and - for none; OP is store, add, subtract, and, or, xor or exchange; CONDITION is EQ, NE, LT or GTE.
+Q is the number of a queue, T a ticket; KIND is agent, region, signal or kernel; RIGHT is USE, READ,
+WRITE, WAIT, CHANGE or LAUNCH, and - for none; OP is store, add, subtract, and, or, xor or exchange;
+CONDITION is EQ, NE, LT or GTE.
 
 Lines that assemble and run --readable read beside these (docs/assemble.md):
   dispatch CLIENT? Q P KERNEL grid N,N,N group N,N,N arguments VALUE.. at ADDRESS signal NAME ..
+  the same with args PLACE NAME=VALUE ..       args CLIENT PLACE KERNEL NAME=VALUE ..
   fill Q P ADDRESS length N with BYTE ..       copy Q P ADDRESS to ADDRESS length N ..
   add Q P N to ADDRESS ..                      all-of Q P SIGNAL.. ..       any-of Q P SIGNAL.. ..
-  drain, drain Q (of run --readable alone): what can move in all open queues, or in one, is brought to its end
-P is the number of a producer; ADDRESS may be a region there, as buf or buf+16; # begins a comment at a line's end.
+  drain, drain Q (of run --readable alone): what can move, all or in one queue, comes to its end
+  state (the same): what there is, rights, queues and what waits, signals, memory, the audit's room
+P is the number of a producer; ADDRESS may be a region there, as buf or buf+16; # begins a comment.
 
-Pages that help prints: brokerd help scripts, brokerd help policy, brokerd help kernels, brokerd help readable; and
-brokerd help WORD tells of the first word of a line.
-A file that is called - is standard input. On a terminal faults are explained unasked (--explain=never), run prompts,
-goes on after a line of no form, and knows help and help WORD.
+Pages that help prints: brokerd help scripts, policy, kernels or readable; and brokerd help WORD
+tells of the first word of a line, a rule, a refusal or a cause.
+A file that is called - is standard input; what stands behind -- is no option. On a terminal faults
+are explained unasked (--explain=never), run prompts, goes on after a line of no form, and knows
+help, help WORD, state, why and quit.
 
 Names that explain tells:
 ";
@@ -38,11 +42,11 @@ const BELOW_NAMES: &str = "  rights     USE READ WRITE WAIT CHANGE LAUNCH
   waiting    Barrier Active Slots, or waiting for all
   lines      the first word of a line, or lines for all
 
-Exit status: 0 all went well; 1 the policy, a kernel or a line is refused; 2 the command line isn't understood;
-3 reading, writing or memory failed.";
+Exit status: 0 all went well; 1 the policy, a kernel or a line is refused;
+2 the command line isn't understood; 3 reading, writing or memory failed.";
 
 // How many bytes a line of names has at the most.
-const WIDTH: usize = 120;
+const WIDTH: usize = 100;
 
 // What stands before a further line of names: as much as before the first.
 const INDENT: &str = "             ";

@@ -2,8 +2,8 @@
 //! standard input over it, of which `brokerd picture POLICY` draws a picture; `brokerd kernel FILE` lists the kernels of a
 //! text, `brokerd assemble POLICY` turns readable packets into digits, `brokerd explain WORD` tells what a rule means,
 //! `brokerd threads POLICY` runs a load of threads over a policy, and
-//! `brokerd decode DIGITS` tells the fields of a packet; `brokerd completions SHELL` prints what completes all of these in a
-//! shell.
+//! `brokerd decode DIGITS` tells the fields of a packet; `brokerd policy KERNEL` and `brokerd embed POLICY` make policies of
+//! kernels' files, and `brokerd completions SHELL` prints what completes all of these in a shell.
 
 // The check tries its tactics on what is left of each proof.
 #![tactic(auto)]
@@ -15,7 +15,9 @@ mod explaining;
 mod further;
 mod help;
 mod listing;
+mod making;
 mod meanings;
+mod naming;
 mod perform;
 mod policies;
 mod replayed;

@@ -1,7 +1,7 @@
 //! A check that lists what the policy declares and allows.
 
 use crate::author::{fails, told};
-use crate::explaining::PolicyFile;
+use crate::explaining::{PolicyFile, Tells, tell_entries};
 use crate::policies::{judge, name_blame};
 use commands::Status;
 use policy::Policy;
@@ -41,17 +41,20 @@ fn write_list<O: io::Write, E: io::Write>(
 }
 
 /// Checks the policy in a file as `check_policy` does, and lists on `out`, in place of the counts, what one without a fault
-/// declares and allows. If it explains, it is told after a fault where it lies and what may stand there.
+/// declares and allows. Beside it is told what is to be told.
 pub fn list_policy<O: io::Write, E: io::Write>(
     alloc: Global,
     file: PolicyFile<'_>,
     form: ListForm,
-    explains: bool,
+    tells: Tells,
     out: &mut O,
     err: &mut E,
 ) -> Status {
-    match judge(alloc, file, explains) {
-        Ok(judged) => write_list(listed(alloc, &judged.policy, form), out, err),
+    match judge(alloc, file, tells.faults) {
+        Ok(judged) => match write_list(listed(alloc, &judged.policy, form), out, err) {
+            Status::Done if tells.entries => tell_entries(alloc, file, &judged, err, Status::Done),
+            status => status,
+        },
         Err(blame) => name_blame(alloc, blame, err),
     }
 }

@@ -1,21 +1,22 @@
 //! Does what a command line asks.
 
-use crate::author::{assemble_input, explain, kernel, told};
+use crate::author::{assemble_from, explain, kernel, told};
 use crate::completions::{Shell, completions};
 use crate::decoding::{MOST_DUMP, decode_digits, decode_slots};
-use crate::explaining::{PolicyFile, check_explaining};
+use crate::explaining::{PolicyFile, Tells, check_telling};
 use crate::further::run;
 use crate::listing::{ListForm, list_policy};
+use crate::making::{begin, embed};
+use crate::policies::{judge, name_blame};
 use crate::replayed::{Shown, show_journal};
-use crate::request::{Asked, Invocation, Unread, read_words};
-use crate::retelling::replay_telling;
+use crate::request::{Asked, Invocation, Packets, Unread, read_words};
+use crate::retelling::{Replayed, replay_telling};
 use crate::syntax::{ALWAYS, MOST_NEXT, NEVER};
 use crate::threads::{AskedLoad, run_threads};
 use clap::Error;
-use commands::{Status, check_policy};
+use commands::Status;
 use pages::{Page, rows_of};
-use policy::MOST_POLICY_BYTES;
-use script::Noted;
+use policy::{MOST_POLICY_BYTES, Policy};
 use std::fs::File;
 use std::io::{self, IsTerminal, Read};
 use std::sync::Wait;
@@ -64,19 +65,6 @@ pub fn read_file(rt: &HostRuntime, policy: &str) -> io::Result<Vec<u8>> {
     read_most(rt, policy, (MOST_POLICY_BYTES as u64).saturating_add(1))
 }
 
-// Checks the policy in a file.
-fn check(rt: &HostRuntime, policy: &str) -> Status {
-    match read_file(rt, policy) {
-        Ok(text) => check_policy(
-            rt.alloc(),
-            text.as_slice(),
-            &mut Noted::new(rt.stdout()),
-            &mut Noted::new(rt.stderr()),
-        ),
-        Err(error) => unread_file(rt, &error),
-    }
-}
-
 /// Tells which file couldn't be read, and why.
 pub fn unread_policy(rt: &HostRuntime, file: &str, error: &io::Error) -> Status {
     let status = unread_file(rt, error);
@@ -107,38 +95,39 @@ pub fn unread(rt: &HostRuntime, file: &str, explains: bool, error: &io::Error) -
     }
 }
 
-// Checks the policy in a file, and tells where its fault lies.
-fn check_and_explain(rt: &HostRuntime, policy: &str) -> Status {
+// Checks the policy in a file.
+fn check(rt: &HostRuntime, policy: &str, tells: Tells) -> Status {
     match read_file(rt, policy) {
-        Ok(text) => check_explaining(
+        Ok(text) => check_telling(
             rt.alloc(),
             PolicyFile {
                 name: policy,
                 text: text.as_slice(),
             },
+            tells,
             &mut rt.stdout(),
             &mut rt.stderr(),
         ),
-        Err(error) => unread_policy(rt, policy, &error),
+        Err(error) => unread(rt, policy, tells.faults, &error),
     }
 }
 
-// Assembles the script on standard input by the policy in a file.
-fn assemble_by(rt: &HostRuntime, policy: &str, explains: bool) -> Status {
+// Assembles a script by the policy in a file.
+fn assemble_by(rt: &HostRuntime, policy: &str, script: Option<&str>, explains: bool) -> Status {
     match read_file(rt, policy) {
         Ok(text) => {
             let file = PolicyFile {
                 name: policy,
                 text: text.as_slice(),
             };
-            assemble_input(rt, file, explains)
+            assemble_from(rt, file, script, explains)
         }
         Err(error) => unread(rt, policy, explains, &error),
     }
 }
 
 // Lists what the policy in a file declares.
-fn list(rt: &HostRuntime, policy: &str, form: ListForm, explains: bool) -> Status {
+fn list(rt: &HostRuntime, policy: &str, form: ListForm, tells: Tells) -> Status {
     match read_file(rt, policy) {
         Ok(text) => list_policy(
             rt.alloc(),
@@ -147,19 +136,20 @@ fn list(rt: &HostRuntime, policy: &str, form: ListForm, explains: bool) -> Statu
                 text: text.as_slice(),
             },
             form,
-            explains,
+            tells,
             &mut rt.stdout(),
             &mut rt.stderr(),
         ),
-        Err(error) => unread(rt, policy, explains, &error),
+        Err(error) => unread(rt, policy, tells.faults, &error),
     }
 }
 
 // Tells the slots in a file.
-fn decode_file(rt: &HostRuntime, slots: &str, explains: bool) -> Status {
+fn decode_file(rt: &HostRuntime, slots: &str, policy: Option<&Policy>, explains: bool) -> Status {
     match read_most(rt, slots, MOST_DUMP) {
         Ok(dump) => decode_slots(
             rt.alloc(),
+            policy,
             dump.as_slice(),
             &mut rt.stdout(),
             &mut rt.stderr(),
@@ -176,11 +166,43 @@ fn number_of(ended: Option<Status>) -> u8 {
     }
 }
 
-// Tells the packet of some digits, or the slots in a file.
-fn decode(rt: &HostRuntime, slots: Option<&str>, digits: &[&str], explains: bool) -> u8 {
-    number_of(match slots {
-        Some(file) => Some(decode_file(rt, file, explains)),
-        None => decode_digits(rt.alloc(), digits, &mut rt.stdout(), &mut rt.stderr()),
+// Tells the packet of some digits, or the slots in a file, with the names of a policy, if there is one.
+fn decode_by(
+    rt: &HostRuntime,
+    packets: Packets<'_>,
+    policy: Option<&Policy>,
+    digits: &[&str],
+) -> Option<Status> {
+    let alloc = rt.alloc();
+    match packets.slots {
+        Some(file) => Some(decode_file(rt, file, policy, packets.explains)),
+        None => decode_digits(alloc, policy, digits, &mut rt.stdout(), &mut rt.stderr()),
+    }
+}
+
+// Tells the same by the policy in a file.
+fn decode_named(
+    rt: &HostRuntime,
+    packets: Packets<'_>,
+    name: &str,
+    digits: &[&str],
+) -> Option<Status> {
+    let text = match read_file(rt, name) {
+        Ok(text) => text,
+        Err(error) => return Some(unread(rt, name, packets.explains, &error)),
+    };
+    let text = text.as_slice();
+    match judge(rt.alloc(), PolicyFile { name, text }, packets.explains) {
+        Ok(judged) => decode_by(rt, packets, Some(&judged.policy), digits),
+        Err(blame) => Some(name_blame(rt.alloc(), blame, &mut rt.stderr())),
+    }
+}
+
+// Tells packets as they are asked for.
+fn decode(rt: &HostRuntime, packets: Packets<'_>, digits: &[&str]) -> u8 {
+    number_of(match packets.policy {
+        Some(name) => decode_named(rt, packets, name, digits),
+        None => decode_by(rt, packets, None, digits),
     })
 }
 
@@ -307,9 +329,10 @@ fn perform_shown(rt: &HostRuntime, asked: &Asked<'_>) -> Option<Status> {
         Invocation::PictureOfJournal {
             policy,
             span,
+            output,
             explains,
             journal,
-        } => (policy, Shown::Drawn { span }, explains, journal),
+        } => (policy, Shown::Drawn { span, output }, explains, journal),
         Invocation::ExplainJournal {
             policy,
             explains,
@@ -325,16 +348,20 @@ fn perform_shown(rt: &HostRuntime, asked: &Asked<'_>) -> Option<Status> {
 fn perform_run(rt: &HostRuntime, asked: &Asked<'_>) -> Option<Status> {
     let further = asked.further.as_slice();
     match asked.request {
-        Invocation::Run {
-            policy,
-            manner,
-            journal,
-        } => Some(run(rt, policy, further, manner, journal)),
+        Invocation::Run { policy, manner } => Some(run(rt, policy, further, manner)),
         Invocation::Replay {
             policy,
+            journal,
             tells_state,
             explains,
-        } => Some(replay_telling(rt, policy, further, tells_state, explains)),
+        } => {
+            let asked = Replayed {
+                journal,
+                tells_state,
+                explains,
+            };
+            Some(replay_telling(rt, policy, further, asked))
+        }
         _ => perform_shown(rt, asked),
     }
 }
@@ -342,23 +369,26 @@ fn perform_run(rt: &HostRuntime, asked: &Asked<'_>) -> Option<Status> {
 // Does what is asked of a file that isn't run, of a word or of digits, and tells the exit status.
 fn perform_alone(rt: &HostRuntime, asked: &Asked<'_>) -> u8 {
     match asked.request {
-        Invocation::Check { policy } => check(rt, policy).number(),
-        Invocation::CheckExplaining { policy } => check_and_explain(rt, policy).number(),
+        Invocation::Check { policy, tells } => check(rt, policy, tells).number(),
         Invocation::List {
             policy,
             form,
-            explains,
-        } => list(rt, policy, form, explains).number(),
+            tells,
+        } => list(rt, policy, form, tells).number(),
         Invocation::Kernel {
             file,
             form,
             explains,
         } => kernel(rt, file, form, explains).number(),
-        Invocation::Assemble { policy, explains } => assemble_by(rt, policy, explains).number(),
+        Invocation::Assemble {
+            policy,
+            script,
+            explains,
+        } => assemble_by(rt, policy, script, explains).number(),
+        Invocation::Embed { policy, explains } => embed(rt, policy, explains).number(),
+        Invocation::Begin { explains } => { begin(rt, asked.further.as_slice(), explains).number() }
         Invocation::Explain { word } => number_of(explain(rt, word)),
-        Invocation::Decode { slots, explains } => {
-            decode(rt, slots, asked.further.as_slice(), explains)
-        }
+        Invocation::Decode(packets) => decode(rt, packets, asked.further.as_slice()),
         Invocation::Completions { shell } => print_completions(rt, shell).number(),
         Invocation::Page { page } => print_text(rt, page.text()).number(),
         Invocation::Line { verb } => print_line(rt, verb).number(),

@@ -7,7 +7,7 @@ use commands::{
     Failure, Opened, PolicyText, Setup, Status, Unopened, judge as judge_text, name_failure,
     open_policies, read_further,
 };
-use explain::no_entry;
+use explain::{no_entry, others_told};
 use journal_commands::JournalPolicies;
 use policy::{Policy, PolicyFault, read_policy};
 use script::Noted;
@@ -22,11 +22,23 @@ pub struct Further<'a> {
 }
 
 impl<'a> Further<'a> {
-    // None.
-    fn none() -> Further<'a> {
+    /// None.
+    pub fn none() -> Further<'a> {
         Further {
             names: &[],
             texts: &[],
+        }
+    }
+
+    /// Where the further policy at a place declares others than the first policy.
+    pub fn others(&self, alloc: Global, first: &Policy, at: usize) -> Result<String, AllocError> {
+        let (Some(text), Some(name)) = (self.texts.get(at), self.names.get(at)) else {
+            return Ok(String::new(alloc));
+        };
+        let text = text.bytes();
+        match read_policy(alloc, text) {
+            Ok(other) => others_told(alloc, name, text, first, &other),
+            Err(_) => Ok(String::new(alloc)),
         }
     }
 }
@@ -122,6 +134,41 @@ pub fn judge(alloc: Global, file: PolicyFile<'_>, explains: bool) -> Result<Setu
     match judge_text(alloc, file.text) {
         Ok(setup) => Ok(setup),
         Err(failure) => Err(blame_first(alloc, file, explains, failure)),
+    }
+}
+
+// What is told of a failure of what a policy in a file was made into: where it lies in the file.
+fn made_told(
+    alloc: Global,
+    file: PolicyFile<'_>,
+    made: &[u8],
+    failure: Failure,
+) -> Result<String, AllocError> {
+    match (failure, read_policy(alloc, made)) {
+        (Failure::Policy(fault), _) => fault_told(alloc, file, &fault),
+        (_, Ok(policy)) => of_kernel(alloc, file, &policy, failure),
+        (_, Err(_)) => Ok(String::new(alloc)),
+    }
+}
+
+/// Reads what a policy in a file was made into, and checks its kernels. If it explains, it is told where a fault lies in the
+/// file.
+pub fn judge_made(
+    alloc: Global,
+    file: PolicyFile<'_>,
+    explains: bool,
+    made: &[u8],
+) -> Result<Setup, Blame> {
+    match judge_text(alloc, made) {
+        Ok(setup) => Ok(setup),
+        Err(failure) => {
+            let told = if explains {
+                made_told(alloc, file, made, failure)
+            } else {
+                Ok(String::new(alloc))
+            };
+            Err(Blame { failure, told })
+        }
     }
 }
 

@@ -2,21 +2,21 @@
 
 use crate::explaining::PolicyFile;
 use crate::further::read_files;
-use crate::perform::{STANDARD_INPUT, read_file, unread};
+use crate::perform::{STANDARD_INPUT, read_file, unmade_file, unread};
 use crate::policies::{Further, name_blame, read_policies};
 use commands::{PolicyText, Span, Status};
-use journal_commands::{draw_journal, tell_journal};
+use journal_commands::{JournalPolicies, draw_journal, tell_journal};
 use std::fs::File;
 use std::io;
 
-/// What is done with a journal in a file: of its entries these are drawn, or all are told.
+/// What is done with a journal in a file: of its entries these are drawn, into a file, if one is named, or all are told.
 #[derive(Clone, Copy)]
-pub enum Shown {
-    Drawn { span: Span },
+pub enum Shown<'a> {
+    Drawn { span: Span, output: Option<&'a str> },
     Told,
 }
 
-impl Shown {
+impl Shown<'_> {
     // Whether all is told, and so of a policy's fault what is wrong there.
     fn is_told(self) -> bool {
         matches!(self, Shown::Told)
@@ -35,24 +35,43 @@ fn read_further<'a>(
     }
 }
 
+// Draws a journal, into a file, if one is named.
+fn draw_into<R: io::Read>(
+    rt: &HostRuntime,
+    policies: JournalPolicies,
+    span: Span,
+    output: Option<&str>,
+    explains: bool,
+    journal: &mut R,
+) -> Status {
+    let alloc = rt.alloc();
+    let mut err = rt.stderr();
+    let Some(name) = output else {
+        return draw_journal(alloc, policies, span, journal, &mut rt.stdout(), &mut err);
+    };
+    match File::create(rt, name) {
+        Ok(mut file) => draw_journal(alloc, policies, span, journal, &mut file, &mut err),
+        Err(error) => unmade_file(rt, name, explains, &error),
+    }
+}
+
 // Shows a journal over the policies in files.
 fn show_over<R: io::Read>(
     rt: &HostRuntime,
     file: PolicyFile<'_>,
     further: Further<'_>,
-    shown: Shown,
+    shown: Shown<'_>,
     explains: bool,
     journal: &mut R,
 ) -> Status {
     let alloc = rt.alloc();
-    let mut out = rt.stdout();
     let mut err = rt.stderr();
     match read_policies(alloc, file, further, explains || shown.is_told()) {
         Ok(policies) => match shown {
-            Shown::Drawn { span } => draw_journal(
-                alloc, policies, span, journal, &mut out, &mut err,
+            Shown::Drawn { span, output } => draw_into(
+                rt, policies, span, output, explains, journal,
             ),
-            Shown::Told => tell_journal(alloc, policies, journal, &mut out, &mut err),
+            Shown::Told => tell_journal(alloc, policies, journal, &mut rt.stdout(), &mut err),
         },
         Err(blame) => name_blame(alloc, blame, &mut err),
     }
@@ -63,7 +82,7 @@ fn show_in(
     rt: &HostRuntime,
     file: PolicyFile<'_>,
     further: Further<'_>,
-    shown: Shown,
+    shown: Shown<'_>,
     explains: bool,
     journal: &str,
 ) -> Status {
@@ -82,7 +101,7 @@ pub fn show_journal(
     rt: &HostRuntime,
     policy: &str,
     names: &[&str],
-    shown: Shown,
+    shown: Shown<'_>,
     explains: bool,
     journal: &str,
 ) -> Status {

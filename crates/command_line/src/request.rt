@@ -1,14 +1,18 @@
 //! What the words of a command line ask for.
 
 use crate::completions::Shell;
-use crate::further::{AS_SCRIPTS, Manner};
+use crate::explaining::Tells;
+use crate::further::{Manner, RunFiles};
 use crate::help::further_help;
 use crate::listing::ListForm;
 use crate::meanings::explained;
+use crate::perform::STANDARD_INPUT;
+use crate::policies::Further;
 use crate::syntax::{
-    ALWAYS, ASSEMBLE, AUDIT, CHECK, COMMANDS, COMPLETIONS, DECODE, DIGITS, EXPLAIN, FILE, FROM,
-    HELP, JOURNAL, JSON, KERNEL, LIST, MOST_NEXT, NEXT, PACKETS, PICTURE, POLICY, PRODUCERS,
-    READABLE, REPLAY, RUN, SHELL, SLOTS, STATE, STEPS, STRICT, THREADS, TO, WORD, program,
+    ALWAYS, ASSEMBLE, AUDIT, BEGIN, CHECK, COMMANDS, COMPLETIONS, DECODE, DIGITS, EMBED, EXPLAIN,
+    FILE, FROM, HELP, JOURNAL, JSON, KERNEL, KERNEL_FILES, LIST, MOST_NEXT, NAMES, NEVER, NEXT,
+    OUTPUT, PACKETS, PICTURE, POLICY, PRODUCERS, READABLE, REPLAY, RUN, SCRIPT, SHELL, SLOTS,
+    STATE, STEPS, STRICT, THREADS, TO, WORD, program,
 };
 use clap::error::ErrorKind;
 use clap::{ArgMatches, Error};
@@ -29,41 +33,48 @@ pub struct Reads {
     pub is_json: bool,
 }
 
+/// What packets are told: those in the slots of this file, or else that of the further words; by the names of the policy in
+/// a file, if one is named; and whether it is told why a file can't be read.
+#[derive(Clone, Copy)]
+pub struct Packets<'a> {
+    pub slots: Option<&'a str>,
+    pub policy: Option<&'a str>,
+    pub explains: bool,
+}
+
 /// What a command line asks for (own).
 #[derive(Clone, Copy)]
 pub enum Invocation<'a> {
-    /// `check POLICY`: to check the policy in this file.
+    /// `check POLICY [--explain]`: to check the policy in this file, and to tell this beside its counts.
     Check {
         policy: &'a str,
+        tells: Tells,
     },
     /// `check POLICY --list [--json]`: to check it, and to list what it declares and allows.
     List {
         policy: &'a str,
         form: ListForm,
-        explains: bool,
+        tells: Tells,
     },
-    /// `run POLICY [NEXT..] ..`: to run the script on standard input over the policy in this file, in this manner, and to
-    /// write its history into a file, if one is named. `picture POLICY [NEXT..] ..` with a picture in place of its replies.
+    /// `run POLICY [NEXT..] ..`: to run a script over the policy in this file, in this manner. `picture POLICY [NEXT..] ..` with a picture in place of its replies.
     Run {
         policy: &'a str,
-        manner: Manner,
-        journal: Option<&'a str>,
+        manner: Manner<'a>,
     },
-    /// `check POLICY --explain`: to check a policy, and to tell where its fault lies.
-    CheckExplaining {
-        policy: &'a str,
-    },
-    /// `replay POLICY [NEXT..] [--state] [--explain]`: to replay the journal on standard input, and to print the state that
-    /// it leads to, if that is asked for.
+    /// `replay POLICY [NEXT..] [--journal FILE] [--state] [--explain]`: to replay the journal in a file, or on standard input,
+    /// and to print the state that it leads to, if that is asked for.
     Replay {
         policy: &'a str,
+        journal: &'a str,
         tells_state: bool,
         explains: bool,
     },
-    /// `picture POLICY [NEXT..] --journal FILE [--from N] [--to N]`: to draw the journal in a file, without running it.
+    /// `picture POLICY [NEXT..] --journal FILE [--from N] [--to N] [-o FILE]`: to draw the journal in a file, without running
+    /// it.
     PictureOfJournal {
         policy: &'a str,
         span: Span,
+        output: Option<&'a str>,
         explains: bool,
         journal: &'a str,
     },
@@ -73,10 +84,19 @@ pub enum Invocation<'a> {
         form: Form,
         explains: bool,
     },
-    /// `assemble POLICY`: to turn the script on standard input into one without readable packets, by the policy in
-    /// this file.
+    /// `embed POLICY`: to write a policy with kernels' texts in the place of the files that it names.
+    Embed {
+        policy: &'a str,
+        explains: bool,
+    },
+    /// `policy KERNEL..`: to write a policy to begin with that has the kernels in the files of the further words.
+    Begin {
+        explains: bool,
+    },
+    /// `assemble POLICY [-f FILE]`: to turn a script into one without readable packets, by the policy in this file.
     Assemble {
         policy: &'a str,
+        script: Option<&'a str>,
         explains: bool,
     },
     /// `explain WORD`: to tell what a rule, a refusal or a cause means.
@@ -91,11 +111,8 @@ pub enum Invocation<'a> {
         journal: &'a str,
     },
     /// `decode DIGITS..`: to tell the packet of the further words field by field, `decode --slots FILE` those in the slots of
-    /// a ring.
-    Decode {
-        slots: Option<&'a str>,
-        explains: bool,
-    },
+    /// a ring; with `--policy FILE` by the names of a policy.
+    Decode(Packets<'a>),
     /// `completions SHELL`: to print what completes command lines in this shell.
     Completions {
         shell: Shell,
@@ -121,7 +138,7 @@ pub enum Invocation<'a> {
 }
 
 /// What a command line asks for, and the further words in their order: the files of the further policies of a run or a
-/// picture, at most 16, or the digits of a packet (own).
+/// picture, at most 16, the files of kernels, or the digits of a packet (own).
 #[derive(Drop)]
 pub struct Asked<'a> {
     pub request: Invocation<'a>,
@@ -183,7 +200,7 @@ fn explains_in(asked: &ArgMatches<'_>, unasked: bool) -> bool {
 }
 
 // The manner of a run: strict, explaining, by readable lines and with replies as JSON as is asked.
-fn manner_in(asked: &ArgMatches<'_>, explains: bool) -> Manner {
+fn manner_in<'a>(asked: &ArgMatches<'a>, explains: bool) -> Manner<'a> {
     Manner {
         places: places_in(asked),
         is_strict: asked.get_flag(STRICT),
@@ -194,6 +211,20 @@ fn manner_in(asked: &ArgMatches<'_>, explains: bool) -> Manner {
             is_json: asked.get_flag(JSON),
         },
         drawn: None,
+        files: RunFiles {
+            further: Further::none(),
+            script: file_in(asked, SCRIPT),
+            output: None,
+            journal: asked.get_str(JOURNAL),
+        },
+    }
+}
+
+// The name of a file that an option has; none of `-`, which is standard input, or standard output.
+fn file_in<'a>(asked: &ArgMatches<'a>, option: &str) -> Option<&'a str> {
+    match asked.get_str(option) {
+        Some(STANDARD_INPUT) => None,
+        file => file,
     }
 }
 
@@ -202,17 +233,18 @@ fn run_request<'a>(policy: &'a str, asked: &ArgMatches<'a>, explains: bool) -> I
     Invocation::Run {
         policy,
         manner: manner_in(asked, explains),
-        journal: asked.get_str(JOURNAL),
     }
 }
 
 // The request of `picture` with its arguments.
 fn picture_request<'a>(policy: &'a str, asked: &ArgMatches<'a>, explains: bool) -> Invocation<'a> {
     let span = span_in(asked);
+    let output = file_in(asked, OUTPUT);
     match asked.get_str(JOURNAL) {
         Some(journal) => Invocation::PictureOfJournal {
             policy,
             span,
+            output,
             explains,
             journal,
         },
@@ -223,10 +255,18 @@ fn picture_request<'a>(policy: &'a str, asked: &ArgMatches<'a>, explains: bool) 
                 is_strict: false,
                 is_explaining: explains,
                 is_session: false,
-                reads: AS_SCRIPTS,
+                reads: Reads {
+                    is_readable: asked.get_flag(READABLE),
+                    is_json: false,
+                },
                 drawn: Some(span),
+                files: RunFiles {
+                    further: Further::none(),
+                    script: file_in(asked, SCRIPT),
+                    output,
+                    journal: None,
+                },
             },
-            journal: None,
         },
     }
 }
@@ -256,17 +296,17 @@ fn list_form_in(asked: &ArgMatches<'_>) -> Option<ListForm> {
 
 // The request of `check` with its arguments.
 fn check_request<'a>(policy: &'a str, asked: &ArgMatches<'a>, explains: bool) -> Invocation<'a> {
-    if let Some(form) = list_form_in(asked) {
-        return Invocation::List {
+    let tells = Tells {
+        faults: explains,
+        entries: asked.get_str(EXPLAIN) != Some(NEVER),
+    };
+    match list_form_in(asked) {
+        Some(form) => Invocation::List {
             policy,
             form,
-            explains,
-        };
-    }
-    if explains {
-        Invocation::CheckExplaining { policy }
-    } else {
-        Invocation::Check { policy }
+            tells,
+        },
+        None => Invocation::Check { policy, tells },
     }
 }
 
@@ -281,9 +321,15 @@ fn policy_request<'a>(
         CHECK => Some(check_request(policy, asked, explains)),
         RUN => Some(run_request(policy, asked, explains)),
         PICTURE => Some(picture_request(policy, asked, explains)),
-        ASSEMBLE => Some(Invocation::Assemble { policy, explains }),
+        ASSEMBLE => Some(Invocation::Assemble {
+            policy,
+            script: file_in(asked, SCRIPT),
+            explains,
+        }),
+        EMBED => Some(Invocation::Embed { policy, explains }),
         REPLAY => Some(Invocation::Replay {
             policy,
+            journal: asked.get_str(JOURNAL).unwrap_or(STANDARD_INPUT),
             tells_state: asked.get_flag(STATE),
             explains,
         }),
@@ -311,8 +357,12 @@ fn form_in(asked: &ArgMatches<'_>) -> Form {
 fn request_of<'a>(command: &str, asked: &ArgMatches<'a>, unasked: bool) -> Option<Invocation<'a>> {
     match command {
         EXPLAIN => Some(explain_request(asked.get_str(WORD)?, asked, unasked)),
-        DECODE => Some(Invocation::Decode {
+        DECODE => Some(Invocation::Decode(Packets {
             slots: asked.get_str(SLOTS),
+            policy: asked.get_str(NAMES),
+            explains: explains_in(asked, unasked),
+        })),
+        BEGIN => Some(Invocation::Begin {
             explains: explains_in(asked, unasked),
         }),
         COMPLETIONS => Some(Invocation::Completions {
@@ -362,9 +412,10 @@ fn is_backwards(request: &Invocation<'_>) -> bool {
     }
 }
 
-// Whether a request takes these further words; the digits of a packet are as many as the command line takes.
+// Whether a request takes these further words; digits of a packet, and files of kernels, are as many as the command line
+// takes.
 fn take_words(command: &str, request: &Invocation<'_>, further: &[&str]) -> Result<(), Unread> {
-    if command == DECODE {
+    if command == DECODE || command == BEGIN {
         Ok(())
     } else if further.len() > MOST_NEXT {
         Err(Unread::TooManyPolicies)
@@ -391,7 +442,11 @@ fn with_words<'a>(
 
 // The name of the argument that has the further words of a command.
 fn further_of(command: &str) -> &'static str {
-    if command == DECODE { DIGITS } else { NEXT }
+    match command {
+        DECODE => DIGITS,
+        BEGIN => KERNEL_FILES,
+        _ => NEXT,
+    }
 }
 
 // What a command with its arguments asks for.

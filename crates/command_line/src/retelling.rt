@@ -2,17 +2,32 @@
 
 use crate::explaining::PolicyFile;
 use crate::further::{beside_input, read_files};
-use crate::perform::{read_file, unread};
+use crate::perform::{STANDARD_INPUT, read_file, unread};
 use crate::policies::{Further, name_blame, read_policies};
 use crate::terminal::TerminalReader;
 use commands::Status;
 use journal_commands::{JournalPolicies, replay_journal};
+use std::fs::File;
+use std::io;
 
-// Replays the journal on standard input, and counts its lines on a terminal.
-fn replay_input(rt: &HostRuntime, policies: JournalPolicies, tells_state: bool) -> Status {
-    let mut stdin = rt.stdin();
+/// What is asked of a replay: of the journal in this file, or on standard input; whether the state that it leads to is
+/// printed; and whether it is told why.
+#[derive(Clone, Copy)]
+pub struct Replayed<'a> {
+    pub journal: &'a str,
+    pub tells_state: bool,
+    pub explains: bool,
+}
+
+// Replays a journal, and counts its lines on a terminal.
+fn replay_read<R: io::Read>(
+    rt: &HostRuntime,
+    policies: JournalPolicies,
+    tells_state: bool,
+    journal: &mut R,
+) -> Status {
     let mut counts = rt.stderr();
-    let mut journal = TerminalReader::new(rt.alloc(), &mut stdin, &mut counts, beside_input(rt));
+    let mut journal = TerminalReader::new(rt.alloc(), journal, &mut counts, beside_input(rt));
     replay_journal(
         rt.alloc(),
         policies,
@@ -23,16 +38,26 @@ fn replay_input(rt: &HostRuntime, policies: JournalPolicies, tells_state: bool) 
     )
 }
 
+// Replays the journal in a file, or on standard input.
+fn replay_from(rt: &HostRuntime, policies: JournalPolicies, asked: Replayed<'_>) -> Status {
+    if asked.journal == STANDARD_INPUT {
+        return replay_read(rt, policies, asked.tells_state, &mut rt.stdin());
+    }
+    match File::open(rt, asked.journal) {
+        Ok(mut opened) => replay_read(rt, policies, asked.tells_state, &mut opened),
+        Err(error) => unread(rt, asked.journal, asked.explains, &error),
+    }
+}
+
 // The same over the policies in files. A fault of one is named, and if it explains, told after that.
 fn replay_over(
     rt: &HostRuntime,
     file: PolicyFile<'_>,
     further: Further<'_>,
-    tells_state: bool,
-    explains: bool,
+    asked: Replayed<'_>,
 ) -> Status {
-    match read_policies(rt.alloc(), file, further, explains) {
-        Ok(policies) => replay_input(rt, policies, tells_state),
+    match read_policies(rt.alloc(), file, further, asked.explains) {
+        Ok(policies) => replay_from(rt, policies, asked),
         Err(blame) => name_blame(rt.alloc(), blame, &mut rt.stderr()),
     }
 }
@@ -42,8 +67,7 @@ fn replay_behind(
     rt: &HostRuntime,
     file: PolicyFile<'_>,
     names: &[&str],
-    tells_state: bool,
-    explains: bool,
+    asked: Replayed<'_>,
 ) -> Status {
     let mut texts = Vec::new(rt.alloc());
     match read_files(rt, names, &mut texts) {
@@ -52,23 +76,22 @@ fn replay_behind(
                 names,
                 texts: texts.as_slice(),
             };
-            replay_over(rt, file, further, tells_state, explains)
+            replay_over(rt, file, further, asked)
         }
         Err(error) => {
             let name = names.get(texts.len()).unwrap_or(&file.name);
-            unread(rt, name, explains, &error)
+            unread(rt, name, asked.explains, &error)
         }
     }
 }
 
-/// Replays the journal on standard input over the policy in a file as `replay` does, counts its lines where standard error
-/// is a terminal, and tells, if it explains, which file couldn't be read, and where a policy's fault lies.
+/// Replays a journal over the policy in a file as `replay` does, counts its lines where standard error is a terminal, and
+/// tells, if it explains, which file couldn't be read, and where a policy's fault lies.
 pub fn replay_telling(
     rt: &HostRuntime,
     policy: &str,
     names: &[&str],
-    tells_state: bool,
-    explains: bool,
+    asked: Replayed<'_>,
 ) -> Status {
     match read_file(rt, policy) {
         Ok(text) => {
@@ -76,8 +99,8 @@ pub fn replay_telling(
                 name: policy,
                 text: text.as_slice(),
             };
-            replay_behind(rt, file, names, tells_state, explains)
+            replay_behind(rt, file, names, asked)
         }
-        Err(error) => unread(rt, policy, explains, &error),
+        Err(error) => unread(rt, policy, asked.explains, &error),
     }
 }

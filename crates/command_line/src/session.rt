@@ -1,13 +1,38 @@
-//! What a person at a terminal may ask beside the lines of a script: `help`, and `help WORD`.
+//! What a person at a terminal may ask beside the lines of a script: `help`, `help WORD`, `state`, `why` and `quit`.
 
 use crate::help::further_help;
 use crate::meanings::explained;
+use explain::state_of;
 use pages::{Page, rows_of};
 use std::alloc::{AllocError, Global};
+use world::World;
 
 /// What is told as a session begins.
 pub const GREETING: &str =
-    "a line is a request: `help` lists them, `help WORD` tells of one; the end of input, Ctrl-D, ends";
+    "a line is a request: `help` lists them, `help WORD` tells of one; `state` tells what there is, `why` of the last refusal, `quit` or Ctrl-D ends";
+
+/// What is told of `why` where nothing was refused yet, or explanations are off.
+pub const NOTHING_REFUSED: &str = "nothing was refused, denied or failed yet\n";
+
+pub const NOTHING_EXPLAINED: &str = "nothing is explained with `--explain=never`\n";
+
+/// What is told of a line with the bytes that a key which moves the cursor sends.
+const KEYS: &str =
+    "the line has a key that moves the cursor, as an arrow: nothing edits a line here, rlwrap does (docs/terminal.md)\n";
+
+// What such a key's bytes begin with.
+const ESCAPE: u8 = 0x1b;
+
+/// What a person asks who is prompted, and what no line of a script asks.
+#[derive(Clone, Copy, Debug, PartialEq, Eq)]
+pub enum Prompted {
+    /// What there is.
+    State,
+    /// Why the last line was refused that was.
+    Why,
+    /// That the run ends.
+    Quit,
+}
 
 // What is asked of `help`, if a line asks it: nothing, or the first of the words after it.
 fn help_asked(line: &str) -> Option<&str> {
@@ -50,4 +75,33 @@ pub fn help_told(alloc: Global, line: &[u8]) -> Option<Result<String, AllocError
     } else {
         word_told(alloc, word)
     })
+}
+
+// What some words ask, if it is that.
+fn prompted_by(words: &str) -> Option<Prompted> {
+    match words {
+        "state" => Some(Prompted::State),
+        "why" => Some(Prompted::Why),
+        "quit" | "exit" => Some(Prompted::Quit),
+        _ => None,
+    }
+}
+
+/// What a line asks of this, if it does.
+pub fn read_prompted(line: &[u8]) -> Option<Prompted> {
+    prompted_by(std::str::from_utf8(line).ok()?.trim())
+}
+
+/// What is told of a line's bytes behind why it has no form: of keys that move the cursor, or nothing.
+pub fn keys_told(line: &[u8]) -> &'static str {
+    if line.contains(&ESCAPE) { KEYS } else { "" }
+}
+
+/// What there is, told to a person.
+pub fn state_told(alloc: Global, world: &World) -> Result<String, AllocError> {
+    let state = state_of(alloc, world)?;
+    let count = state.count;
+    let mut told = format!(in alloc; "state {count}\n")?;
+    told.push_str(state.lines.as_str())?;
+    Ok(told)
 }

@@ -26,6 +26,12 @@ pub const READABLE: &str = "readable";
 /// The option that names the file of a journal: of the one that a run writes, or that is drawn or told.
 pub const JOURNAL: &str = "journal";
 
+/// The option that names the file of a script.
+pub const SCRIPT: &str = "script";
+
+/// The option that names the file into which a picture is written.
+pub const OUTPUT: &str = "output";
+
 /// The name of the command that replays a journal.
 pub const REPLAY: &str = "replay";
 
@@ -90,6 +96,15 @@ pub const THREADS: &str = "threads";
 /// The name of the command that tells a packet's bytes field by field.
 pub const DECODE: &str = "decode";
 
+/// The name of the command that writes a policy with kernels' texts in their place.
+pub const EMBED: &str = "embed";
+
+/// The name of the command that writes a policy to begin with.
+pub const BEGIN: &str = "policy";
+
+/// The argument that names the files of kernels.
+pub const KERNEL_FILES: &str = "KERNEL";
+
 /// The name of the command that prints what completes command lines in a shell.
 pub const COMPLETIONS: &str = "completions";
 
@@ -102,6 +117,9 @@ pub const DIGITS: &str = "DIGITS";
 /// The option that names the dump of a ring's slots.
 pub const SLOTS: &str = "slots";
 
+/// The option that names the policy by which packets are told.
+pub const NAMES: &str = "policy";
+
 /// The option that says how many producers each queue has.
 pub const PRODUCERS: &str = "producers";
 
@@ -109,11 +127,13 @@ pub const PRODUCERS: &str = "producers";
 pub const PACKETS: &str = "packets";
 
 /// The names of all commands.
-pub const COMMANDS: [&str; 11] = [
+pub const COMMANDS: [&str; 13] = [
     CHECK,
     RUN,
     PICTURE,
     KERNEL,
+    BEGIN,
+    EMBED,
     ASSEMBLE,
     REPLAY,
     EXPLAIN,
@@ -128,6 +148,9 @@ const MOST_PLACES: u64 = 1_048_576;
 
 /// How many words the digits of a packet have at the most: one for each byte.
 const MOST_PARTS: usize = 64;
+
+// How many files of kernels make a policy at the most: as many as a policy may have kernels.
+const MOST_FILES: usize = 64;
 
 /// The names of the shells whose command lines can be completed.
 pub const SHELLS: [&str; 3] = ["bash", "zsh", "fish"];
@@ -145,10 +168,14 @@ pub enum Takes {
     Word,
     /// So many words at the most.
     Words(usize),
+    /// The same, and one at least.
+    Some(usize),
     /// Nothing: an option that is given or not.
     Nothing,
     /// A value of this name, after an option.
     Value(&'static str),
+    /// A file's name, after an option that is a letter too.
+    Lettered(char),
     /// A number from 1 to this one, after an option.
     Number(u64),
     /// The same, after an option that must be given.
@@ -159,22 +186,22 @@ pub enum Takes {
     Shell,
 }
 
-/// An argument: its name, that of an option too; what it takes; what the help says of it; and the argument that it
-/// contradicts, if there is one.
+/// An argument: its name, that of an option too; what it takes; what the help says of it; and the arguments that it
+/// contradicts.
 #[derive(Clone, Copy)]
 pub struct Argument {
     pub name: &'static str,
     pub takes: Takes,
     pub help: &'static str,
-    pub contradicts: Option<&'static str>,
+    pub contradicts: &'static [&'static str],
 }
 
 macro_rules! argument {
     ($name:expr, $takes:expr, $help:literal) => {
-        Argument { name: $name, takes: $takes, help: $help, contradicts: None }
+        Argument { name: $name, takes: $takes, help: $help, contradicts: &[] }
     };
-    ($name:expr, $takes:expr, $help:literal, not with $other:expr) => {
-        Argument { name: $name, takes: $takes, help: $help, contradicts: Some($other) }
+    ($name:expr, $takes:expr, $help:literal, not with $others:expr) => {
+        Argument { name: $name, takes: $takes, help: $help, contradicts: &$others }
     };
 }
 
@@ -183,19 +210,31 @@ const POLICY_FILE: Argument = argument!(POLICY, Takes::Word, "The policy file");
 const FURTHER_FILES: Argument = argument!(
     NEXT,
     Takes::Words(MOST_NEXT),
-    "The files of further policies, at most 16: `reload N` in the script puts the N-th in force"
+    "The files of further policies, at most 16: `reload N` puts the N-th in force"
 );
 
 const AUDIT_PLACES: Argument = argument!(
     AUDIT,
     Takes::Number(MOST_PLACES),
-    "How many entries the audit has place for, 1 to 1048576; 65536 if not given"
+    "How many entries the audit has place for, 1 to 1048576; else 65536"
 );
 
 const EXPLAINING: Argument = argument!(
     EXPLAIN,
     Takes::When,
-    "Tells on standard error after each fault, refusal and denial why, and what mends it: `always` or `never`; if not given, where standard error is a terminal"
+    "Tells on standard error after each fault, refusal and denial why, and\nwhat mends it; if not given, where standard error is a\nterminal"
+);
+
+const SCRIPT_FILE: Argument = argument!(
+    SCRIPT,
+    Takes::Lettered('f'),
+    "The file of the script; standard input if not given"
+);
+
+const JOURNAL_FILE: Argument = argument!(
+    JOURNAL,
+    Takes::Value("FILE"),
+    "The file of the journal; standard input if not given"
 );
 
 const CHECK_ARGUMENTS: [Argument; 4] = [
@@ -203,7 +242,7 @@ const CHECK_ARGUMENTS: [Argument; 4] = [
     argument!(
         LIST,
         Takes::Nothing,
-        "Lists in place of the counts what is declared, and the rights that each client may have"
+        "Lists in place of the counts what is declared, and the rights that each\nclient may have"
     ),
     argument!(
         JSON,
@@ -213,19 +252,20 @@ const CHECK_ARGUMENTS: [Argument; 4] = [
     EXPLAINING,
 ];
 
-const RUN_ARGUMENTS: [Argument; 8] = [
+const RUN_ARGUMENTS: [Argument; 9] = [
     POLICY_FILE,
     FURTHER_FILES,
+    SCRIPT_FILE,
     AUDIT_PLACES,
     argument!(
         STRICT,
         Takes::Nothing,
-        "Ends with status 1 after the first line that is refused, denied, faulted or failed"
+        "Ends with status 1 after the first line that is refused, denied,\nfaulted or failed"
     ),
     argument!(
         READABLE,
         Takes::Nothing,
-        "Takes the lines of readable scripts too, as `assemble` does, and `drain` (docs/assemble.md)"
+        "Takes the lines of readable scripts too, as `assemble` does, and `drain`\n(docs/assemble.md)"
     ),
     argument!(
         JSON,
@@ -235,14 +275,15 @@ const RUN_ARGUMENTS: [Argument; 8] = [
     argument!(
         JOURNAL,
         Takes::Value("FILE"),
-        "Writes the history into this file as it goes, for `replay`; the audit is rotated then"
+        "Writes the history into this file as it goes, for `replay`; the audit is\nrotated then"
     ),
     EXPLAINING,
 ];
 
-const REPLAY_ARGUMENTS: [Argument; 4] = [
+const REPLAY_ARGUMENTS: [Argument; 5] = [
     POLICY_FILE,
     FURTHER_FILES,
+    JOURNAL_FILE,
     argument!(
         STATE,
         Takes::Nothing,
@@ -251,14 +292,26 @@ const REPLAY_ARGUMENTS: [Argument; 4] = [
     EXPLAINING,
 ];
 
-const PICTURE_ARGUMENTS: [Argument; 7] = [
+const PICTURE_ARGUMENTS: [Argument; 10] = [
     POLICY_FILE,
     FURTHER_FILES,
+    SCRIPT_FILE,
+    argument!(
+        OUTPUT,
+        Takes::Lettered('o'),
+        "The file into which the picture is written; standard output if not given"
+    ),
     AUDIT_PLACES,
+    argument!(
+        READABLE,
+        Takes::Nothing,
+        "Takes the lines of readable scripts too, as `assemble` does, and `drain`\n(docs/assemble.md)",
+        not with [JOURNAL]
+    ),
     argument!(
         FROM,
         Takes::Number(MOST_ENTRY),
-        "The number of the first entry that is drawn; of more than 5000 the last 5000 are"
+        "The number of the first entry that is drawn; of more than 20000 the last\n20000 are"
     ),
     argument!(
         TO,
@@ -268,8 +321,8 @@ const PICTURE_ARGUMENTS: [Argument; 7] = [
     argument!(
         JOURNAL,
         Takes::Value("FILE"),
-        "Draws the journal in this file in place of a script's run; nothing is run",
-        not with AUDIT
+        "Draws the journal in this file, - for standard input, in place of a\nscript's run; nothing is run",
+        not with [AUDIT, SCRIPT]
     ),
     EXPLAINING,
 ];
@@ -279,18 +332,36 @@ const KERNEL_ARGUMENTS: [Argument; 3] = [
     argument!(
         STEPS,
         Takes::Nothing,
-        "Lists in place of the text the steps that it was turned into, as cases have them"
+        "Lists in place of the text the steps that it was turned into, as cases\nhave them"
     ),
     EXPLAINING,
 ];
 
-const ASSEMBLE_ARGUMENTS: [Argument; 2] = [POLICY_FILE, EXPLAINING];
+const EMBED_ARGUMENTS: [Argument; 2] = [
+    argument!(
+        POLICY,
+        Takes::Word,
+        "The policy file; a row of kernels may name a file by `text_file`, from its folder on"
+    ),
+    EXPLAINING,
+];
+
+const BEGIN_ARGUMENTS: [Argument; 2] = [
+    argument!(
+        KERNEL_FILES,
+        Takes::Some(MOST_FILES),
+        "The files of kernels' texts, at most 64; - is standard input"
+    ),
+    EXPLAINING,
+];
+
+const ASSEMBLE_ARGUMENTS: [Argument; 3] = [POLICY_FILE, SCRIPT_FILE, EXPLAINING];
 
 const EXPLAIN_ARGUMENTS: [Argument; 3] = [
     argument!(
         WORD,
         Takes::Word,
-        "A rule as L8, a refusal or a cause by its name, or a number; with --journal the policy file"
+        "A rule as L8, a refusal or a cause by its name, or a number; with --journal the\npolicy file"
     ),
     argument!(
         NEXT,
@@ -300,11 +371,11 @@ const EXPLAIN_ARGUMENTS: [Argument; 3] = [
     argument!(
         JOURNAL,
         Takes::Value("FILE"),
-        "Tells the journal in this file, over the policy in WORD: its entries, and why packets were denied or failed"
+        "Tells the journal in this file, - for standard input, over the policy\nin WORD: its entries, and why packets were denied or failed"
     ),
 ];
 
-const DECODE_ARGUMENTS: [Argument; 3] = [
+const DECODE_ARGUMENTS: [Argument; 4] = [
     argument!(
         DIGITS,
         Takes::Words(MOST_PARTS),
@@ -314,7 +385,12 @@ const DECODE_ARGUMENTS: [Argument; 3] = [
         SLOTS,
         Takes::Value("FILE"),
         "Reads in their place the slots of a ring, 64 bytes each, from a file",
-        not with DIGITS
+        not with [DIGITS]
+    ),
+    argument!(
+        NAMES,
+        Takes::Value("FILE"),
+        "The policy file: what its kernels, signals and addresses are called is\ntold, too"
     ),
     EXPLAINING,
 ];
@@ -355,6 +431,15 @@ fn words<'a>(alloc: Global, name: &'a str, most: usize, help: &'a str) -> Arg<'a
         .help(help)
 }
 
+// The same, of which one at least must be given.
+fn some<'a>(alloc: Global, name: &'a str, most: usize, help: &'a str) -> Arg<'a> {
+    Arg::new(alloc, name)
+        .required(true)
+        .num_args(1..=most)
+        .action(ArgAction::Append)
+        .help(help)
+}
+
 // An option that takes nothing.
 fn flag<'a>(alloc: Global, name: &'a str, help: &'a str) -> Arg<'a> {
     Arg::new(alloc, name)
@@ -370,6 +455,11 @@ fn option<'a>(alloc: Global, name: &'a str, value: &'a str, help: &'a str) -> Ar
         .value_name(value)
         .action(ArgAction::Set)
         .help(help)
+}
+
+// An option that takes a file's name, by a letter too.
+fn lettered<'a>(alloc: Global, name: &'a str, letter: char, help: &'a str) -> Arg<'a> {
+    option(alloc, name, "FILE", help).short(letter)
 }
 
 // An option that takes a number from 1 to this one.
@@ -398,8 +488,10 @@ fn made_alone<'a>(alloc: Global, argument: &Argument) -> Arg<'a> {
     match argument.takes {
         Takes::Word => word(alloc, name, help),
         Takes::Words(most) => words(alloc, name, most, help),
+        Takes::Some(most) => some(alloc, name, most, help),
         Takes::Nothing => flag(alloc, name, help),
         Takes::Value(value) => option(alloc, name, value, help),
+        Takes::Lettered(letter) => lettered(alloc, name, letter, help),
         Takes::Number(most) => number(alloc, name, most, help),
         Takes::Count(most) => count(alloc, name, most, help),
         Takes::When => when(alloc, name, help),
@@ -410,9 +502,10 @@ fn made_alone<'a>(alloc: Global, argument: &Argument) -> Arg<'a> {
 // An argument as clap has it.
 fn made<'a>(alloc: Global, argument: &Argument) -> Result<Arg<'a>, Error> {
     let made = made_alone(alloc, argument);
-    match argument.contradicts {
-        Some(other) => Ok(made.conflicts_with(other)?),
-        None => Ok(made),
+    if argument.contradicts.is_empty() {
+        Ok(made)
+    } else {
+        Ok(made.conflicts_with_all(argument.contradicts)?)
     }
 }
 
@@ -450,32 +543,55 @@ const COMPLETIONS_ARGUMENTS: [Argument; 1] = [argument!(
     "The shell: bash, zsh or fish"
 )];
 
-/// A command of the program: its name, what the help says of it, and its arguments.
+/// A command of the program: its name, what the help says of it and behind its arguments, and these.
 #[derive(Clone, Copy)]
 pub struct Described {
     pub name: &'static str,
     pub about: &'static str,
+    pub behind: &'static str,
     pub arguments: &'static [Argument],
 }
 
 macro_rules! command_table {
-    ($($name:ident $about:literal $arguments:ident;)*) => {
-        [$(Described { name: $name, about: $about, arguments: &$arguments }),*]
+    ($($name:ident $about:literal $arguments:ident $example:literal $ends:literal;)*) => {
+        [$(Described {
+            name: $name,
+            about: $about,
+            behind: concat!(
+                "Example: brokerd ", $example, "\n\nExit status: 0 ", $ends,
+                ";\n2 the command line isn't understood; 3 reading, writing or memory failed."
+            ),
+            arguments: &$arguments,
+        }),*]
     };
 }
 
 /// The commands, in the order in which the help has them.
-pub const DESCRIBED: [Described; 10] = command_table! {
-    CHECK "Checks a policy: counts its rows, or names its first fault" CHECK_ARGUMENTS;
-    RUN "Runs the script on standard input over a policy, and writes the replies" RUN_ARGUMENTS;
-    PICTURE "Runs the script on standard input over a policy, and writes a picture of the run, an SVG page" PICTURE_ARGUMENTS;
-    KERNEL "Reads and checks a kernel's text, and lists its kernels with their layout and steps" KERNEL_ARGUMENTS;
-    ASSEMBLE "Turns a script with readable packets, on standard input, into one that run takes" ASSEMBLE_ARGUMENTS;
-    REPLAY "Replays the journal on standard input, and tells whether it is a legal history" REPLAY_ARGUMENTS;
-    EXPLAIN "Tells what a rule, a refusal or a cause of a fault means, or what happened in a journal" EXPLAIN_ARGUMENTS;
-    DECODE "Tells a packet's 64 bytes field by field, and the first of L1 to L3 that they break" DECODE_ARGUMENTS;
-    THREADS "Runs producers and lanes on threads over a policy, and reports what came of it" THREADS_ARGUMENTS;
-    COMPLETIONS "Prints a text by which a shell completes commands and options of this program" COMPLETIONS_ARGUMENTS;
+pub const DESCRIBED: [Described; 12] = command_table! {
+    CHECK "Checks a policy: counts its rows, or names its first fault" CHECK_ARGUMENTS
+        "check mine.toml --explain" "the policy is right; 1 it is refused";
+    RUN "Runs a script over a policy, and writes the replies" RUN_ARGUMENTS
+        "run mine.toml -f mine.script --explain" "the script ran to its end; 1 the policy or a line is refused";
+    PICTURE "Runs a script over a policy, and writes a picture of the run, an SVG page" PICTURE_ARGUMENTS
+        "picture mine.toml -f mine.script -o run.svg" "it is drawn; 1 the policy, a line or the journal is refused";
+    KERNEL "Reads and checks a kernel's text, and lists its kernels with their layout and steps" KERNEL_ARGUMENTS
+        "kernel inc.hsail" "the text is right; 1 it has a fault";
+    BEGIN "Writes a policy to begin with that has the kernels in these files" BEGIN_ARGUMENTS
+        "policy inc.hsail > mine.toml" "it is written; 1 a kernel has a fault";
+    EMBED "Writes a policy with kernels' texts in the place of the files that it names" EMBED_ARGUMENTS
+        "embed making.toml > mine.toml" "it is written; 1 the policy or a kernel has a fault";
+    ASSEMBLE "Turns a script with readable packets into one that run takes" ASSEMBLE_ARGUMENTS
+        "assemble mine.toml -f readable.script > mine.script" "it is written; 1 the policy or a line is refused";
+    REPLAY "Replays a journal, and tells whether it is a legal history" REPLAY_ARGUMENTS
+        "replay mine.toml --journal run.journal --state" "the journal is legal; 1 it isn't, or the policy is refused";
+    EXPLAIN "Tells what a rule, a refusal or a cause of a fault means, or what a journal has" EXPLAIN_ARGUMENTS
+        "explain L8" "it is told; 1 the policy or the journal is refused";
+    DECODE "Tells a packet's 64 bytes field by field, and the first of L1 to L3 that they break" DECODE_ARGUMENTS
+        "decode --slots ring.dump" "the packets break none of L1 to L3; 1 one does";
+    THREADS "Runs producers and lanes on threads over a policy, and reports what came of it" THREADS_ARGUMENTS
+        "threads mine.toml --producers 2" "all is settled; 1 it isn't, or the policy is refused";
+    COMPLETIONS "Prints a text by which a shell completes commands and options of this program" COMPLETIONS_ARGUMENTS
+        "completions bash" "it is printed";
 };
 
 // A program with one command more.
@@ -484,7 +600,7 @@ fn with<'a>(
     program: Command<'a>,
     described: &Described,
 ) -> Result<Command<'a>, Error> {
-    let command = named(alloc, described.name, described.about);
+    let command = named(alloc, described.name, described.about).after_help(described.behind);
     with_command(
         program,
         with_arguments(alloc, command, described.arguments)?,

@@ -1,15 +1,18 @@
 //! The watchers of a run: one tells why beside its replies, and of lines of no form; another writes its history.
 
 use crate::author::told as write_told;
-use crate::session::help_told;
+use crate::policies::Further;
+use crate::session::{
+    NOTHING_EXPLAINED, NOTHING_REFUSED, Prompted, help_told, keys_told, read_prompted, state_told,
+};
 use commands::{Failure, Status, Stop, Stops, name_failure};
 use explain::{Asked, asked_by, bad_line, retold};
 use journal_commands::{JournalFault, JournalWriter};
-use script::{Command, Flow, LineReply, Noted, Turn, Watch};
+use script::{Command, Flow, LineReply, Noted, Turn, Watch, strictly, write_line};
 use std::alloc::{AllocError, Global};
 use std::io;
 use std::io::Write;
-use world::World;
+use world::{Refusal, World};
 
 /// What a watcher tells.
 #[derive(Clone, Copy)]
@@ -18,7 +21,7 @@ pub struct Telling {
     pub of_replies: bool,
     /// Of a line of no form, what is wrong there.
     pub of_lines: bool,
-    /// Whether the run goes on behind such a line, and answers lines that ask for help.
+    /// Whether the run goes on behind such a line, and answers what a person asks who is prompted.
     pub goes_on: bool,
     /// Whether its lines may be readable.
     pub is_readable: bool,
@@ -26,16 +29,23 @@ pub struct Telling {
 
 /// A watcher that tells beside the replies what is asked.
 #[derive(Drop)]
-pub struct Teller<'a, E> {
+pub struct Teller<'a, 'p, E> {
     alloc: Global,
     err: &'a mut E,
     telling: Telling,
-    // How many further policies lines may name.
-    later: usize,
-    // What the line asked that was asked last.
+    // The further policies, which lines may name by their numbers.
+    further: Further<'p>,
+    // What the line asked that was asked last, and the further policy that it handed in.
     asked: Asked,
+    handed: Option<usize>,
+    // The file of the policy that a reload has put in force.
+    in_force: Option<&'p str>,
     // What is to be told at the next turn.
     told: String,
+    // Of a person's run the last reply that something was refused, denied or failed, with what was told of it.
+    refused: String,
+    // What a person asked beside that.
+    prompted: Option<Prompted>,
     // Whether memory was wanted for that, and whether the run has gone on behind a line of no form.
     wants_memory: bool,
     has_gone_on: bool,
@@ -48,6 +58,8 @@ pub enum TellFault {
     OutOfMemory,
     /// Nothing can be told.
     Write,
+    /// The person who is prompted ends it.
+    Quit,
 }
 
 impl Stops for TellFault {
@@ -59,20 +71,35 @@ impl Stops for TellFault {
         match self {
             TellFault::OutOfMemory => Stop::Named(Failure::OutOfMemory),
             TellFault::Write => Stop::Quiet(Status::Failed),
+            TellFault::Quit => Stop::Quiet(Status::Done),
         }
     }
 }
 
-impl<'a, E: io::Write> Teller<'a, E> {
-    /// One that has seen nothing yet, in a run with so many further policies.
-    pub fn new(alloc: Global, telling: Telling, later: usize, err: &'a mut E) -> Teller<'a, E> {
+// The place of the further policy of a number, which counts from 1.
+fn place_before(number: u64) -> Option<usize> {
+    usize::try_from(number).ok()?.checked_sub(1)
+}
+
+impl<'a, 'p, E: io::Write> Teller<'a, 'p, E> {
+    /// One that has seen nothing yet, in a run with these further policies.
+    pub fn new(
+        alloc: Global,
+        telling: Telling,
+        further: Further<'p>,
+        err: &'a mut E,
+    ) -> Teller<'a, 'p, E> {
         Teller {
             alloc,
             err,
             telling,
-            later,
+            further,
             asked: Asked::Nothing,
+            handed: None,
+            in_force: None,
             told: String::new(alloc),
+            refused: String::new(alloc),
+            prompted: None,
             wants_memory: false,
             has_gone_on: false,
         }
@@ -84,7 +111,8 @@ impl<'a, E: io::Write> Teller<'a, E> {
             format!(in self.alloc; "{wanted}\n")
         } else if self.telling.of_lines {
             let is_readable = self.telling.is_readable;
-            bad_line(self.alloc, line, number, self.later, is_readable)
+            let later = self.further.texts.len();
+            bad_line(self.alloc, line, number, later, is_readable)
         } else {
             Ok(String::new(self.alloc))
         }
@@ -102,10 +130,97 @@ impl<'a, E: io::Write> Teller<'a, E> {
         if let Some(help) = help_told(self.alloc, line) {
             return self.told.push_str(help?.as_str());
         }
+        self.prompted = read_prompted(line);
+        if self.prompted.is_some() {
+            return Ok(());
+        }
         self.has_gone_on = true;
         let failure = Failure::Line(number);
         writeln!(self.told, "{failure}")?;
         self.put_line(number, line, wanted);
+        self.told.push_str(keys_told(line))
+    }
+
+    // What the last refusal is told as once more.
+    fn refusal(&self) -> &str {
+        if !self.telling.of_replies {
+            NOTHING_EXPLAINED
+        } else if self.refused.is_empty() {
+            NOTHING_REFUSED
+        } else {
+            self.refused.as_str()
+        }
+    }
+
+    fn refusal_told(&self) -> Result<String, AllocError> {
+        let refusal = self.refusal();
+        format!(in self.alloc; "{refusal}")
+    }
+
+    // Puts what a person asked behind the rest, or ends the run, where that is asked.
+    fn put_prompted(&mut self, world: &World) -> Result<(), TellFault> {
+        let told = match self.prompted.take() {
+            Some(Prompted::State) => state_told(self.alloc, world),
+            Some(Prompted::Why) => self.refusal_told(),
+            Some(Prompted::Quit) => return Err(TellFault::Quit),
+            None => return Ok(()),
+        };
+        match told {
+            Ok(told) => match self.told.push_str(told.as_str()) {
+                Ok(()) => Ok(()),
+                Err(_) => Err(TellFault::OutOfMemory),
+            },
+            Err(_) => Err(TellFault::OutOfMemory),
+        }
+    }
+
+    // A reply, and what is told of it.
+    fn explained(&self, world: &World, reply: &LineReply) -> Result<String, AllocError> {
+        let mut explained = String::new(self.alloc);
+        write_line(&mut explained, world.policy(), reply)?;
+        explained.push_str(self.told.as_str())?;
+        Ok(explained)
+    }
+
+    // Keeps a reply that something was refused, denied or failed for a person who may ask for it, if there is memory for it.
+    fn keep(&mut self, world: &World, reply: &LineReply) {
+        if self.telling.goes_on && strictly(reply) == Flow::End {
+            if let Ok(explained) = self.explained(world, reply) {
+                self.refused = explained;
+            }
+        }
+    }
+
+    // Puts what is told of a reply behind the rest.
+    fn put_reply(
+        &mut self,
+        world: &World,
+        number: u64,
+        reply: &LineReply,
+    ) -> Result<(), AllocError> {
+        let (asked, file) = (self.asked, self.in_force);
+        retold(
+            self.alloc,
+            &mut self.told,
+            world,
+            file,
+            number,
+            asked,
+            reply,
+        )?;
+        let Some(handed) = self.handed.take() else {
+            return Ok(());
+        };
+        match reply {
+            Ok(_) => self.in_force = self.further.names.get(handed).copied(),
+            Err(Refusal::Core(core_model::Refusal::OtherObjects)) => {
+                let others = self
+                    .further
+                    .others(self.alloc, world.core().policy(), handed)?;
+                self.told.push_str(others.as_str())?;
+            }
+            Err(_) => {}
+        }
         Ok(())
     }
 
@@ -126,7 +241,7 @@ impl<'a, E: io::Write> Teller<'a, E> {
     }
 }
 
-impl<'a, E: io::Write> Watch for Teller<'a, E> {
+impl<'a, 'p, E: io::Write> Watch for Teller<'a, 'p, E> {
     ghost use Rattle.script.specs.Watchers.{anyone};
 
     type Fault = TellFault;
@@ -138,6 +253,10 @@ impl<'a, E: io::Write> Watch for Teller<'a, E> {
     fn asks(&mut self, command: &Command) {
         if self.telling.of_replies {
             self.asked = asked_by(command);
+            self.handed = match command {
+                Command::Reload { number } => place_before(*number),
+                _ => None,
+            };
         }
     }
 
@@ -145,10 +264,10 @@ impl<'a, E: io::Write> Watch for Teller<'a, E> {
         if !self.telling.of_replies {
             return Ok(Flow::GoOn);
         }
-        let told = retold(self.alloc, &mut self.told, world, number, self.asked, reply);
-        if told.is_err() {
+        if self.put_reply(world, number, reply).is_err() {
             self.told.clear();
         }
+        self.keep(world, reply);
         if self.told.is_empty() {
             Ok(Flow::GoOn)
         } else {
@@ -168,10 +287,11 @@ impl<'a, E: io::Write> Watch for Teller<'a, E> {
         }
     }
 
-    fn told(&mut self, _world: &World, _said: Flow) -> Result<Turn, TellFault> {
+    fn told(&mut self, world: &World, _said: Flow) -> Result<Turn, TellFault> {
         if self.wants_memory {
             return Err(TellFault::OutOfMemory);
         }
+        self.put_prompted(world)?;
         if self.told.is_empty() {
             return Ok(Turn::GoOn);
         }

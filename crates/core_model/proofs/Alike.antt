@@ -1,5 +1,5 @@
 -- `==` of packets, errors, queues and rows tells whether they are the same.
-use Rattle.std.proofs.Common.{◌≡◌, Bool, Option, Some, None, refl, sym, ap, subst, rules, true≢false}
+use Rattle.std.proofs.Common.{◌≡◌, ◌&&◌, Bool, Option, Some, None, refl, sym, ap, subst, rules, true≢false}
 use Rattle.std.specs.Prelude.{nat_eq}
 use Rattle.std.specs.Bool.{Decides}
 use Rattle.std.specs.Cmp.{booleans_Decides}
@@ -180,16 +180,6 @@ progress_decides a b = Decides-like _ whole parts
     parts : a ≡ b → ((a.groups_run ≡ b.groups_run) × (a.satisfied ≡ b.satisfied))
     parts e = (ap (λ (x : Progress). x.groups_run) e, ap (λ (x : Progress). x.satisfied) e)
 
-pub packet_origin_decides : (a b : PacketOrigin) → Decides (packet_origin_test.eq-value.it a b) (a ≡ b)
-packet_origin_decides a b = Decides-like _ whole parts
-    (Decides-and _ _ (flying_decides a.flying b.flying) (Decides-and _ _ (progress_decides a.progress b.progress) (pointwise_decides Decides-eqb a.arguments b.arguments)))
-  where
-    whole : ((a.flying ≡ b.flying) × ((a.progress ≡ b.progress) × (a.arguments ≡ b.arguments))) → a ≡ b
-    whole h = λ i. record { flying = h.0 i; progress = h.1.0 i; arguments = h.1.1 i }
-
-    parts : a ≡ b → ((a.flying ≡ b.flying) × ((a.progress ≡ b.progress) × (a.arguments ≡ b.arguments)))
-    parts e = (ap (λ (x : PacketOrigin). x.flying) e, (ap (λ (x : PacketOrigin). x.progress) e, ap (λ (x : PacketOrigin). x.arguments) e))
-
 -- ---- queues
 
 rule_decides : (a b : Rule) → Decides (rule_test.eq-value.it a b) (a ≡ b)
@@ -275,6 +265,27 @@ object_decides (object.Kernel x) (object.Agent y) = (λ h. absurd (true≢false 
 object_decides (object.Kernel x) (object.Region y) = (λ h. absurd (true≢false (sym h)), λ e. absurd cc)
 object_decides (object.Kernel x) (object.Signal y) = (λ h. absurd (true≢false (sym h)), λ e. absurd cc)
 object_decides (object.Kernel x) (object.Kernel y) = Decides-like _ (λ h. ap object.Kernel h) (λ e. let inner : x ≡ y = cc in inner) (kernel_id_decides x y)
+
+-- ---- packets in flight, with what they hold
+
+named_decides : (a b : Object × Rights) → Decides (object_test.eq-value.it a.0 b.0 && nat_eq a.1.0 b.1.0) (a ≡ b)
+named_decides a b = Decides-like _ whole parts (Decides-and _ _ (object_decides a.0 b.0) (rights_decides a.1 b.1))
+  where
+    whole : ((a.0 ≡ b.0) × (a.1 ≡ b.1)) → a ≡ b
+    whole h = λ i. (h.0 i, h.1 i)
+
+    parts : a ≡ b → ((a.0 ≡ b.0) × (a.1 ≡ b.1))
+    parts e = (ap (λ (x : Object × Rights). x.0) e, ap (λ (x : Object × Rights). x.1) e)
+
+pub packet_origin_decides : (a b : PacketOrigin) → Decides (packet_origin_test.eq-value.it a b) (a ≡ b)
+packet_origin_decides a b = Decides-like _ whole parts
+    (Decides-and _ _ (flying_decides a.flying b.flying) (Decides-and _ _ (progress_decides a.progress b.progress) (Decides-and _ _ (client_decides a.client b.client) (Decides-and _ _ (pointwise_decides named_decides a.rights b.rights) (pointwise_decides Decides-eqb a.arguments b.arguments)))))
+  where
+    whole : ((a.flying ≡ b.flying) × ((a.progress ≡ b.progress) × ((a.client ≡ b.client) × ((a.rights ≡ b.rights) × (a.arguments ≡ b.arguments))))) → a ≡ b
+    whole h = λ i. record { flying = h.0 i; progress = h.1.0 i; client = h.1.1.0 i; rights = h.1.1.1.0 i; arguments = h.1.1.1.1 i }
+
+    parts : a ≡ b → ((a.flying ≡ b.flying) × ((a.progress ≡ b.progress) × ((a.client ≡ b.client) × ((a.rights ≡ b.rights) × (a.arguments ≡ b.arguments)))))
+    parts e = (ap (λ (x : PacketOrigin). x.flying) e, (ap (λ (x : PacketOrigin). x.progress) e, (ap (λ (x : PacketOrigin). x.client) e, (ap (λ (x : PacketOrigin). x.rights) e, ap (λ (x : PacketOrigin). x.arguments) e))))
 
 grantee_decides : (a b : Grantee) → Decides (grantee_test.eq-value.it a b) (a ≡ b)
 grantee_decides grantee.Any grantee.Any = (λ h. refl, λ e. refl)

@@ -14,7 +14,7 @@ use Rattle.core_model.specs.declared.entry.Entry.{Entry}
 use Rattle.core_model.specs.declared.event.Event.{Event}
 use Rattle.core_model.specs.declared.event.Query.{Query}
 use Rattle.core_model.specs.declared.flight.InFlight.{InFlight}
-use Rattle.core_model.specs.History.{History, IsOpeningOrigin, Openings, Origin, PacketOrigin, Part, QueueOrigin, Start, begin, beginning, effects_of, no_queue, open_queue, opening_state, packet_in, queue_in}
+use Rattle.core_model.specs.History.{History, IsOpeningOrigin, Openings, Origin, PacketOrigin, Part, QueueOrigin, Start, begin, beginning, effects_of, no_queue, open_queue, opening_state, packet_holds, packet_in, queue_in}
 use Rattle.regions.specs.Memory.{byte_at, lies_in_region, zeros}
 use Rattle.regions.proofs.Laws.{byte_at-outside, byte_at-zeros, lengths_of-zeros}
 use Rattle.policy.specs.Policy.{Declared, region_lengths}
@@ -347,7 +347,7 @@ begin-opening policy kernels o opened = λ i. record {
   is_stopped = λ queue. (none-told o.queues opened.queues queue i).stopped;
   flight = map (λ (p : PacketOrigin). p.flying) (opened.packets i);
   progress = λ queue id. elim (packet_in (opened.packets i) queue id) [ None ↦ LAUNCH_PROGRESS | Some p ↦ p.progress ];
-  held = λ queue id client on right. opened.grants.none_held queue id client on right i;
+  held = λ queue id client on right. packet_holds client on right (packet_in (opened.packets i) queue id);
   arguments = λ queue id. elim (packet_in (opened.packets i) queue id) [ None ↦ [] | Some p ↦ p.arguments ];
   before = opened.before i;
 }
@@ -391,7 +391,7 @@ same-begin kernels one other same = λ i. record {
   is_stopped = λ queue. (queue_in (same.queues i) queue).stopped;
   flight = map (λ p. p.flying) (same.packets i);
   progress = λ queue id. elim (packet_in (same.packets i) queue id) [ None ↦ LAUNCH_PROGRESS | Some p ↦ p.progress ];
-  held = λ queue id client on right. same.held queue id client on right i;
+  held = λ queue id client on right. packet_holds client on right (packet_in (same.packets i) queue id);
   arguments = λ queue id. elim (packet_in (same.packets i) queue id) [ None ↦ [] | Some p ↦ p.arguments ];
   before = same.before i;
 }

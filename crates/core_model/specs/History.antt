@@ -3,7 +3,8 @@ use Rattle.std.specs.Prelude.{◌≡◌, ℕ, ℤ, ◌==◌, Bool, false, List, 
 use Rattle.std.specs.List.{flat_map}
 use Rattle.std.specs.Option.{unwrap_or}
 use Rattle.aql_packet.specs.Ids.{same_packet}
-use Rattle.grants.specs.Ledger.{IsNew, holds, in_force, rules_in}
+use Rattle.grants.specs.Ledger.{IsNew, in_force, rules_in}
+use Rattle.grants.specs.Pairs.{is_named}
 use Rattle.regions.specs.Memory.{byte_at, zeros}
 use Rattle.aql_packet.specs.declared.ids.ClientId.{ClientId}
 use Rattle.aql_packet.specs.declared.ids.QueueId.{QueueId}
@@ -98,6 +99,11 @@ open_queue q = record { queue = q.queue; opening = q.opening }
 abbrev pub packet_in : List PacketOrigin → QueueId → PacketId → Option PacketOrigin
 packet_in packets queue id = find (λ p. same_packet p.flying.queue p.flying.id queue id) packets
 
+-- whether a packet in flight holds a client's right on an object, if there is one (own)
+abbrev pub packet_holds : ClientId → Object → Right → Option PacketOrigin → Bool
+packet_holds client on right None = false
+packet_holds client on right (Some p) = is_named p.rights p.client client on right
+
 -- the policy in force: what was declared, with the rows on rights by which grants are allowed (own)
 abbrev pub policy_in : Origin → Declared
 policy_in o = record o.policy { rows = (rules_in o.grants).rows }
@@ -116,7 +122,7 @@ begin kernels o = record {
   is_stopped = λ queue. (queue_in o.queues queue).stopped;
   flight = map (λ p. p.flying) o.packets;
   progress = λ queue id. elim (packet_in o.packets queue id) [ None ↦ launch_progress | Some p ↦ p.progress ];
-  held = holds o.grants;
+  held = λ queue id client on right. packet_holds client on right (packet_in o.packets queue id);
   arguments = λ queue id. elim (packet_in o.packets queue id) [ None ↦ [] | Some p ↦ p.arguments ];
   before = o.before;
 }

@@ -41,6 +41,13 @@ Rotates old (Err refusal.OutOfMemory) new = (lies_too_far old ≡ false) × (new
 Rotates old (Err refusal.AuditFull) new = (lies_too_far old ≡ true) × (new ≡ old)
 Rotates old (Err _) new = ⊥
 
+-- what emptying an audit is answered whose entries were written down elsewhere: it is a rotation with its part dropped. It takes no
+-- memory, so none can be wanted (own)
+abbrev pub Truncates : History → Result (Unit {0}) Refusal → History → Type 0
+Truncates old (Ok done) new = (part : Part) × Rotates old (Ok part) new
+Truncates old (Err refusal.AuditFull) new = Rotates old (Err refusal.AuditFull) new
+Truncates old (Err _) new = ⊥
+
 -- ---- joins
 
 -- a refusal's number (own)

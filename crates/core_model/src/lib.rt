@@ -45,7 +45,9 @@ pub use laws::{
     law_taken_ids_go_on_from_the_start, law_what_leaves_flight_finds_room,
     law_whole_histories_begin_at_an_opening,
 };
-pub use limits::{MOST_BEFORE, MOST_ENTRIES, MOST_HOST_BYTES, MOST_IN_FLIGHT, QUEUES};
+pub use limits::{
+    ALL_IN_FLIGHT, MOST_BEFORE, MOST_ENTRIES, MOST_HOST_BYTES, MOST_IN_FLIGHT, QUEUES,
+};
 pub use need::{ADD64, AgentFunction, COPY, FILL, Need, Range, Subject};
 pub use origin::{Opening, Origin, PacketOrigin, QueueOrigin};
 pub use outcome::{NONE_SATISFIED, Outcome, Polled, Satisfied, Taken, WaitCause, Worked};

@@ -7,6 +7,9 @@ pub const MOST_IN_FLIGHT: usize = 8;
 /// How many queues are open at the most.
 pub const QUEUES: usize = 64;
 
+/// How many packets are in flight at the most, of all queues.
+pub const ALL_IN_FLIGHT: usize = QUEUES * MOST_IN_FLIGHT;
+
 /// How many bytes a client reads or writes in one call at the most.
 pub const MOST_HOST_BYTES: u64 = 65_536;
 

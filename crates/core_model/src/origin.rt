@@ -3,14 +3,16 @@
 ghost use Rattle.std.specs.Prelude.{◌≡◌, ◌↔◌, IfOk, true};
 ghost use Rattle.core_model.specs.History.{policy_in};
 ghost use Rattle.core_model.specs.Legal.{SameOrigin};
+ghost use Rattle.grants.specs.Ledger.{IsCopy};
 
 use crate::flight::{InFlight, Progress};
+use crate::limits::{ALL_IN_FLIGHT, MOST_IN_FLIGHT, QUEUES};
 use aql_packet::{AgentHandle, ClientId, QueueId};
 use grants::Grants;
-use policy::{Policy, PolicyRows};
+use policy::{Object, Policy, PolicyRows, Right, Rights};
 use queue_error::QueueError;
 use regions::Regions;
-use sequences::Sequence;
+use sequences::{Ample, Few, Sequence};
 use signals::Signals;
 use std::alloc::{AllocError, Global};
 
@@ -33,8 +35,8 @@ pub struct QueueOrigin {
     pub next: u64,
     /// Whether it was stopped.
     pub stopped: bool,
-    /// Its errors, in order.
-    pub errors: Sequence<QueueError>,
+    /// Its errors, in order: at most one of each packet that can be in flight.
+    pub errors: Few<QueueError, MOST_IN_FLIGHT>,
 }
 
 /// A packet in flight, as a history begins with it.
@@ -43,6 +45,10 @@ pub struct PacketOrigin {
     pub flying: InFlight,
     /// How far it has come.
     pub progress: Progress,
+    /// Whose queue it is in.
+    pub client: ClientId,
+    /// The rights that it holds, of that client.
+    pub rights: Sequence<(Object, Rights)>,
     /// Its argument block, as it was at its launch.
     pub arguments: Sequence<u8>,
 }
@@ -52,7 +58,7 @@ pub struct PacketOrigin {
 pub struct Origin {
     /// The policy that the core was opened with: what it declares stays.
     pub policy: Policy,
-    /// What is in force, by which rows on rights, and what packets in flight hold.
+    /// What is in force, and by which rows on rights. What packets in flight hold lies with them.
     pub grants: Grants,
     /// The bytes of each region.
     pub memory: Regions,
@@ -61,36 +67,51 @@ pub struct Origin {
     /// How many queues were ever opened: the next that is opened has the number behind.
     pub opened: u64,
     /// The open queues, in the order in which they were opened.
-    pub queues: Sequence<QueueOrigin>,
+    pub queues: Ample<QueueOrigin, QUEUES>,
     /// The packets in flight, in the order of their launches.
-    pub packets: Sequence<PacketOrigin>,
+    pub packets: Ample<PacketOrigin, ALL_IN_FLIGHT>,
     /// How many entries came before.
     pub before: u64,
 }
 
 impl QueueOrigin {
-    /// The same queue once more, with errors of its own.
-    pub fn copy(&self, alloc: Global) -> Result<QueueOrigin, AllocError>
-        ensures { IfOk result (λ copy. copy ≡ self.now) }
+    /// The same queue once more.
+    pub fn copy(&self) -> QueueOrigin
+        ensures { result ≡ self.now }
     {
-        Ok(QueueOrigin {
+        QueueOrigin {
             queue: self.queue,
             opening: self.opening,
             next: self.next,
             stopped: self.stopped,
-            errors: self.errors.copy(alloc)?,
-        })
+            errors: Few::of(self.errors.as_slice()),
+        }
     }
 }
 
 impl PacketOrigin {
-    /// The same packet once more, with arguments of its own.
+    ghost use Rattle.core_model.specs.History.{packet_holds};
+    ghost use Rattle.std.specs.Prelude.{Some};
+
+    /// Whether it holds a client's right on an object.
+    pub fn holds(&self, client: ClientId, object: Object, right: Right) -> bool
+        ensures { result ≡ packet_holds client object right (Some self.now) }
+    {
+        let holder = self.client;
+        self.rights.as_slice().iter().any(|named| client == holder
+            && object == named.0
+            && named.1.has(right))
+    }
+
+    /// The same packet once more, with rights and arguments of its own.
     pub fn copy(&self, alloc: Global) -> Result<PacketOrigin, AllocError>
         ensures { IfOk result (λ copy. copy ≡ self.now) }
     {
         Ok(PacketOrigin {
             flying: self.flying,
             progress: self.progress,
+            client: self.client,
+            rights: self.rights.copy(alloc)?,
             arguments: self.arguments.copy(alloc)?,
         })
     }
@@ -101,6 +122,7 @@ impl Origin {
     pub fn copy(&self, alloc: Global) -> Result<Origin, AllocError>
         ensures same { IfOk result (λ copy. SameOrigin copy self.now) }
         ensures policy { IfOk result (λ copy. copy.policy ≡ self.now.policy) }
+        ensures grants { IfOk result (λ copy. IsCopy self.now.grants copy.grants) }
     {
         Ok(Origin {
             policy: self.policy.copy(alloc)?,
@@ -108,8 +130,8 @@ impl Origin {
             memory: self.memory.copy(alloc)?,
             signals: self.signals.copy(alloc)?,
             opened: self.opened,
-            queues: copy_queues(alloc, self.queues.as_slice())?,
-            packets: copy_packets(alloc, self.packets.as_slice())?,
+            queues: copy_queues(alloc, &self.queues)?,
+            packets: copy_packets(alloc, &self.packets)?,
             before: self.before,
         })
     }
@@ -161,12 +183,15 @@ fn are_same_packets(packets: &[PacketOrigin], others: &[PacketOrigin]) -> bool
 }
 
 // The same queues once more.
-fn copy_queues(alloc: Global, queues: &[QueueOrigin]) -> Result<Sequence<QueueOrigin>, AllocError>
+fn copy_queues(
+    alloc: Global,
+    queues: &Ample<QueueOrigin, QUEUES>,
+) -> Result<Ample<QueueOrigin, QUEUES>, AllocError>
     ensures { IfOk result (λ copy. copy ≡ queues.now) }
 {
-    let mut copies = Sequence::new(alloc);
-    for queue in queues {
-        copies.push(queue.copy(alloc)?)?;
+    let mut copies = Ample::get(alloc)?;
+    for queue in queues.as_slice() {
+        copies.push(queue.copy());
     }
     Ok(copies)
 }
@@ -174,13 +199,13 @@ fn copy_queues(alloc: Global, queues: &[QueueOrigin]) -> Result<Sequence<QueueOr
 // The same packets once more.
 fn copy_packets(
     alloc: Global,
-    packets: &[PacketOrigin],
-) -> Result<Sequence<PacketOrigin>, AllocError>
+    packets: &Ample<PacketOrigin, ALL_IN_FLIGHT>,
+) -> Result<Ample<PacketOrigin, ALL_IN_FLIGHT>, AllocError>
     ensures { IfOk result (λ copy. copy ≡ packets.now) }
 {
-    let mut copies = Sequence::new(alloc);
-    for packet in packets {
-        copies.push(packet.copy(alloc)?)?;
+    let mut copies = Ample::get(alloc)?;
+    for packet in packets.as_slice() {
+        copies.push(packet.copy(alloc)?);
     }
     Ok(copies)
 }

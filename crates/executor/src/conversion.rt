@@ -29,9 +29,9 @@ fn read_as(from: NumberType, value: u64) -> u64
         NumberType::U16 => value % (1 << 16),
         NumberType::U32 => value % (1 << 32),
         NumberType::U64 | NumberType::S64 => value,
-        NumberType::S8 => extend_sign(value % (1 << 8), 1 << 7),
-        NumberType::S16 => extend_sign(value % (1 << 16), 1 << 15),
-        NumberType::S32 => extend_sign(value % (1 << 32), 1 << 31),
+        NumberType::S8 => (((value % (1 << 8)) as u8).cast_signed() as i64).cast_unsigned(),
+        NumberType::S16 => (((value % (1 << 16)) as u16).cast_signed() as i64).cast_unsigned(),
+        NumberType::S32 => (((value % (1 << 32)) as u32).cast_signed() as i64).cast_unsigned(),
     }
 }
 
@@ -46,22 +46,9 @@ fn write_as(to: NumberType, number: u64) -> u64
         NumberType::U16 => number % (1 << 16),
         NumberType::U32 | NumberType::S32 => number % (1 << 32),
         NumberType::U64 | NumberType::S64 => number,
-        NumberType::S8 => extend_sign(number % (1 << 8), 1 << 7) % (1 << 32),
-        NumberType::S16 => extend_sign(number % (1 << 16), 1 << 15) % (1 << 32),
-    }
-}
-
-/// Bits below `2 * half` in two's complement, in 64 bits.
-#[inline(always)]
-fn extend_sign(bits: u64, half: u64) -> u64
-    requires half { half ≤ 2 ^ 62 }
-    requires bits { bits < half + half }
-    ensures { result ≡ extended_bits bits half }
-{
-    if bits < half {
-        bits
-    } else {
-        bits + (u64::MAX - (half + half - 1))
+        NumberType::S8 => (((number % (1 << 8)) as u8).cast_signed() as i32).cast_unsigned() as u64,
+        NumberType::S16 => (((number
+            % (1 << 16)) as u16).cast_signed() as i32).cast_unsigned() as u64,
     }
 }
 

@@ -2,7 +2,6 @@
 ghost use Rattle.std.specs.Prelude.{◌≡◌, ◌<◌, ◌^◌, Some, IfErr, IfNone, IfOk, IfSome, map};
 ghost use Rattle.std.specs.Int.{w32, w64};
 ghost use Rattle.kernel_check.specs.Flat.{changed, maybe, plain};
-ghost use Rattle.kernel_check.specs.declared.flat.FlatStep.TheVariants as flat;
 ghost use Rattle.queue_error.specs.declared.error.SegmentAddress.TheVariants as segment;
 ghost use Rattle.executor.specs.Atomics.{replacing, told32, told64};
 ghost use Rattle.executor.specs.Items.{lent_region};
@@ -22,7 +21,7 @@ use crate::memory::Memory;
 use crate::number::Number;
 use crate::registers::Registers;
 use crate::view::View;
-use kernel_check::{Change, MaybeRegister, Operand, RegisterNumber};
+use kernel_check::{Change, FlatStep, MaybeRegister};
 use queue_error::SegmentAddress;
 use std::alloc::Global;
 
@@ -244,16 +243,22 @@ pub fn atomic_global32(
     r: &mut Registers,
     next: usize,
     memory: &mut Memory,
-    change: Change,
-    target: MaybeRegister,
-    base: RegisterNumber,
-    source: Operand,
-    offset: u32,
-    constant: u32,
+    step: &FlatStep,
 ) -> Gone
     requires { next < 2 ^ 32 }
-    ensures { Goes (plain (flat.AtomicGlobal32 change target base source offset constant)) (surroundings context.now) r.old next (contents memory.old) result r.new (contents memory.new) }
+    ensures { Goes (plain step.now) (surroundings context.now) r.old next (contents memory.old) result r.new (contents memory.new) }
 {
+    let FlatStep::AtomicGlobal32 {
+        change,
+        target,
+        base,
+        source,
+        offset,
+        constant,
+    } = *step
+    else {
+        return Gone::Other;
+    };
     let address = address_of(r, register_and(base, offset as u64));
     let value = r.read32(source_of(source, constant));
     match change_known32(context.view, memory, change, address, value) {
@@ -280,16 +285,22 @@ pub fn atomic_global64(
     r: &mut Registers,
     next: usize,
     memory: &mut Memory,
-    change: Change,
-    target: MaybeRegister,
-    base: RegisterNumber,
-    source: Operand,
-    offset: u32,
-    constant: u32,
+    step: &FlatStep,
 ) -> Gone
     requires { next < 2 ^ 32 }
-    ensures { Goes (plain (flat.AtomicGlobal64 change target base source offset constant)) (surroundings context.now) r.old next (contents memory.old) result r.new (contents memory.new) }
+    ensures { Goes (plain step.now) (surroundings context.now) r.old next (contents memory.old) result r.new (contents memory.new) }
 {
+    let FlatStep::AtomicGlobal64 {
+        change,
+        target,
+        base,
+        source,
+        offset,
+        constant,
+    } = *step
+    else {
+        return Gone::Other;
+    };
     let address = address_of(r, register_and(base, offset as u64));
     let value = r.read64(source_of(source, constant as u64));
     match change_known64(context.view, memory, change, address, value) {
@@ -316,16 +327,22 @@ pub fn atomic_group32(
     r: &mut Registers,
     next: usize,
     memory: &mut Memory,
-    change: Change,
-    target: MaybeRegister,
-    base: MaybeRegister,
-    source: Operand,
-    offset: u32,
-    constant: u32,
+    step: &FlatStep,
 ) -> Gone
     requires { next < 2 ^ 32 }
-    ensures { Goes (plain (flat.AtomicGroup32 change target base source offset constant)) (surroundings context.now) r.old next (contents memory.old) result r.new (contents memory.new) }
+    ensures { Goes (plain step.now) (surroundings context.now) r.old next (contents memory.old) result r.new (contents memory.new) }
 {
+    let FlatStep::AtomicGroup32 {
+        change,
+        target,
+        base,
+        source,
+        offset,
+        constant,
+    } = *step
+    else {
+        return Gone::Other;
+    };
     let address = group_address_of(r, group_pointer(base, offset));
     let place = SegmentAddress::Group(address);
     let value = r.read32(source_of(source, constant));
@@ -347,16 +364,22 @@ pub fn atomic_group64(
     r: &mut Registers,
     next: usize,
     memory: &mut Memory,
-    change: Change,
-    target: MaybeRegister,
-    base: MaybeRegister,
-    source: Operand,
-    offset: u32,
-    constant: u32,
+    step: &FlatStep,
 ) -> Gone
     requires { next < 2 ^ 32 }
-    ensures { Goes (plain (flat.AtomicGroup64 change target base source offset constant)) (surroundings context.now) r.old next (contents memory.old) result r.new (contents memory.new) }
+    ensures { Goes (plain step.now) (surroundings context.now) r.old next (contents memory.old) result r.new (contents memory.new) }
 {
+    let FlatStep::AtomicGroup64 {
+        change,
+        target,
+        base,
+        source,
+        offset,
+        constant,
+    } = *step
+    else {
+        return Gone::Other;
+    };
     let address = group_address_of(r, group_pointer(base, offset));
     let place = SegmentAddress::Group(address);
     let value = r.read64(source_of(source, constant as u64));

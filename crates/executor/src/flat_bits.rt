@@ -1,7 +1,6 @@
 //! Flat steps of one bit.
 ghost use Rattle.std.specs.Prelude.{◌≡◌, ◌<◌, ◌^◌};
-ghost use Rattle.kernel_check.specs.Flat.{bit_source, bits_of, control_step};
-ghost use Rattle.kernel_check.specs.declared.step.ControlOperation.TheVariants as control;
+ghost use Rattle.kernel_check.specs.Flat.{bit_source, plain};
 ghost use Rattle.executor.specs.Registers.{read1};
 ghost use Rattle.executor.specs.inner.Flat.{Goes};
 ghost use Rattle.executor.specs.inner.Held.{contents, surroundings};
@@ -12,8 +11,7 @@ use crate::memory::Memory;
 use crate::number::Number;
 use crate::registers::Registers;
 use crate::values::bit;
-use hsail_reader::Comparison;
-use kernel_check::{Bit, RegisterNumber, Source};
+use kernel_check::{Bit, FlatStep, Source};
 
 /// A bit: a register is read in any case, so that no jump is needed.
 #[inline(always)]
@@ -35,12 +33,14 @@ pub fn move1(
     r: &mut Registers,
     next: usize,
     memory: &Memory,
-    to: RegisterNumber,
-    source: Bit,
+    step: &FlatStep,
 ) -> Gone
     requires { next < 2 ^ 32 }
-    ensures { Goes (control_step to (control.Move (bit_source source))) (surroundings context.now) r.old next (contents memory.now) result r.new (contents memory.now) }
+    ensures { Goes (plain step.now) (surroundings context.now) r.old next (contents memory.now) result r.new (contents memory.now) }
 {
+    let FlatStep::Move1 { to, source } = *step else {
+        return Gone::Other;
+    };
     let value = read(r, source);
     r.set1(to, value);
     Gone::Onward
@@ -53,12 +53,14 @@ pub fn not1(
     r: &mut Registers,
     next: usize,
     memory: &Memory,
-    to: RegisterNumber,
-    source: Bit,
+    step: &FlatStep,
 ) -> Gone
     requires { next < 2 ^ 32 }
-    ensures { Goes (control_step to (control.Not (bit_source source))) (surroundings context.now) r.old next (contents memory.now) result r.new (contents memory.now) }
+    ensures { Goes (plain step.now) (surroundings context.now) r.old next (contents memory.now) result r.new (contents memory.now) }
 {
+    let FlatStep::Not1 { to, source } = *step else {
+        return Gone::Other;
+    };
     let value = !read(r, source);
     r.set1(to, value);
     Gone::Onward
@@ -71,13 +73,14 @@ pub fn and1(
     r: &mut Registers,
     next: usize,
     memory: &Memory,
-    to: RegisterNumber,
-    left: Bit,
-    right: Bit,
+    step: &FlatStep,
 ) -> Gone
     requires { next < 2 ^ 32 }
-    ensures { Goes (control_step to (control.And (bits_of left right))) (surroundings context.now) r.old next (contents memory.now) result r.new (contents memory.now) }
+    ensures { Goes (plain step.now) (surroundings context.now) r.old next (contents memory.now) result r.new (contents memory.now) }
 {
+    let FlatStep::And1 { to, left, right } = *step else {
+        return Gone::Other;
+    };
     let value = read(r, left) & read(r, right);
     r.set1(to, value);
     Gone::Onward
@@ -90,13 +93,14 @@ pub fn or1(
     r: &mut Registers,
     next: usize,
     memory: &Memory,
-    to: RegisterNumber,
-    left: Bit,
-    right: Bit,
+    step: &FlatStep,
 ) -> Gone
     requires { next < 2 ^ 32 }
-    ensures { Goes (control_step to (control.Or (bits_of left right))) (surroundings context.now) r.old next (contents memory.now) result r.new (contents memory.now) }
+    ensures { Goes (plain step.now) (surroundings context.now) r.old next (contents memory.now) result r.new (contents memory.now) }
 {
+    let FlatStep::Or1 { to, left, right } = *step else {
+        return Gone::Other;
+    };
     let value = read(r, left) | read(r, right);
     r.set1(to, value);
     Gone::Onward
@@ -109,13 +113,14 @@ pub fn xor1(
     r: &mut Registers,
     next: usize,
     memory: &Memory,
-    to: RegisterNumber,
-    left: Bit,
-    right: Bit,
+    step: &FlatStep,
 ) -> Gone
     requires { next < 2 ^ 32 }
-    ensures { Goes (control_step to (control.Xor (bits_of left right))) (surroundings context.now) r.old next (contents memory.now) result r.new (contents memory.now) }
+    ensures { Goes (plain step.now) (surroundings context.now) r.old next (contents memory.now) result r.new (contents memory.now) }
 {
+    let FlatStep::Xor1 { to, left, right } = *step else {
+        return Gone::Other;
+    };
     let value = read(r, left) ^ read(r, right);
     r.set1(to, value);
     Gone::Onward
@@ -128,14 +133,20 @@ pub fn choose1(
     r: &mut Registers,
     next: usize,
     memory: &Memory,
-    to: RegisterNumber,
-    condition: Bit,
-    one: Bit,
-    zero: Bit,
+    step: &FlatStep,
 ) -> Gone
     requires { next < 2 ^ 32 }
-    ensures { Goes (control_step to (control.Choose (record { condition = bit_source condition; one = bit_source one; zero = bit_source zero }))) (surroundings context.now) r.old next (contents memory.now) result r.new (contents memory.now) }
+    ensures { Goes (plain step.now) (surroundings context.now) r.old next (contents memory.now) result r.new (contents memory.now) }
 {
+    let FlatStep::Choose1 {
+        to,
+        condition,
+        one,
+        zero,
+    } = *step
+    else {
+        return Gone::Other;
+    };
     let value = if read(r, condition) {
         read(r, one)
     } else {
@@ -152,14 +163,20 @@ pub fn compare1(
     r: &mut Registers,
     next: usize,
     memory: &Memory,
-    to: RegisterNumber,
-    comparison: Comparison,
-    left: Bit,
-    right: Bit,
+    step: &FlatStep,
 ) -> Gone
     requires { next < 2 ^ 32 }
-    ensures { Goes (control_step to (control.Compare (record { comparison = comparison; left = bit_source left; right = bit_source right }))) (surroundings context.now) r.old next (contents memory.now) result r.new (contents memory.now) }
+    ensures { Goes (plain step.now) (surroundings context.now) r.old next (contents memory.now) result r.new (contents memory.now) }
 {
+    let FlatStep::Compare1 {
+        to,
+        comparison,
+        left,
+        right,
+    } = *step
+    else {
+        return Gone::Other;
+    };
     let left = bit(read(r, left));
     let right = bit(read(r, right));
     let value = Number::compare_unsigned(comparison, left, right);

@@ -11,8 +11,7 @@ use crate::flat_values::{compare32, compare64, run1};
 use crate::item::ItemContext;
 use crate::memory::Memory;
 use crate::registers::Registers;
-use hsail_reader::Comparison;
-use kernel_check::{Compared, ComparedBehind, ControlOperation, RegisterNumber, Signedness};
+use kernel_check::{Compared, ComparedBehind, ControlOperation, FlatStep};
 
 /// `cmp_OP_b1_u32` of two registers.
 #[inline]
@@ -113,15 +112,21 @@ pub fn constant_compare32(
     r: &mut Registers,
     next: usize,
     memory: &Memory,
-    sign: Signedness,
-    comparison: Comparison,
-    to: RegisterNumber,
-    right: RegisterNumber,
-    constant: u32,
+    step: &FlatStep,
 ) -> Gone
     requires { next < 2 ^ 32 }
-    ensures { Goes (plain (flat.ConstantCompare32 sign comparison to right constant)) (surroundings context.now) r.old next (contents memory.now) result r.new (contents memory.now) }
+    ensures { Goes (plain step.now) (surroundings context.now) r.old next (contents memory.now) result r.new (contents memory.now) }
 {
+    let FlatStep::ConstantCompare32 {
+        sign,
+        comparison,
+        to,
+        right,
+        constant,
+    } = *step
+    else {
+        return Gone::Other;
+    };
     compare32(
         context,
         r,
@@ -162,14 +167,20 @@ pub fn compare_unsigned64_constant(
     r: &mut Registers,
     next: usize,
     memory: &Memory,
-    comparison: Comparison,
-    to: RegisterNumber,
-    left: RegisterNumber,
-    constant: u64,
+    step: &FlatStep,
 ) -> Gone
     requires { next < 2 ^ 32 }
-    ensures { Goes (plain (flat.CompareUnsigned64Constant comparison to left constant)) (surroundings context.now) r.old next (contents memory.now) result r.new (contents memory.now) }
+    ensures { Goes (plain step.now) (surroundings context.now) r.old next (contents memory.now) result r.new (contents memory.now) }
 {
+    let FlatStep::CompareUnsigned64Constant {
+        comparison,
+        to,
+        left,
+        constant,
+    } = *step
+    else {
+        return Gone::Other;
+    };
     run1(
         context,
         r,
@@ -209,14 +220,20 @@ pub fn compare_signed64_constant(
     r: &mut Registers,
     next: usize,
     memory: &Memory,
-    comparison: Comparison,
-    to: RegisterNumber,
-    left: RegisterNumber,
-    constant: u64,
+    step: &FlatStep,
 ) -> Gone
     requires { next < 2 ^ 32 }
-    ensures { Goes (plain (flat.CompareSigned64Constant comparison to left constant)) (surroundings context.now) r.old next (contents memory.now) result r.new (contents memory.now) }
+    ensures { Goes (plain step.now) (surroundings context.now) r.old next (contents memory.now) result r.new (contents memory.now) }
 {
+    let FlatStep::CompareSigned64Constant {
+        comparison,
+        to,
+        left,
+        constant,
+    } = *step
+    else {
+        return Gone::Other;
+    };
     run1(
         context,
         r,
@@ -234,15 +251,21 @@ pub fn constant_compare64(
     r: &mut Registers,
     next: usize,
     memory: &Memory,
-    sign: Signedness,
-    comparison: Comparison,
-    to: RegisterNumber,
-    right: RegisterNumber,
-    constant: u64,
+    step: &FlatStep,
 ) -> Gone
     requires { next < 2 ^ 32 }
-    ensures { Goes (plain (flat.ConstantCompare64 sign comparison to right constant)) (surroundings context.now) r.old next (contents memory.now) result r.new (contents memory.now) }
+    ensures { Goes (plain step.now) (surroundings context.now) r.old next (contents memory.now) result r.new (contents memory.now) }
 {
+    let FlatStep::ConstantCompare64 {
+        sign,
+        comparison,
+        to,
+        right,
+        constant,
+    } = *step
+    else {
+        return Gone::Other;
+    };
     compare64(
         context,
         r,

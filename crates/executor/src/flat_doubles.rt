@@ -15,8 +15,8 @@ use crate::item::ItemContext;
 use crate::memory::Memory;
 use crate::registers::Registers;
 use kernel_check::{
-    Calculation, ChosenConstants, ConstantBehind, DoubleOperation, FromOne, FromThree, FromTwo,
-    Operation, RegisterNumber, ShiftOperation, Source,
+    Calculation, ChosenConstants, ConstantBehind, DoubleOperation, FlatStep, FromOne, FromThree,
+    FromTwo, Source,
 };
 
 /// A flat step of 64 bits with two registers, by what puts them together.
@@ -69,12 +69,14 @@ pub fn set64(
     r: &mut Registers,
     next: usize,
     memory: &Memory,
-    to: RegisterNumber,
-    constant: u64,
+    step: &FlatStep,
 ) -> Gone
     requires { next < 2 ^ 32 }
-    ensures { Goes (plain (flat.Set64 to constant)) (surroundings context.now) r.old next (contents memory.now) result r.new (contents memory.now) }
+    ensures { Goes (plain step.now) (surroundings context.now) r.old next (contents memory.now) result r.new (contents memory.now) }
 {
+    let FlatStep::Set64 { to, constant } = *step else {
+        return Gone::Other;
+    };
     run64(
         context,
         r,
@@ -129,13 +131,14 @@ pub fn add64_constant(
     r: &mut Registers,
     next: usize,
     memory: &Memory,
-    to: RegisterNumber,
-    left: RegisterNumber,
-    constant: u64,
+    step: &FlatStep,
 ) -> Gone
     requires { next < 2 ^ 32 }
-    ensures { Goes (plain (flat.Add64Constant to left constant)) (surroundings context.now) r.old next (contents memory.now) result r.new (contents memory.now) }
+    ensures { Goes (plain step.now) (surroundings context.now) r.old next (contents memory.now) result r.new (contents memory.now) }
 {
+    let FlatStep::Add64Constant { to, left, constant } = *step else {
+        return Gone::Other;
+    };
     run64(
         context,
         r,
@@ -168,13 +171,14 @@ pub fn subtract64_constant(
     r: &mut Registers,
     next: usize,
     memory: &Memory,
-    to: RegisterNumber,
-    left: RegisterNumber,
-    constant: u64,
+    step: &FlatStep,
 ) -> Gone
     requires { next < 2 ^ 32 }
-    ensures { Goes (plain (flat.Subtract64Constant to left constant)) (surroundings context.now) r.old next (contents memory.now) result r.new (contents memory.now) }
+    ensures { Goes (plain step.now) (surroundings context.now) r.old next (contents memory.now) result r.new (contents memory.now) }
 {
+    let FlatStep::Subtract64Constant { to, left, constant } = *step else {
+        return Gone::Other;
+    };
     run64(
         context,
         r,
@@ -207,13 +211,14 @@ pub fn multiply64_constant(
     r: &mut Registers,
     next: usize,
     memory: &Memory,
-    to: RegisterNumber,
-    left: RegisterNumber,
-    constant: u64,
+    step: &FlatStep,
 ) -> Gone
     requires { next < 2 ^ 32 }
-    ensures { Goes (plain (flat.Multiply64Constant to left constant)) (surroundings context.now) r.old next (contents memory.now) result r.new (contents memory.now) }
+    ensures { Goes (plain step.now) (surroundings context.now) r.old next (contents memory.now) result r.new (contents memory.now) }
 {
+    let FlatStep::Multiply64Constant { to, left, constant } = *step else {
+        return Gone::Other;
+    };
     run64(
         context,
         r,
@@ -246,13 +251,14 @@ pub fn and64_constant(
     r: &mut Registers,
     next: usize,
     memory: &Memory,
-    to: RegisterNumber,
-    left: RegisterNumber,
-    constant: u64,
+    step: &FlatStep,
 ) -> Gone
     requires { next < 2 ^ 32 }
-    ensures { Goes (plain (flat.And64Constant to left constant)) (surroundings context.now) r.old next (contents memory.now) result r.new (contents memory.now) }
+    ensures { Goes (plain step.now) (surroundings context.now) r.old next (contents memory.now) result r.new (contents memory.now) }
 {
+    let FlatStep::And64Constant { to, left, constant } = *step else {
+        return Gone::Other;
+    };
     run64(
         context,
         r,
@@ -285,13 +291,14 @@ pub fn or64_constant(
     r: &mut Registers,
     next: usize,
     memory: &Memory,
-    to: RegisterNumber,
-    left: RegisterNumber,
-    constant: u64,
+    step: &FlatStep,
 ) -> Gone
     requires { next < 2 ^ 32 }
-    ensures { Goes (plain (flat.Or64Constant to left constant)) (surroundings context.now) r.old next (contents memory.now) result r.new (contents memory.now) }
+    ensures { Goes (plain step.now) (surroundings context.now) r.old next (contents memory.now) result r.new (contents memory.now) }
 {
+    let FlatStep::Or64Constant { to, left, constant } = *step else {
+        return Gone::Other;
+    };
     run64(
         context,
         r,
@@ -324,13 +331,14 @@ pub fn xor64_constant(
     r: &mut Registers,
     next: usize,
     memory: &Memory,
-    to: RegisterNumber,
-    left: RegisterNumber,
-    constant: u64,
+    step: &FlatStep,
 ) -> Gone
     requires { next < 2 ^ 32 }
-    ensures { Goes (plain (flat.Xor64Constant to left constant)) (surroundings context.now) r.old next (contents memory.now) result r.new (contents memory.now) }
+    ensures { Goes (plain step.now) (surroundings context.now) r.old next (contents memory.now) result r.new (contents memory.now) }
 {
+    let FlatStep::Xor64Constant { to, left, constant } = *step else {
+        return Gone::Other;
+    };
     run64(
         context,
         r,
@@ -461,14 +469,20 @@ pub fn calculate64_constant(
     r: &mut Registers,
     next: usize,
     memory: &Memory,
-    operation: Operation,
-    to: RegisterNumber,
-    left: RegisterNumber,
-    constant: u64,
+    step: &FlatStep,
 ) -> Gone
     requires { next < 2 ^ 32 }
-    ensures { Goes (plain (flat.Calculate64Constant operation to left constant)) (surroundings context.now) r.old next (contents memory.now) result r.new (contents memory.now) }
+    ensures { Goes (plain step.now) (surroundings context.now) r.old next (contents memory.now) result r.new (contents memory.now) }
 {
+    let FlatStep::Calculate64Constant {
+        operation,
+        to,
+        left,
+        constant,
+    } = *step
+    else {
+        return Gone::Other;
+    };
     calculate64(
         context,
         r,
@@ -487,14 +501,20 @@ pub fn constant_calculate64(
     r: &mut Registers,
     next: usize,
     memory: &Memory,
-    operation: Operation,
-    to: RegisterNumber,
-    right: RegisterNumber,
-    constant: u64,
+    step: &FlatStep,
 ) -> Gone
     requires { next < 2 ^ 32 }
-    ensures { Goes (plain (flat.ConstantCalculate64 operation to right constant)) (surroundings context.now) r.old next (contents memory.now) result r.new (contents memory.now) }
+    ensures { Goes (plain step.now) (surroundings context.now) r.old next (contents memory.now) result r.new (contents memory.now) }
 {
+    let FlatStep::ConstantCalculate64 {
+        operation,
+        to,
+        right,
+        constant,
+    } = *step
+    else {
+        return Gone::Other;
+    };
     calculate_front64(
         context,
         r,
@@ -513,14 +533,20 @@ pub fn constant_shift64(
     r: &mut Registers,
     next: usize,
     memory: &Memory,
-    operation: ShiftOperation,
-    to: RegisterNumber,
-    right: RegisterNumber,
-    constant: u64,
+    step: &FlatStep,
 ) -> Gone
     requires { next < 2 ^ 32 }
-    ensures { Goes (plain (flat.ConstantShift64 operation to right constant)) (surroundings context.now) r.old next (contents memory.now) result r.new (contents memory.now) }
+    ensures { Goes (plain step.now) (surroundings context.now) r.old next (contents memory.now) result r.new (contents memory.now) }
 {
+    let FlatStep::ConstantShift64 {
+        operation,
+        to,
+        right,
+        constant,
+    } = *step
+    else {
+        return Gone::Other;
+    };
     shift64(
         context,
         r,
@@ -554,14 +580,20 @@ pub fn multiply_add64_constant(
     r: &mut Registers,
     next: usize,
     memory: &Memory,
-    to: RegisterNumber,
-    first: RegisterNumber,
-    third: RegisterNumber,
-    second: u64,
+    step: &FlatStep,
 ) -> Gone
     requires { next < 2 ^ 32 }
-    ensures { Goes (plain (flat.MultiplyAdd64Constant to first third second)) (surroundings context.now) r.old next (contents memory.now) result r.new (contents memory.now) }
+    ensures { Goes (plain step.now) (surroundings context.now) r.old next (contents memory.now) result r.new (contents memory.now) }
 {
+    let FlatStep::MultiplyAdd64Constant {
+        to,
+        first,
+        third,
+        second,
+    } = *step
+    else {
+        return Gone::Other;
+    };
     double_mad!(context, r, next, memory, to => Source::Register(first), Source::Constant(second), Source::Register(third))
 }
 

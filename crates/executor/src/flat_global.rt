@@ -1,7 +1,6 @@
 //! Flat steps that load from global memory or store to it.
 ghost use Rattle.std.specs.Prelude.{◌<◌, ◌^◌};
 ghost use Rattle.kernel_check.specs.Flat.{plain};
-ghost use Rattle.kernel_check.specs.declared.flat.FlatStep.TheVariants as flat;
 ghost use Rattle.executor.specs.inner.Flat.{Goes};
 ghost use Rattle.executor.specs.inner.Held.{contents, surroundings};
 
@@ -11,7 +10,7 @@ use crate::flat_sources::{kind8, kind16, kind32, kind64, register_and};
 use crate::item::ItemContext;
 use crate::memory::Memory;
 use crate::registers::Registers;
-use kernel_check::{AnySource, RegisterNumber, Signedness, Source, StoreStep};
+use kernel_check::{AnySource, FlatStep, Source, StoreStep};
 use std::alloc::Global;
 
 /// A store to global memory, by its type and its source.
@@ -39,14 +38,20 @@ pub fn load8(
     r: &mut Registers,
     next: usize,
     memory: &Memory,
-    sign: Signedness,
-    to: RegisterNumber,
-    base: RegisterNumber,
-    offset: u64,
+    step: &FlatStep,
 ) -> Gone
     requires { next < 2 ^ 32 }
-    ensures { Goes (plain (flat.Load8 sign to base offset)) (surroundings context.now) r.old next (contents memory.now) result r.new (contents memory.now) }
+    ensures { Goes (plain step.now) (surroundings context.now) r.old next (contents memory.now) result r.new (contents memory.now) }
 {
+    let FlatStep::Load8 {
+        sign,
+        to,
+        base,
+        offset,
+    } = *step
+    else {
+        return Gone::Other;
+    };
     load_single(context, r, next, memory, kind8(sign), to, base, offset)
 }
 
@@ -57,14 +62,20 @@ pub fn load16(
     r: &mut Registers,
     next: usize,
     memory: &Memory,
-    sign: Signedness,
-    to: RegisterNumber,
-    base: RegisterNumber,
-    offset: u64,
+    step: &FlatStep,
 ) -> Gone
     requires { next < 2 ^ 32 }
-    ensures { Goes (plain (flat.Load16 sign to base offset)) (surroundings context.now) r.old next (contents memory.now) result r.new (contents memory.now) }
+    ensures { Goes (plain step.now) (surroundings context.now) r.old next (contents memory.now) result r.new (contents memory.now) }
 {
+    let FlatStep::Load16 {
+        sign,
+        to,
+        base,
+        offset,
+    } = *step
+    else {
+        return Gone::Other;
+    };
     load_single(context, r, next, memory, kind16(sign), to, base, offset)
 }
 
@@ -75,14 +86,20 @@ pub fn load32(
     r: &mut Registers,
     next: usize,
     memory: &Memory,
-    sign: Signedness,
-    to: RegisterNumber,
-    base: RegisterNumber,
-    offset: u64,
+    step: &FlatStep,
 ) -> Gone
     requires { next < 2 ^ 32 }
-    ensures { Goes (plain (flat.Load32 sign to base offset)) (surroundings context.now) r.old next (contents memory.now) result r.new (contents memory.now) }
+    ensures { Goes (plain step.now) (surroundings context.now) r.old next (contents memory.now) result r.new (contents memory.now) }
 {
+    let FlatStep::Load32 {
+        sign,
+        to,
+        base,
+        offset,
+    } = *step
+    else {
+        return Gone::Other;
+    };
     load_single(context, r, next, memory, kind32(sign), to, base, offset)
 }
 
@@ -93,14 +110,20 @@ pub fn load64(
     r: &mut Registers,
     next: usize,
     memory: &Memory,
-    sign: Signedness,
-    to: RegisterNumber,
-    base: RegisterNumber,
-    offset: u64,
+    step: &FlatStep,
 ) -> Gone
     requires { next < 2 ^ 32 }
-    ensures { Goes (plain (flat.Load64 sign to base offset)) (surroundings context.now) r.old next (contents memory.now) result r.new (contents memory.now) }
+    ensures { Goes (plain step.now) (surroundings context.now) r.old next (contents memory.now) result r.new (contents memory.now) }
 {
+    let FlatStep::Load64 {
+        sign,
+        to,
+        base,
+        offset,
+    } = *step
+    else {
+        return Gone::Other;
+    };
     load_double(context, r, next, memory, kind64(sign), to, base, offset)
 }
 
@@ -112,14 +135,20 @@ pub fn store8(
     r: &Registers,
     next: usize,
     memory: &mut Memory,
-    sign: Signedness,
-    source: RegisterNumber,
-    base: RegisterNumber,
-    offset: u64,
+    step: &FlatStep,
 ) -> Gone
     requires { next < 2 ^ 32 }
-    ensures { Goes (plain (flat.Store8 sign source base offset)) (surroundings context.now) r.now next (contents memory.old) result r.now (contents memory.new) }
+    ensures { Goes (plain step.now) (surroundings context.now) r.now next (contents memory.old) result r.now (contents memory.new) }
 {
+    let FlatStep::Store8 {
+        sign,
+        source,
+        base,
+        offset,
+    } = *step
+    else {
+        return Gone::Other;
+    };
     store!(alloc, context, r, next, memory => kind8(sign), AnySource::Single(Source::Register(source)), base, offset)
 }
 
@@ -131,14 +160,20 @@ pub fn store16(
     r: &Registers,
     next: usize,
     memory: &mut Memory,
-    sign: Signedness,
-    source: RegisterNumber,
-    base: RegisterNumber,
-    offset: u64,
+    step: &FlatStep,
 ) -> Gone
     requires { next < 2 ^ 32 }
-    ensures { Goes (plain (flat.Store16 sign source base offset)) (surroundings context.now) r.now next (contents memory.old) result r.now (contents memory.new) }
+    ensures { Goes (plain step.now) (surroundings context.now) r.now next (contents memory.old) result r.now (contents memory.new) }
 {
+    let FlatStep::Store16 {
+        sign,
+        source,
+        base,
+        offset,
+    } = *step
+    else {
+        return Gone::Other;
+    };
     store!(alloc, context, r, next, memory => kind16(sign), AnySource::Single(Source::Register(source)), base, offset)
 }
 
@@ -150,14 +185,20 @@ pub fn store32(
     r: &Registers,
     next: usize,
     memory: &mut Memory,
-    sign: Signedness,
-    source: RegisterNumber,
-    base: RegisterNumber,
-    offset: u64,
+    step: &FlatStep,
 ) -> Gone
     requires { next < 2 ^ 32 }
-    ensures { Goes (plain (flat.Store32 sign source base offset)) (surroundings context.now) r.now next (contents memory.old) result r.now (contents memory.new) }
+    ensures { Goes (plain step.now) (surroundings context.now) r.now next (contents memory.old) result r.now (contents memory.new) }
 {
+    let FlatStep::Store32 {
+        sign,
+        source,
+        base,
+        offset,
+    } = *step
+    else {
+        return Gone::Other;
+    };
     store!(alloc, context, r, next, memory => kind32(sign), AnySource::Single(Source::Register(source)), base, offset)
 }
 
@@ -169,14 +210,20 @@ pub fn store64(
     r: &Registers,
     next: usize,
     memory: &mut Memory,
-    sign: Signedness,
-    source: RegisterNumber,
-    base: RegisterNumber,
-    offset: u64,
+    step: &FlatStep,
 ) -> Gone
     requires { next < 2 ^ 32 }
-    ensures { Goes (plain (flat.Store64 sign source base offset)) (surroundings context.now) r.now next (contents memory.old) result r.now (contents memory.new) }
+    ensures { Goes (plain step.now) (surroundings context.now) r.now next (contents memory.old) result r.now (contents memory.new) }
 {
+    let FlatStep::Store64 {
+        sign,
+        source,
+        base,
+        offset,
+    } = *step
+    else {
+        return Gone::Other;
+    };
     store!(alloc, context, r, next, memory => kind64(sign), AnySource::Double(Source::Register(source)), base, offset)
 }
 
@@ -188,14 +235,20 @@ pub fn store_constant8(
     r: &Registers,
     next: usize,
     memory: &mut Memory,
-    sign: Signedness,
-    base: RegisterNumber,
-    constant: u32,
-    offset: u64,
+    step: &FlatStep,
 ) -> Gone
     requires { next < 2 ^ 32 }
-    ensures { Goes (plain (flat.StoreConstant8 sign base constant offset)) (surroundings context.now) r.now next (contents memory.old) result r.now (contents memory.new) }
+    ensures { Goes (plain step.now) (surroundings context.now) r.now next (contents memory.old) result r.now (contents memory.new) }
 {
+    let FlatStep::StoreConstant8 {
+        sign,
+        base,
+        constant,
+        offset,
+    } = *step
+    else {
+        return Gone::Other;
+    };
     store!(alloc, context, r, next, memory => kind8(sign), AnySource::Single(Source::Constant(constant)), base, offset)
 }
 
@@ -207,14 +260,20 @@ pub fn store_constant16(
     r: &Registers,
     next: usize,
     memory: &mut Memory,
-    sign: Signedness,
-    base: RegisterNumber,
-    constant: u32,
-    offset: u64,
+    step: &FlatStep,
 ) -> Gone
     requires { next < 2 ^ 32 }
-    ensures { Goes (plain (flat.StoreConstant16 sign base constant offset)) (surroundings context.now) r.now next (contents memory.old) result r.now (contents memory.new) }
+    ensures { Goes (plain step.now) (surroundings context.now) r.now next (contents memory.old) result r.now (contents memory.new) }
 {
+    let FlatStep::StoreConstant16 {
+        sign,
+        base,
+        constant,
+        offset,
+    } = *step
+    else {
+        return Gone::Other;
+    };
     store!(alloc, context, r, next, memory => kind16(sign), AnySource::Single(Source::Constant(constant)), base, offset)
 }
 
@@ -226,14 +285,20 @@ pub fn store_constant32(
     r: &Registers,
     next: usize,
     memory: &mut Memory,
-    sign: Signedness,
-    base: RegisterNumber,
-    constant: u32,
-    offset: u64,
+    step: &FlatStep,
 ) -> Gone
     requires { next < 2 ^ 32 }
-    ensures { Goes (plain (flat.StoreConstant32 sign base constant offset)) (surroundings context.now) r.now next (contents memory.old) result r.now (contents memory.new) }
+    ensures { Goes (plain step.now) (surroundings context.now) r.now next (contents memory.old) result r.now (contents memory.new) }
 {
+    let FlatStep::StoreConstant32 {
+        sign,
+        base,
+        constant,
+        offset,
+    } = *step
+    else {
+        return Gone::Other;
+    };
     store!(alloc, context, r, next, memory => kind32(sign), AnySource::Single(Source::Constant(constant)), base, offset)
 }
 
@@ -245,13 +310,19 @@ pub fn store_constant64(
     r: &Registers,
     next: usize,
     memory: &mut Memory,
-    sign: Signedness,
-    base: RegisterNumber,
-    offset: u32,
-    constant: u64,
+    step: &FlatStep,
 ) -> Gone
     requires { next < 2 ^ 32 }
-    ensures { Goes (plain (flat.StoreConstant64 sign base offset constant)) (surroundings context.now) r.now next (contents memory.old) result r.now (contents memory.new) }
+    ensures { Goes (plain step.now) (surroundings context.now) r.now next (contents memory.old) result r.now (contents memory.new) }
 {
+    let FlatStep::StoreConstant64 {
+        sign,
+        base,
+        offset,
+        constant,
+    } = *step
+    else {
+        return Gone::Other;
+    };
     store!(alloc, context, r, next, memory => kind64(sign), AnySource::Double(Source::Constant(constant)), base, offset as u64)
 }

@@ -1,7 +1,6 @@
 //! Flat steps that load from group memory or store to it.
 ghost use Rattle.std.specs.Prelude.{◌<◌, ◌^◌};
 ghost use Rattle.kernel_check.specs.Flat.{plain};
-ghost use Rattle.kernel_check.specs.declared.flat.FlatStep.TheVariants as flat;
 ghost use Rattle.executor.specs.inner.Flat.{Goes};
 ghost use Rattle.executor.specs.inner.Held.{contents, surroundings};
 
@@ -13,9 +12,7 @@ use crate::flat_sources::{group_pointer, kind8, kind16, kind32, kind64};
 use crate::item::ItemContext;
 use crate::memory::Memory;
 use crate::registers::Registers;
-use kernel_check::{
-    AnySource, GroupStoreStep, MaybeRegister, NumberType, RegisterNumber, Signedness, Source,
-};
+use kernel_check::{AnySource, FlatStep, GroupStoreStep, Source};
 
 /// A store to group memory, by its type and its source.
 macro_rules! group_store {
@@ -41,14 +38,20 @@ pub fn load_group8(
     r: &mut Registers,
     next: usize,
     memory: &Memory,
-    sign: Signedness,
-    to: RegisterNumber,
-    base: MaybeRegister,
-    offset: u32,
+    step: &FlatStep,
 ) -> Gone
     requires { next < 2 ^ 32 }
-    ensures { Goes (plain (flat.LoadGroup8 sign to base offset)) (surroundings context.now) r.old next (contents memory.now) result r.new (contents memory.now) }
+    ensures { Goes (plain step.now) (surroundings context.now) r.old next (contents memory.now) result r.new (contents memory.now) }
 {
+    let FlatStep::LoadGroup8 {
+        sign,
+        to,
+        base,
+        offset,
+    } = *step
+    else {
+        return Gone::Other;
+    };
     group_load_single(context, r, next, memory, kind8(sign), to, base, offset)
 }
 
@@ -59,14 +62,20 @@ pub fn load_group16(
     r: &mut Registers,
     next: usize,
     memory: &Memory,
-    sign: Signedness,
-    to: RegisterNumber,
-    base: MaybeRegister,
-    offset: u32,
+    step: &FlatStep,
 ) -> Gone
     requires { next < 2 ^ 32 }
-    ensures { Goes (plain (flat.LoadGroup16 sign to base offset)) (surroundings context.now) r.old next (contents memory.now) result r.new (contents memory.now) }
+    ensures { Goes (plain step.now) (surroundings context.now) r.old next (contents memory.now) result r.new (contents memory.now) }
 {
+    let FlatStep::LoadGroup16 {
+        sign,
+        to,
+        base,
+        offset,
+    } = *step
+    else {
+        return Gone::Other;
+    };
     group_load_single(context, r, next, memory, kind16(sign), to, base, offset)
 }
 
@@ -77,14 +86,20 @@ pub fn load_group32(
     r: &mut Registers,
     next: usize,
     memory: &Memory,
-    sign: Signedness,
-    to: RegisterNumber,
-    base: MaybeRegister,
-    offset: u32,
+    step: &FlatStep,
 ) -> Gone
     requires { next < 2 ^ 32 }
-    ensures { Goes (plain (flat.LoadGroup32 sign to base offset)) (surroundings context.now) r.old next (contents memory.now) result r.new (contents memory.now) }
+    ensures { Goes (plain step.now) (surroundings context.now) r.old next (contents memory.now) result r.new (contents memory.now) }
 {
+    let FlatStep::LoadGroup32 {
+        sign,
+        to,
+        base,
+        offset,
+    } = *step
+    else {
+        return Gone::Other;
+    };
     group_load_single(context, r, next, memory, kind32(sign), to, base, offset)
 }
 
@@ -95,14 +110,20 @@ pub fn load_group64(
     r: &mut Registers,
     next: usize,
     memory: &Memory,
-    sign: Signedness,
-    to: RegisterNumber,
-    base: MaybeRegister,
-    offset: u32,
+    step: &FlatStep,
 ) -> Gone
     requires { next < 2 ^ 32 }
-    ensures { Goes (plain (flat.LoadGroup64 sign to base offset)) (surroundings context.now) r.old next (contents memory.now) result r.new (contents memory.now) }
+    ensures { Goes (plain step.now) (surroundings context.now) r.old next (contents memory.now) result r.new (contents memory.now) }
 {
+    let FlatStep::LoadGroup64 {
+        sign,
+        to,
+        base,
+        offset,
+    } = *step
+    else {
+        return Gone::Other;
+    };
     group_load_double(context, r, next, memory, kind64(sign), to, base, offset)
 }
 
@@ -113,14 +134,20 @@ pub fn store_group8(
     r: &Registers,
     next: usize,
     memory: &mut Memory,
-    sign: Signedness,
-    source: RegisterNumber,
-    base: MaybeRegister,
-    offset: u32,
+    step: &FlatStep,
 ) -> Gone
     requires { next < 2 ^ 32 }
-    ensures { Goes (plain (flat.StoreGroup8 sign source base offset)) (surroundings context.now) r.now next (contents memory.old) result r.now (contents memory.new) }
+    ensures { Goes (plain step.now) (surroundings context.now) r.now next (contents memory.old) result r.now (contents memory.new) }
 {
+    let FlatStep::StoreGroup8 {
+        sign,
+        source,
+        base,
+        offset,
+    } = *step
+    else {
+        return Gone::Other;
+    };
     group_store!(context, r, next, memory => kind8(sign), AnySource::Single(Source::Register(source)), base, offset)
 }
 
@@ -131,14 +158,20 @@ pub fn store_group16(
     r: &Registers,
     next: usize,
     memory: &mut Memory,
-    sign: Signedness,
-    source: RegisterNumber,
-    base: MaybeRegister,
-    offset: u32,
+    step: &FlatStep,
 ) -> Gone
     requires { next < 2 ^ 32 }
-    ensures { Goes (plain (flat.StoreGroup16 sign source base offset)) (surroundings context.now) r.now next (contents memory.old) result r.now (contents memory.new) }
+    ensures { Goes (plain step.now) (surroundings context.now) r.now next (contents memory.old) result r.now (contents memory.new) }
 {
+    let FlatStep::StoreGroup16 {
+        sign,
+        source,
+        base,
+        offset,
+    } = *step
+    else {
+        return Gone::Other;
+    };
     group_store!(context, r, next, memory => kind16(sign), AnySource::Single(Source::Register(source)), base, offset)
 }
 
@@ -149,14 +182,20 @@ pub fn store_group32(
     r: &Registers,
     next: usize,
     memory: &mut Memory,
-    sign: Signedness,
-    source: RegisterNumber,
-    base: MaybeRegister,
-    offset: u32,
+    step: &FlatStep,
 ) -> Gone
     requires { next < 2 ^ 32 }
-    ensures { Goes (plain (flat.StoreGroup32 sign source base offset)) (surroundings context.now) r.now next (contents memory.old) result r.now (contents memory.new) }
+    ensures { Goes (plain step.now) (surroundings context.now) r.now next (contents memory.old) result r.now (contents memory.new) }
 {
+    let FlatStep::StoreGroup32 {
+        sign,
+        source,
+        base,
+        offset,
+    } = *step
+    else {
+        return Gone::Other;
+    };
     group_store!(context, r, next, memory => kind32(sign), AnySource::Single(Source::Register(source)), base, offset)
 }
 
@@ -167,14 +206,20 @@ pub fn store_group64(
     r: &Registers,
     next: usize,
     memory: &mut Memory,
-    sign: Signedness,
-    source: RegisterNumber,
-    base: MaybeRegister,
-    offset: u32,
+    step: &FlatStep,
 ) -> Gone
     requires { next < 2 ^ 32 }
-    ensures { Goes (plain (flat.StoreGroup64 sign source base offset)) (surroundings context.now) r.now next (contents memory.old) result r.now (contents memory.new) }
+    ensures { Goes (plain step.now) (surroundings context.now) r.now next (contents memory.old) result r.now (contents memory.new) }
 {
+    let FlatStep::StoreGroup64 {
+        sign,
+        source,
+        base,
+        offset,
+    } = *step
+    else {
+        return Gone::Other;
+    };
     group_store!(context, r, next, memory => kind64(sign), AnySource::Double(Source::Register(source)), base, offset)
 }
 
@@ -185,14 +230,20 @@ pub fn store_group_constant32(
     r: &Registers,
     next: usize,
     memory: &mut Memory,
-    kind: NumberType,
-    base: MaybeRegister,
-    offset: u32,
-    constant: u32,
+    step: &FlatStep,
 ) -> Gone
     requires { next < 2 ^ 32 }
-    ensures { Goes (plain (flat.StoreGroupConstant32 kind base offset constant)) (surroundings context.now) r.now next (contents memory.old) result r.now (contents memory.new) }
+    ensures { Goes (plain step.now) (surroundings context.now) r.now next (contents memory.old) result r.now (contents memory.new) }
 {
+    let FlatStep::StoreGroupConstant32 {
+        kind,
+        base,
+        offset,
+        constant,
+    } = *step
+    else {
+        return Gone::Other;
+    };
     group_store_constant(context, r, next, memory, kind, base, offset, constant)
 }
 
@@ -203,13 +254,19 @@ pub fn store_group_constant64(
     r: &Registers,
     next: usize,
     memory: &mut Memory,
-    sign: Signedness,
-    base: MaybeRegister,
-    offset: u32,
-    constant: u32,
+    step: &FlatStep,
 ) -> Gone
     requires { next < 2 ^ 32 }
-    ensures { Goes (plain (flat.StoreGroupConstant64 sign base offset constant)) (surroundings context.now) r.now next (contents memory.old) result r.now (contents memory.new) }
+    ensures { Goes (plain step.now) (surroundings context.now) r.now next (contents memory.old) result r.now (contents memory.new) }
 {
+    let FlatStep::StoreGroupConstant64 {
+        sign,
+        base,
+        offset,
+        constant,
+    } = *step
+    else {
+        return Gone::Other;
+    };
     group_store!(context, r, next, memory => kind64(sign), AnySource::Double(Source::Constant(constant as u64)), base, offset)
 }

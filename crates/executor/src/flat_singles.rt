@@ -12,8 +12,8 @@ use crate::item::ItemContext;
 use crate::memory::Memory;
 use crate::registers::Registers;
 use kernel_check::{
-    Calculation, ChosenConstants, ConstantBehind, FromOne, FromThree, FromTwo, Operation,
-    RegisterNumber, ShiftOperation, SingleOperation, Source,
+    Calculation, ChosenConstants, ConstantBehind, FlatStep, FromOne, FromThree, FromTwo,
+    SingleOperation, Source,
 };
 
 /// A flat step of 32 bits with two registers, by what puts them together.
@@ -66,12 +66,14 @@ pub fn set32(
     r: &mut Registers,
     next: usize,
     memory: &Memory,
-    to: RegisterNumber,
-    constant: u32,
+    step: &FlatStep,
 ) -> Gone
     requires { next < 2 ^ 32 }
-    ensures { Goes (plain (flat.Set32 to constant)) (surroundings context.now) r.old next (contents memory.now) result r.new (contents memory.now) }
+    ensures { Goes (plain step.now) (surroundings context.now) r.old next (contents memory.now) result r.new (contents memory.now) }
 {
+    let FlatStep::Set32 { to, constant } = *step else {
+        return Gone::Other;
+    };
     run32(
         context,
         r,
@@ -404,14 +406,20 @@ pub fn calculate32_constant(
     r: &mut Registers,
     next: usize,
     memory: &Memory,
-    operation: Operation,
-    to: RegisterNumber,
-    left: RegisterNumber,
-    constant: u32,
+    step: &FlatStep,
 ) -> Gone
     requires { next < 2 ^ 32 }
-    ensures { Goes (plain (flat.Calculate32Constant operation to left constant)) (surroundings context.now) r.old next (contents memory.now) result r.new (contents memory.now) }
+    ensures { Goes (plain step.now) (surroundings context.now) r.old next (contents memory.now) result r.new (contents memory.now) }
 {
+    let FlatStep::Calculate32Constant {
+        operation,
+        to,
+        left,
+        constant,
+    } = *step
+    else {
+        return Gone::Other;
+    };
     calculate32(
         context,
         r,
@@ -430,14 +438,20 @@ pub fn constant_calculate32(
     r: &mut Registers,
     next: usize,
     memory: &Memory,
-    operation: Operation,
-    to: RegisterNumber,
-    right: RegisterNumber,
-    constant: u32,
+    step: &FlatStep,
 ) -> Gone
     requires { next < 2 ^ 32 }
-    ensures { Goes (plain (flat.ConstantCalculate32 operation to right constant)) (surroundings context.now) r.old next (contents memory.now) result r.new (contents memory.now) }
+    ensures { Goes (plain step.now) (surroundings context.now) r.old next (contents memory.now) result r.new (contents memory.now) }
 {
+    let FlatStep::ConstantCalculate32 {
+        operation,
+        to,
+        right,
+        constant,
+    } = *step
+    else {
+        return Gone::Other;
+    };
     calculate_front32(
         context,
         r,
@@ -456,14 +470,20 @@ pub fn constant_shift32(
     r: &mut Registers,
     next: usize,
     memory: &Memory,
-    operation: ShiftOperation,
-    to: RegisterNumber,
-    right: RegisterNumber,
-    constant: u32,
+    step: &FlatStep,
 ) -> Gone
     requires { next < 2 ^ 32 }
-    ensures { Goes (plain (flat.ConstantShift32 operation to right constant)) (surroundings context.now) r.old next (contents memory.now) result r.new (contents memory.now) }
+    ensures { Goes (plain step.now) (surroundings context.now) r.old next (contents memory.now) result r.new (contents memory.now) }
 {
+    let FlatStep::ConstantShift32 {
+        operation,
+        to,
+        right,
+        constant,
+    } = *step
+    else {
+        return Gone::Other;
+    };
     shift32(
         context,
         r,
@@ -497,14 +517,20 @@ pub fn multiply_add32_constants(
     r: &mut Registers,
     next: usize,
     memory: &Memory,
-    to: RegisterNumber,
-    first: RegisterNumber,
-    second: u32,
-    third: u32,
+    step: &FlatStep,
 ) -> Gone
     requires { next < 2 ^ 32 }
-    ensures { Goes (plain (flat.MultiplyAdd32Constants to first second third)) (surroundings context.now) r.old next (contents memory.now) result r.new (contents memory.now) }
+    ensures { Goes (plain step.now) (surroundings context.now) r.old next (contents memory.now) result r.new (contents memory.now) }
 {
+    let FlatStep::MultiplyAdd32Constants {
+        to,
+        first,
+        second,
+        third,
+    } = *step
+    else {
+        return Gone::Other;
+    };
     single_mad!(context, r, next, memory, to => Source::Register(first), Source::Constant(second), Source::Constant(third))
 }
 

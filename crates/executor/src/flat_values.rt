@@ -1,6 +1,6 @@
 //! Flat steps that compute in registers.
 ghost use Rattle.std.specs.Prelude.{◌≡◌, IfSome, ◌<◌, ◌+◌, ◌^◌, Some, if◌then◌else◌};
-ghost use Rattle.kernel_check.specs.Flat.{calculated32, calculated64, choice, compared32, compared64, control_step, double_step, plain, shifted32, shifted64, single_step, source_of, triple_of};
+ghost use Rattle.kernel_check.specs.Flat.{calculated32, calculated64, compared32, compared64, control_step, double_step, plain, shifted32, shifted64, single_step, source_of, triple_of};
 ghost use Rattle.kernel_check.specs.declared.flat.FlatStep.TheVariants as flat;
 ghost use Rattle.kernel_check.specs.declared.step.DoubleOperation.TheVariants as double;
 ghost use Rattle.kernel_check.specs.declared.step.SingleOperation.TheVariants as single;
@@ -20,9 +20,9 @@ use crate::number::Number;
 use crate::registers::Registers;
 use crate::values::{value1, value32, value64};
 use kernel_check::{
-    Compare, ControlOperation, ConvertStep, DoubleOperation, FromOne, NumberType, Operand,
-    Operation, Pair, RegisterNumber, Shift64, ShiftOperation, Signedness, SingleOperation, Source,
-    Source32, Source64,
+    Compare, ControlOperation, ConvertStep, DoubleOperation, FlatStep, FromOne, NumberType,
+    Operand, Operation, Pair, RegisterNumber, Shift64, ShiftOperation, Signedness, SingleOperation,
+    Source, Source32, Source64,
 };
 
 /// Puts what an operation comes to into a `$c` register, and goes on.
@@ -432,15 +432,21 @@ pub fn mad32_of(
     r: &mut Registers,
     next: usize,
     memory: &Memory,
-    to: RegisterNumber,
-    first: Operand,
-    second: Operand,
-    third: Operand,
-    constant: u32,
+    step: &FlatStep,
 ) -> Gone
     requires { next < 2 ^ 32 }
-    ensures { Goes (single_step to (single.MultiplyAdd (triple_of first second third constant))) (surroundings context.now) r.old next (contents memory.now) result r.new (contents memory.now) }
+    ensures { Goes (plain step.now) (surroundings context.now) r.old next (contents memory.now) result r.new (contents memory.now) }
 {
+    let FlatStep::MultiplyAdd32Of {
+        to,
+        first,
+        second,
+        third,
+        constant,
+    } = *step
+    else {
+        return Gone::Other;
+    };
     let bits = product32(r, first, second, third, constant);
     r.set32(to, bits);
     Gone::Onward
@@ -473,15 +479,21 @@ pub fn mad64_of(
     r: &mut Registers,
     next: usize,
     memory: &Memory,
-    to: RegisterNumber,
-    first: Operand,
-    second: Operand,
-    third: Operand,
-    constant: u64,
+    step: &FlatStep,
 ) -> Gone
     requires { next < 2 ^ 32 }
-    ensures { Goes (double_step to (double.MultiplyAdd (triple_of first second third constant))) (surroundings context.now) r.old next (contents memory.now) result r.new (contents memory.now) }
+    ensures { Goes (plain step.now) (surroundings context.now) r.old next (contents memory.now) result r.new (contents memory.now) }
 {
+    let FlatStep::MultiplyAdd64Of {
+        to,
+        first,
+        second,
+        third,
+        constant,
+    } = *step
+    else {
+        return Gone::Other;
+    };
     let bits = product64(r, first, second, third, constant);
     r.set64(to, bits);
     Gone::Onward
@@ -502,15 +514,21 @@ pub fn choose32(
     r: &mut Registers,
     next: usize,
     memory: &Memory,
-    to: RegisterNumber,
-    condition: RegisterNumber,
-    one: Operand,
-    zero: Operand,
-    constant: u32,
+    step: &FlatStep,
 ) -> Gone
     requires { next < 2 ^ 32 }
-    ensures { Goes (single_step to (single.Choose (choice condition (source_of one constant) (source_of zero constant)))) (surroundings context.now) r.old next (contents memory.now) result r.new (contents memory.now) }
+    ensures { Goes (plain step.now) (surroundings context.now) r.old next (contents memory.now) result r.new (contents memory.now) }
 {
+    let FlatStep::Choose32 {
+        to,
+        condition,
+        one,
+        zero,
+        constant,
+    } = *step
+    else {
+        return Gone::Other;
+    };
     let operand = chosen(r.read1(Source::Register(condition)), one, zero);
     let bits = r.read32(source_of(operand, constant));
     r.set32(to, bits);
@@ -524,15 +542,21 @@ pub fn choose64(
     r: &mut Registers,
     next: usize,
     memory: &Memory,
-    to: RegisterNumber,
-    condition: RegisterNumber,
-    one: Operand,
-    zero: Operand,
-    constant: u64,
+    step: &FlatStep,
 ) -> Gone
     requires { next < 2 ^ 32 }
-    ensures { Goes (double_step to (double.Choose (choice condition (source_of one constant) (source_of zero constant)))) (surroundings context.now) r.old next (contents memory.now) result r.new (contents memory.now) }
+    ensures { Goes (plain step.now) (surroundings context.now) r.old next (contents memory.now) result r.new (contents memory.now) }
 {
+    let FlatStep::Choose64 {
+        to,
+        condition,
+        one,
+        zero,
+        constant,
+    } = *step
+    else {
+        return Gone::Other;
+    };
     let operand = chosen(r.read1(Source::Register(condition)), one, zero);
     let bits = r.read64(source_of(operand, constant));
     r.set64(to, bits);

@@ -66,6 +66,7 @@ pub fn run_items(
 
 /// Runs items that begin, one after another, each until it stops; those that ended before the first that
 /// waits aren't kept.
+#[inline(never)]
 fn run_to_first_barrier(
     alloc: Global,
     context: &ItemContext<'_>,
@@ -131,6 +132,7 @@ fn keep_stopped(stopped: &mut Vec<StoppedItem>, item: &StoppedItem) -> Result<()
 }
 
 /// Runs items that wait, one after another, each until it stops again.
+#[inline(never)]
 fn run_past_barrier(
     alloc: Global,
     context: &ItemContext<'_>,

@@ -38,10 +38,10 @@ fn began_stopped(start: &Origin, queue: QueueId) -> bool {
     false
 }
 
-// Whether a queue was stopped, by the last entries and by what the history begins with.
-fn was_stopped(scene: &Scene<'_>, queue: QueueId) -> bool {
+// Whether a queue was stopped, by so many last entries and by what the history begins with.
+fn was_stopped(scene: &Scene<'_>, queue: QueueId, looked: usize) -> bool {
     let entries = scene.known.entries();
-    let before = entries.len().saturating_sub(LOOKED);
+    let before = entries.len().saturating_sub(looked);
     for entry in entries.split_at(before.min(entries.len())).1 {
         if stops(entry, queue) {
             return true;
@@ -50,13 +50,18 @@ fn was_stopped(scene: &Scene<'_>, queue: QueueId) -> bool {
     began_stopped(scene.core.start(), queue)
 }
 
-/// Why a queue launches nothing more, if that is so and is known.
-pub fn down_of(scene: &Scene<'_>, queue: QueueId) -> Option<Down> {
+/// Why a queue launches nothing more, if that is so and is known by so many last entries.
+pub fn down_among(scene: &Scene<'_>, queue: QueueId, looked: usize) -> Option<Down> {
     match scene.core.errors_of(queue).last() {
         Some(error) => Some(Down::Failed(*error)),
-        None if was_stopped(scene, queue) => Some(Down::Stopped),
+        None if was_stopped(scene, queue, looked) => Some(Down::Stopped),
         None => None,
     }
+}
+
+/// Why a queue launches nothing more, if that is so and is known.
+pub fn down_of(scene: &Scene<'_>, queue: QueueId) -> Option<Down> {
+    down_among(scene, queue, LOOKED)
 }
 
 /// Puts that a queue launches nothing more behind a text, to the end of the line.
@@ -68,8 +73,8 @@ pub fn put_down(out: &mut String, down: Down) -> Result<(), AllocError> {
     out.push_str(", and launches nothing more: open another with `queue`\n")
 }
 
-// The producer that holds an id's open ticket, if one does.
-fn producer_of(ring: &RingState, packet: PacketId) -> Option<u64> {
+/// The producer that holds an id's open ticket, if one does.
+pub fn producer_of(ring: &RingState, packet: PacketId) -> Option<u64> {
     for (seat, part) in ring.parts().iter().enumerate() {
         if let SeatPart::Producer(part) = part {
             if part.tickets.get_open(packet).is_some() {

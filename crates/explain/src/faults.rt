@@ -187,11 +187,7 @@ fn had(launch: &Launch<'_>, region: Object, right: Right) -> bool {
     let client = launch.opening.client;
     match launch.flown {
         Flown::Since(found) => was_in_force(launch.start, found.before, client, region, right),
-        Flown::Before(packet) => launch
-            .start
-            .grants
-            .rights_held(packet.flying.queue, packet.flying.id, client, region)
-            .has(right),
+        Flown::Before(packet) => packet.holds(client, region, right),
     }
 }
 

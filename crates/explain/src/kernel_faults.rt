@@ -290,6 +290,34 @@ pub fn text_help(
     Ok(out)
 }
 
+/// What is said of a place of a file.
+pub fn said_at(
+    alloc: Global,
+    file: &str,
+    position: Position,
+    said: &str,
+) -> Result<String, AllocError> {
+    let mut out = String::new(alloc);
+    begin(&mut out, file, Place::At(position))?;
+    writeln!(out, "{said}")?;
+    Ok(out)
+}
+
+/// What is wrong with the text of kernels in a file: where that lies, the line with a mark, and what helps.
+pub fn file_fault(
+    alloc: Global,
+    file: &str,
+    text: &[u8],
+    fault: TextFault,
+) -> Result<String, AllocError> {
+    let mut out = String::new(alloc);
+    begin(&mut out, file, Place::At(position_in(text, fault)))?;
+    out.push_str("the kernel's text has a fault:\n")?;
+    out.push_str(told(alloc, text, fault)?.as_str())?;
+    out.push_str(text_help(alloc, file, text, fault)?.as_str())?;
+    Ok(out)
+}
+
 // What stands in a string of TOML from its first letter on: after its quotes, and after the end of the line after three.
 fn inside(value: &str) -> &str {
     for quotes in ["'''", "\"\"\""] {

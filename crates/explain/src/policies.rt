@@ -9,6 +9,7 @@ use policy::{
     Key, MOST_AGENTS, MOST_ALLOW_ROWS, MOST_CLIENTS, MOST_DENY_ROWS, MOST_KERNELS,
     MOST_MEMORY_BYTES, MOST_POLICY_BYTES, MOST_SIGNALS, PolicyCause, PolicyFault, Section,
 };
+use policy_listing::TEXT_FILE;
 use std::alloc::{AllocError, Global};
 use toml::{Table, Value};
 
@@ -130,6 +131,18 @@ fn is_one_of(keys: &[Key], name: &str) -> bool {
     false
 }
 
+// Ends a line on a key that isn't known: what embeds a kernel's text, where the key names a file of one.
+fn put_embedding(out: &mut String, faulty: Faulty<'_>, key: &str) -> Result<(), AllocError> {
+    if key == TEXT_FILE && faulty.fault.kind == Some(Section::Kernel) {
+        let file = faulty.file.name;
+        return writeln!(
+            out,
+            ": `brokerd embed {file} > FILE` writes the policy with the text in its place"
+        );
+    }
+    out.push_str("\n")
+}
+
 // A key that a row has and its array doesn't know.
 fn tell_unknown_key(
     out: &mut String,
@@ -146,7 +159,7 @@ fn tell_unknown_key(
             put_word(out, name.as_bytes())?;
             write!(out, " is none that a row of `{array}` has; it has ")?;
             put_keys(out, keys)?;
-            return out.push_str("\n");
+            return put_embedding(out, faulty, name.as_str());
         }
     }
     Ok(())

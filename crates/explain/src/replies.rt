@@ -188,14 +188,19 @@ fn tell(
 
 /// Puts behind a text what is told beside the reply to a line of a script, the line of this number, by the world after
 /// it: why it was refused or denied, failed, waits, never ends or found nothing, in lines; nothing where none of that happened.
+/// Behind a reload, the rows on rights are those of this file.
 pub fn retold(
     alloc: Global,
     out: &mut String,
     world: &World,
+    file: Option<&str>,
     line: u64,
     asked: Asked,
     reply: &LineReply,
 ) -> Result<(), AllocError> {
-    let scene = Scene::of(Known::Now(world.core()), line);
+    let scene = Scene {
+        file,
+        ..Scene::of(Known::Now(world.core()), line)
+    };
     tell(alloc, out, &scene, world, asked, reply)
 }

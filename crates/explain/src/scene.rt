@@ -10,14 +10,15 @@ use policy::{Object, Policy, PolicyRows};
 use queue_error::QueueError;
 use std::alloc::AllocError;
 
-/// What is known, the core that knows it, its policy, the rows on rights that are in force, and the number of the line that
-/// is explained.
+/// What is known, the core that knows it, its policy, the rows on rights that are in force, the name of the file that they
+/// are from behind a reload, if it is known, and the number of the line that is explained.
 #[derive(Clone, Copy)]
 pub struct Scene<'a> {
     pub known: Known<'a>,
     pub core: &'a AccessCore,
     pub policy: &'a Policy,
     pub rows: &'a PolicyRows,
+    pub file: Option<&'a str>,
     pub line: u64,
 }
 
@@ -30,8 +31,14 @@ impl<'a> Scene<'a> {
             core,
             policy: core.policy(),
             rows: known.rows(),
+            file: None,
             line,
         }
+    }
+
+    // How the policy that is in force is called.
+    fn policy_name(&self) -> &'a str {
+        self.file.unwrap_or("the policy")
     }
 }
 
@@ -61,10 +68,11 @@ fn is_covered(scene: &Scene<'_>, lack: &Lack) -> bool {
 /// Puts why a policy doesn't allow a right behind a text.
 pub fn put_why_not(out: &mut String, scene: &Scene<'_>, lack: &Lack) -> Result<(), AllocError> {
     let right = lack.right;
+    let policy = scene.policy_name();
     if is_covered(scene, lack) {
-        write!(out, "a deny row of the policy takes {right} on ")?;
+        write!(out, "a deny row of {policy} takes {right} on ")?;
     } else {
-        write!(out, "no allow row of the policy covers {right} on ")?;
+        write!(out, "no allow row of {policy} covers {right} on ")?;
     }
     put_object(out, scene.policy, lack.object)?;
     out.push_str(if is_covered(scene, lack) {

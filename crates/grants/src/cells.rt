@@ -5,6 +5,7 @@ ghost use Rattle.std.specs.Prelude.{ℕ, ◌≡◌, ◌+◌, ◌-◌, ◌<◌, �
 ghost use Rattle.std.specs.Option.{is_some};
 ghost use Rattle.aql_packet.specs.declared.ids.ClientId.{ClientId};
 ghost use Rattle.policy.specs.declared.object.Object.{Object};
+ghost use Rattle.policy.specs.Object.{object_of};
 ghost use Rattle.policy.specs.declared.rights.Right.{Right};
 ghost use Rattle.policy.specs.Rights.{each_right, has};
 ghost use Rattle.grants.specs.Pairs.{same_pair, is_one_of};
@@ -20,7 +21,7 @@ use crate::policy_grid::PolicyGrid;
 use crate::sets::is_none;
 use crate::weighing::{Allowed, rights_at};
 use aql_packet::ClientId;
-use policy::{Object, Policy, PolicyRows, Rights};
+use policy::{Kind, Object, Policy, PolicyRows, Rights};
 use std::alloc::{AllocError, Global};
 use std::boxed::BoxedSlice;
 use std::marker::Model;
@@ -138,6 +139,18 @@ impl Cells {
         self.rules.set_rows(rows);
     }
 
+    /// The same, in exchange for those before, which come back.
+    pub fn exchange_rows(&mut self, rows: &mut PolicyRows)
+        ensures kept { (client : ClientId) (object : Object) (right : Right) → in_table self.new client object right
+            ≡ (in_table self.old client object right && rows_allow rows.old client object right) }
+        ensures counts { (client : ClientId) (object : Object) (right : Right) → hold_count self.new client object right ≡ hold_count self.old client object right }
+        ensures rules { self.new.rules ≡ record self.old.rules { rows = rows.old } }
+    {
+        self.allowed.weigh(&self.rules, rows);
+        settle(&mut self.cells, self.allowed.table.as_slice());
+        self.rules.exchange_rows(rows);
+    }
+
     /// Whether other rows allow all that is in force. The table stays: what it changes is room to reckon in. It takes no
     /// memory.
     pub fn are_allowed_by(&mut self, rows: &PolicyRows) -> bool
@@ -170,6 +183,14 @@ impl Cells {
         ensures declared { is_some result ≡ (knows_client self.now.rules client && knows_object self.now.rules object) }
     {
         let place = self.rules.place_of(client, object)?;
+        cell_at(self.cells.as_slice(), place)
+    }
+
+    /// The same, of the object of a kind and a number.
+    pub fn get_at(&self, client: ClientId, kind: Kind, number: u64) -> Option<Cell>
+        ensures { result ≡ cell_of self.now client (object_of kind number) }
+    {
+        let place = self.rules.place_at(client, kind, number)?;
         cell_at(self.cells.as_slice(), place)
     }
 

@@ -2,6 +2,7 @@
 
 ghost use Rattle.std.specs.Prelude.{◌≡◌, ◌↔◌, ◌+◌, ◌<◌, ◌≤◌, ◌++◌, ◌∷◌, [], true, None, IfOk, OnOk, OnErr, Ok, length};
 ghost use Rattle.policy.specs.declared.rights.Right.{Right};
+ghost use Rattle.policy.specs.Object.{object_of};
 ghost use Rattle.policy.specs.Rights.{has, each_right, rights_that};
 ghost use Rattle.policy.specs.Listing.{objects_of_kind, listing_by};
 ghost use Rattle.policy.specs.Policy.{rules_of};
@@ -175,7 +176,16 @@ impl Grants {
     pub fn is_in_force(&self, client: ClientId, object: Object, right: Right) -> bool
         ensures { result ≡ in_force self.now client object right }
     {
-        match self.table.get(client, object) {
+        self.stands(client, object.kind(), object.number(), right)
+    }
+
+    // Whether a client's right on the object of a kind and a number is in force. It is called, not laid into its callers, so
+    // that the judging of a packet stays in one piece; and with plain numbers, so that no object is put into memory for it.
+    #[inline(never)]
+    fn stands(&self, client: ClientId, kind: Kind, number: u64, right: Right) -> bool
+        ensures { result ≡ in_force self.now client (object_of kind number) right }
+    {
+        match self.table.get_at(client, kind, number) {
             Some(cell) => cell.rights.has(right),
             None => false,
         }
@@ -312,6 +322,14 @@ impl Grants {
         ensures { Reloads self.old self.new rows }
     {
         self.table.put_rows(rows);
+    }
+
+    /// The same, in exchange for the rows before, which come back.
+    pub fn exchange_rows(&mut self, rows: &mut PolicyRows)
+        requires { IsBlockedBy self.old rows.old None }
+        ensures { Reloads self.old self.new rows.old }
+    {
+        self.table.exchange_rows(rows);
     }
 
     /// The same grants and holds in memory of their own, with no more room than they take.

@@ -1,11 +1,12 @@
 //! What grants keep of a policy.
 
-ghost use Rattle.std.specs.Prelude.{◌≡◌, ◌≤◌, ◌*◌, IfOk};
+ghost use Rattle.std.specs.Prelude.{◌≡◌, ◌≤◌, ◌*◌, ◌+◌, ◌-◌, ◌&&◌, IfOk, Some, None, if◌then◌else◌, nat_le, nat_lt};
 
 use aql_packet::ClientId;
 use policy::{Kind, Object, Policy, PolicyRows, Target};
 use std::alloc::{AllocError, Global};
 use std::marker::Model;
+use std::mem::swap;
 
 /// How many clients and objects a policy declares, and its rows on rights.
 #[derive(Drop)]
@@ -15,6 +16,7 @@ pub struct PolicyGrid {
     regions: usize,
     signals: usize,
     kernels: usize,
+    objects: usize,
     rows: PolicyRows,
 }
 
@@ -32,15 +34,27 @@ impl Model for PolicyGrid {
       rows = grid.rows;
     } };
 
-    ghost use Rattle.std.specs.Prelude.{◌≤◌};
+    ghost use Rattle.std.specs.Prelude.{◌≡◌, ◌≤◌, ◌+◌};
 
-    ghost invariant = { λ grid. ((((grid.clients ≤ 1024) × (grid.agents ≤ 1024)) × (grid.regions ≤ 1024)) × (grid.signals ≤ 1024)) × (grid.kernels ≤ 1024) };
+    ghost invariant = { λ grid. ((((grid.clients ≤ 1024) × (grid.agents ≤ 1024)) × (grid.regions ≤ 1024)) × (grid.signals ≤ 1024)) × (grid.kernels ≤ 1024)
+        × (grid.objects ≡ grid.agents + grid.regions + grid.signals + grid.kernels) };
+}
+
+// The place of the object with this number, of so many of its kind, behind so many others.
+fn place_behind(others: usize, count: usize, number: u64) -> Option<usize>
+    requires { (others ≤ 3072) × (count ≤ 1024) }
+    ensures { result ≡ (if nat_lt 0 number && nat_le number count then Some (others + (number - 1)) else None) }
+{
+    if number < 1 || number > count as u64 {
+        return None;
+    }
+    Some(others + (number as usize - 1))
 }
 
 impl PolicyGrid {
     ghost use Rattle.policy.specs.Policy.{rules_of};
-    ghost use Rattle.std.specs.Prelude.{◌+◌, Some, None, true, if◌then◌else◌};
-    ghost use Rattle.policy.specs.Object.{number_of};
+    ghost use Rattle.std.specs.Prelude.{true};
+    ghost use Rattle.policy.specs.Object.{number_of, object_of};
     ghost use Rattle.policy.specs.Rules.{count, knows_client, knows_object};
     ghost use Rattle.grants.specs.Cells.{object_count, object_place, objects_before, place_of};
     ghost use Rattle.grants.specs.inner.Weighing.{kind_place, kind_place_at, target_place};
@@ -49,12 +63,17 @@ impl PolicyGrid {
     pub fn of(alloc: Global, policy: &Policy) -> Result<PolicyGrid, AllocError>
         ensures { IfOk result (λ grid. grid ≡ rules_of policy.now) }
     {
+        let agents = policy.object_count(Kind::Agent);
+        let regions = policy.object_count(Kind::Region);
+        let signals = policy.object_count(Kind::Signal);
+        let kernels = policy.object_count(Kind::Kernel);
         Ok(PolicyGrid {
             clients: policy.client_count(),
-            agents: policy.object_count(Kind::Agent),
-            regions: policy.object_count(Kind::Region),
-            signals: policy.object_count(Kind::Signal),
-            kernels: policy.object_count(Kind::Kernel),
+            agents,
+            regions,
+            signals,
+            kernels,
+            objects: agents + regions + signals + kernels,
             rows: policy.rows().copy(alloc)?,
         })
     }
@@ -69,6 +88,7 @@ impl PolicyGrid {
             regions: self.regions,
             signals: self.signals,
             kernels: self.kernels,
+            objects: self.objects,
             rows: self.rows.copy(alloc)?,
         })
     }
@@ -78,6 +98,14 @@ impl PolicyGrid {
         ensures { self.new ≡ record self.old { rows = rows } }
     {
         self.rows = rows;
+    }
+
+    /// Exchanges the rows on rights for others.
+    pub fn exchange_rows(&mut self, rows: &mut PolicyRows)
+        ensures grid { self.new ≡ record self.old { rows = rows.old } }
+        ensures rows { rows.new ≡ self.old.rows }
+    {
+        swap(&mut self.rows, rows);
     }
 
     /// The rows on rights.
@@ -113,7 +141,7 @@ impl PolicyGrid {
         ensures count { result ≡ object_count self.now }
         ensures bound { result ≤ 4096 }
     {
-        self.agents + self.regions + self.signals + self.kernels
+        self.objects
     }
 
     /// How many objects come before those of a kind.
@@ -141,11 +169,22 @@ impl PolicyGrid {
     pub fn place_of(&self, client: ClientId, object: Object) -> Option<usize>
         ensures { result ≡ place_of self.now client object }
     {
-        if !self.knows_client(client) || !self.knows(object) {
+        if !self.knows_client(client) {
             return None;
         }
-        let row = (client.0 as usize - 1) * self.object_count();
-        Some(row + self.objects_before(object.kind()) + (object.number() as usize - 1))
+        let place = self.object_place(object)?;
+        Some((client.0 as usize - 1) * self.objects + place)
+    }
+
+    /// The place of the cell of a client and the object of a kind and a number, if both are declared.
+    pub fn place_at(&self, client: ClientId, kind: Kind, number: u64) -> Option<usize>
+        ensures { result ≡ place_of self.now client (object_of kind number) }
+    {
+        if !self.knows_client(client) {
+            return None;
+        }
+        let place = self.place_of_number(kind, number)?;
+        Some((client.0 as usize - 1) * self.objects + place)
     }
 
     /// Whether the client is declared.
@@ -184,10 +223,28 @@ impl PolicyGrid {
     fn object_place(&self, object: Object) -> Option<usize>
         ensures { result ≡ (if knows_object self.now object then Some (object_place self.now object) else None) }
     {
-        if !self.knows(object) {
-            return None;
+        match object {
+            Object::Agent(agent) => self.place_of_number(Kind::Agent, agent.0 as u64),
+            Object::Region(region) => self.place_of_number(Kind::Region, region.0 as u64),
+            Object::Signal(signal) => self.place_of_number(Kind::Signal, signal.0),
+            Object::Kernel(kernel) => self.place_of_number(Kind::Kernel, kernel.0),
         }
-        Some(self.objects_before(object.kind()) + (object.number() as usize - 1))
+    }
+
+    // The place of the object of a kind and a number among all, if it is declared.
+    fn place_of_number(&self, kind: Kind, number: u64) -> Option<usize>
+        ensures { result ≡ (if knows_object self.now (object_of kind number) then Some (object_place self.now (object_of kind number)) else None) }
+    {
+        match kind {
+            Kind::Agent => place_behind(0, self.agents, number),
+            Kind::Region => place_behind(self.agents, self.regions, number),
+            Kind::Signal => place_behind(self.agents + self.regions, self.signals, number),
+            Kind::Kernel => place_behind(
+                self.agents + self.regions + self.signals,
+                self.kernels,
+                number,
+            ),
+        }
     }
 
     /// The place of all objects of a kind in such a line.

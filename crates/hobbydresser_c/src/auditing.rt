@@ -1,10 +1,10 @@
-//! The audit: how long it is, its lines, and its rotation.
+//! The audit: how long it is, its lines, and how it is emptied.
 
 ghost use Rattle.std.specs.Prelude.{◌≡◌, IfOk, false, length, string_bytes, true};
 ghost use Rattle.std.specs.Option.{option_copied};
 ghost use Rattle.core_model.specs.History.{beginning};
 ghost use Rattle.script.specs.Entries.{text_of_entry};
-ghost use Rattle.hobbydresser_c.specs.Audits.{Rotated, entry_numbered};
+ghost use Rattle.hobbydresser_c.specs.Audits.{Rotated, Truncated, entry_numbered};
 ghost use Rattle.hobbydresser_c.specs.Buffers.{FillsOrLacks};
 ghost use Rattle.hobbydresser_c.specs.Calls.{IsNoted, IsSame, Keeps, WhereKnown, history_of, is_open, status_of};
 ghost use Rattle.hobbydresser_c.specs.Names.{policy_of};
@@ -12,6 +12,7 @@ ghost use Rattle.hobbydresser_c.specs.Statuses.{closed, no_such, ok};
 
 use crate::broker::Broker;
 use crate::buffers::fill;
+use crate::granting::status_of;
 use crate::status;
 use access_core::AccessCore;
 use core_model::{Entry, Part, Refusal};
@@ -106,4 +107,19 @@ pub extern "C" fn hd_rotate(alloc: Global, broker: &mut Broker) -> u32
     }
     let core = &mut broker.pointer.session_mut().core;
     tell_part(core.rotate(alloc))
+}
+
+/// Empties the audit, whose entries were written down elsewhere: the history goes on from where it stands, and of memory
+/// nothing is copied but what they wrote.
+#[unsafe(no_mangle)]
+pub extern "C" fn hd_truncate(alloc: Global, broker: &mut Broker) -> u32
+    ensures closed { is_open broker.old ≡ false → (result ≡ closed) × IsSame broker.old broker.new }
+    ensures open { Keeps broker.old broker.new }
+    ensures met { is_open broker.old ≡ true → Truncated broker.old broker.new result }
+{
+    if !broker.called() {
+        return status::CLOSED;
+    }
+    let core = &mut broker.pointer.session_mut().core;
+    status_of(core.truncate(alloc))
 }

@@ -11,7 +11,7 @@ ghost use Rattle.hobbydresser_c.specs.Calls.{Answered, IsMade, IsSame, Keeps, Te
 use crate::broker::Broker;
 use crate::granting::status_of;
 use crate::status;
-use crate::told::{PolledRecord, TakenRecord, WorkedRecord, polled_told, taken_told, worked_told};
+use crate::told::{PolledRecord, TakenRecord, WorkedRecord, polled_told, taken_told, tell_group};
 use aql_packet::{PacketId, QueueId};
 use core_model::{Polled, Refusal, Taken, Worked};
 use std::alloc::Global;
@@ -64,7 +64,7 @@ fn tell_worked(answer: Result<Worked, Refusal>, out: &mut WorkedRecord) -> u32
 {
     match answer {
         Ok(worked) => {
-            *out = worked_told(worked);
+            tell_group(worked, out);
             status::OK
         }
         Err(why) => status::of_refusal(why),

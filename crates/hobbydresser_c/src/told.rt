@@ -186,29 +186,36 @@ pub fn taken_told(taken: Taken) -> TakenRecord
     TakenRecord { became, error }
 }
 
-/// What became of a group, as C sees it.
-pub fn worked_told(worked: Worked) -> WorkedRecord
-    ensures { result ≡ worked_told worked }
+/// Tells what became of a group, as C sees it: into the caller's record at once, so that no field of a variant that it isn't
+/// is carried along.
+pub fn tell_group(worked: Worked, out: &mut WorkedRecord)
+    ensures { out.new ≡ worked_told worked }
 {
     match worked {
-        Worked::Ran { group, left } => WorkedRecord {
-            became: 0,
-            group,
-            left,
-            error: NO_ERROR,
-        },
-        Worked::Faulted(error) => WorkedRecord {
-            became: 1,
-            group: 0,
-            left: 0,
-            error: error_told(error),
-        },
-        Worked::Done => WorkedRecord {
-            became: 2,
-            group: 0,
-            left: 0,
-            error: NO_ERROR,
-        },
+        Worked::Ran { group, left } => {
+            *out = WorkedRecord {
+                became: 0,
+                group,
+                left,
+                error: NO_ERROR,
+            };
+        }
+        Worked::Faulted(error) => {
+            *out = WorkedRecord {
+                became: 1,
+                group: 0,
+                left: 0,
+                error: error_told(error),
+            };
+        }
+        Worked::Done => {
+            *out = WorkedRecord {
+                became: 2,
+                group: 0,
+                left: 0,
+                error: NO_ERROR,
+            };
+        }
     }
 }
 

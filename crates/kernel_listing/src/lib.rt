@@ -40,6 +40,13 @@ pub enum Listing {
     Fault(TextFault),
 }
 
+/// The names of a text's kernels, with their `&`, or its first fault (own).
+#[derive(Debug, Drop)]
+pub enum Entries {
+    Names(Vec<String>),
+    Fault(TextFault),
+}
+
 /// What is told of a text's first fault: cause, line, column and meaning, and the line's text with a mark.
 pub fn told(alloc: Global, text: &[u8], fault: TextFault) -> Result<String, AllocError> {
     match fault {
@@ -82,5 +89,34 @@ pub fn list(alloc: Global, text: &[u8], form: Form) -> Result<Listing, AllocErro
         Ok(module) => list_module(alloc, text, &module, form),
         Err(ReadError::OutOfMemory) => Err(AllocError),
         Err(ReadError::Fault(fault)) => Ok(Listing::Fault(TextFault::Read(fault))),
+    }
+}
+
+// The names of checked kernels, in order.
+fn names_in(alloc: Global, checked: &Checked) -> Result<Vec<String>, AllocError> {
+    let mut names = Vec::new(alloc);
+    for index in 0..checked.count() {
+        let mut name = String::new(alloc);
+        lines::show(&mut name, checked.kernel(index).name())?;
+        names.push(name)?;
+    }
+    Ok(names)
+}
+
+// The names of a module's kernels, or the module's first fault.
+fn entries_in(alloc: Global, module: &Module) -> Result<Entries, AllocError> {
+    match check(alloc, module) {
+        Ok(checked) => Ok(Entries::Names(names_in(alloc, &checked)?)),
+        Err(CheckError::OutOfMemory) => Err(AllocError),
+        Err(CheckError::Fault(fault)) => Ok(Entries::Fault(TextFault::Check(fault))),
+    }
+}
+
+/// Reads and checks the text of a module, and tells the names of its kernels in order, or its first fault.
+pub fn entry_names(alloc: Global, text: &[u8]) -> Result<Entries, AllocError> {
+    match read_module(alloc, text) {
+        Ok(module) => entries_in(alloc, &module),
+        Err(ReadError::OutOfMemory) => Err(AllocError),
+        Err(ReadError::Fault(fault)) => Ok(Entries::Fault(TextFault::Read(fault))),
     }
 }

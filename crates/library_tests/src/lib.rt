@@ -19,4 +19,6 @@ mod streams;
 #[cfg(test)]
 mod studio;
 #[cfg(test)]
+mod truncated;
+#[cfg(test)]
 mod worlds;

@@ -117,7 +117,7 @@ const STAGES: [(&str, usize); 5] = [
 ];
 
 /// Nora gets what her packet needs, and it is launched: it fills four bytes of the tape.
-const LAUNCH: &str = "\
+pub const LAUNCH: &str = "\
 grant nora agent mixer USE
 grant nora region tape WRITE
 grant nora signal cue CHANGE
@@ -127,7 +127,7 @@ serve 1
 ";
 
 /// Whether the lines of a script are done.
-fn does(alloc: Global, world: &mut World, lines: &str) -> bool {
+pub fn does(alloc: Global, world: &mut World, lines: &str) -> bool {
     let mut reader = Noted::new(lines.as_bytes());
     let mut replies: Noted<Vec<u8>> = Noted::new(Vec::new(alloc));
     run_script(alloc, &mut reader, &mut replies, world, &[]).is_ok()

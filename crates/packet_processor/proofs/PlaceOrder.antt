@@ -2,6 +2,7 @@
 use Rattle.std.proofs.Common.{◌≡◌, ℕ, zero, suc, ◌<◌, Bool, true, false, ◌&&◌, if◌then◌else◌, List, [], ◌∷◌, ◌++◌, Option, None, Some, option_map, All, drop, ◌+◌, length, get_or, map, not, refl, ap, arith, sym, subst, ◌∙◌}
 use Rattle.std.specs.Prelude.{◌||◌, slice_get, slice_set}
 use Rattle.std.specs.List.{remove}
+use Rattle.std.proofs.lemmas.List.{length-drop}
 use Rattle.std.proofs.lemmas.Option.{get_or_from_slice_get, slice_get_within}
 use Rattle.aql_packet.specs.declared.ids.PacketId.{PacketId}
 use Rattle.core_model.specs.declared.flight.Progress.{Progress}
@@ -113,6 +114,13 @@ out-first d xs found order is first = first-behind d xs ∙ ap (remove (drop d x
 pub out-later : (d : ℕ) (xs : List Place) (found : FoundPacket) → Ascends (drop d xs) → IsFoundIn found (drop d xs)
     → drop d (remove xs (d + found.index)) ≡ without_packet found.packet (drop d xs)
 out-later d xs found order is = removed-behind d xs found.index ∙ taken-out (drop d xs) found order is
+
+-- one is gone of those behind, be it the first or a later one
+pub fewer-first : (d : ℕ) (xs : List Place) → d < length xs → length (drop (d + 1) xs) + 1 ≡ length (drop d xs)
+fewer-first d xs lt = omega (arith, lt, length-drop (d + 1) xs, length-drop d xs)
+
+pub fewer-later : (d : ℕ) (xs ys : List Place) → d < length xs → length ys + 1 ≡ length xs → length (drop d ys) + 1 ≡ length (drop d xs)
+fewer-later d xs ys lt one = omega (arith, lt, one, length-drop d ys, length-drop d xs)
 
 pub changed-behind : (d : ℕ) (xs : List Place) (found : FoundPacket) (so_far : Progress) (old : Place) → Ascends (drop d xs) → IsFoundIn found (drop d xs)
     → old ≡ get_or xs (d + found.index) old → drop d (slice_set xs (d + found.index) (further so_far old)) ≡ map (with_progress found.packet so_far) (drop d xs)

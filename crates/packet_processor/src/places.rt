@@ -1,6 +1,6 @@
 //! The places in which a packet processor keeps the packets of a queue in flight.
 
-ghost use Rattle.std.specs.Prelude.{◌≡◌, ◌==◌, ◌&&◌, ◌<◌, ◌≤◌, ◌++◌, ◌∷◌, [], All, IfSome, drop, find, length, map, option_map};
+ghost use Rattle.std.specs.Prelude.{◌≡◌, ◌==◌, ◌+◌, ◌&&◌, ◌<◌, ◌≤◌, ◌++◌, ◌∷◌, [], All, IfSome, drop, find, length, map, option_map};
 ghost use Rattle.std.specs.List.{list_any};
 ghost use Rattle.std.specs.Option.{option_copied};
 ghost use Rattle.core_model.specs.Limits.{most_in_flight};
@@ -172,13 +172,25 @@ impl Places {
     /// Takes a packet that was found out of flight.
     pub fn release(&mut self, found: FoundPacket)
         requires { IsFoundIn found self.old }
-        ensures { self.new ≡ without_packet found.packet self.old }
+        ensures without { self.new ≡ without_packet found.packet self.old }
+        ensures fewer { length self.new + 1 ≡ length self.old }
     {
         if found.index == 0 {
             self.left += 1;
             self.barred = stays_barred(self.barred, &self.taken, self.left);
             return;
         }
+        self.release_behind(found);
+    }
+
+    // Takes a packet that was found behind another out of flight. It stands apart, since the first packet leaves most often.
+    #[inline(never)]
+    fn release_behind(&mut self, found: FoundPacket)
+        requires found { IsFoundIn found self.old }
+        requires behind { 0 < found.index }
+        ensures without { self.new ≡ without_packet found.packet self.old }
+        ensures fewer { length self.new + 1 ≡ length self.old }
+    {
         self.taken.remove(self.left + found.index);
         self.barred = stays_barred(self.barred, &self.taken, self.left);
     }

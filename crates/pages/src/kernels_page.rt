@@ -39,13 +39,39 @@ Of each kernel come, in this order:
 - `argument OFFSET TYPE NAME` and `group OFFSET TYPE NAME` for its variables at their places;
 - its steps, counted from 0, each with its line and that line's text.
 
-The last line is `ok`. With `--steps` the steps come as the check made them, in the form of cases (`docs/cases.md`). A fault goes to standard error, with the text of its line and a mark, and ends the command with status 1:
+The last line is `ok`. With `--steps` the steps come as the check made them, in the form of cases (`docs/cases.md`). A fault goes to standard error, with the text of its line and a mark; the status is 1:
 ```
 read 2 line 3 column 14: Syntax: no module goes on with this token
   \tmov_b32 $s0,;
   \t            ^
 ```
-The reader marks the token. The check marks the whole line of an item, and the column is that of its first token. Bytes other than printing letters of ASCII and tabs are shown as `?`, so that a column is one letter. `brokerd explain WrongRegister` tells what a cause means.
+The reader marks the token, the check the whole line of an item, at the column of its first token. Bytes other than printing letters of ASCII and tabs are shown as `?`, so that a column is one letter.
+
+## A kernel of your own
+
+`brokerd policy FILE..` writes a policy to begin with from kernels' files, with comments on what to narrow.
+```console
+$ brokerd policy cases/inc.hsail > mine.toml && brokerd check mine.toml | tail -n 1
+ok
+```
+```text file=mine.script
+grant alice agent gpu USE
+grant alice region buf READ,WRITE
+grant alice region args READ,WRITE
+queue alice gpu 2 1
+dispatch alice 1 1 inc grid 4 group 2 arguments buf at args
+drain
+read alice buf 8
+```
+```console
+$ brokerd run mine.toml -f mine.script --readable --explain 2>&1 >/dev/null | sed -n 2,4p
+line 6: alice has no LAUNCH on kernel inc, which the packet dispatches
+line 6: the policy allows it; this line before it mends it:
+grant alice kernel inc LAUNCH
+$ (echo grant alice kernel inc LAUNCH; cat mine.script) | brokerd run mine.toml --readable | tail -n 1
+bytes 0100000001000000
+```
+A kernel may stay in its file, which its row names by `text_file = \"inc.hsail\"`, from the policy's folder on. `brokerd embed making.toml > mine.toml` puts the texts in, for other commands, and tells a kernel's fault by its file, line and column.
 
 ## The sample kernel, as typed
 
@@ -132,12 +158,12 @@ prog kernel &sums(kernarg_u64 %numbers, kernarg_u64 %totals)
 '''
 ```
 
-There are six numbers, and two work-groups of three items. The group variable takes four bytes, and the packet has to give at least so many (`group_segment_size`, bytes 28 to 31). The first packet gives none, and is denied by rule L7.
+Six numbers go to two work-groups of three items. The packet has to give at least the four bytes of the group variable (`group_segment_size`, bytes 28 to 31). The first gives none, and is denied by rule L7.
 
 ```script over=sums.toml
 > grant alice agent gpu USE
 ok
-> grant alice region numbers READ
+> grant alice region numbers READ,WRITE
 ok
 > grant alice region totals READ,WRITE
 ok
@@ -146,8 +172,6 @@ ok
 > grant alice kernel sums LAUNCH
 ok
 > grant alice signal done CHANGE
-ok
-> grant alice region numbers WRITE
 ok
 > write alice 0000000100000000 010000000200000003000000040000000500000006000000
 ok
@@ -175,7 +199,7 @@ ok
 bytes 060000000f000000
 ```
 
-1, 2 and 3 make 6; 4, 5 and 6 make 15. Without the barrier the first item would store what it alone had added, 1 and 4: items take their turns one after the other.
+Without the barrier the first item would store what it alone had added, 1 and 4: items take their turns one after the other.
 
 At a barrier an item waits until every item of its group waits at the same one. If some ended before it, or wait at another, no item can go on, and the least that waits breaks rule A6 at its barrier's line. So a branch around the barrier, as `cbr_b1 $c0, @end;` in front of it, would end the whole group.
 
@@ -214,9 +238,7 @@ An atomic operation is both a load and a store: it needs both rights. Group memo
 
 A work-item that breaks one ends its whole work-group. None of the group's writes is made, the packet is released, and its queue has an error and launches nothing more. The error says where, as `queue 1 packet 0 rule A3 group 1 item 1 line 9`: the group's number, the item's in it with x fastest, both from 0, and the line of the text. `--explain` tells the address too (`docs/explaining.md`). The writes of groups before stay, the completion signal isn't touched, and other packets of the queue that are in flight go on.
 
-Take the example with `3100000001000000` as the argument, which is byte 49 of `buf`; `buf` has 64. The first group runs, and the second is told just that error: its second item loads the four bytes from byte 61 on, and the last one is past the end. After `revoke alice region buf WRITE` before the launch, the first item's store is rule A2 on line 11. With an argument of 0 its load is rule A1 on line 9.
+In the example with `3100000001000000` as the argument, byte 49 of the 64 of `buf`, the first group runs, and the second has just that error: its second item loads four bytes from byte 61 on. Without `WRITE` on `buf` the first item's store breaks A2 on line 11; with an argument of 0 its load breaks A1 on line 9.
 
-## Where this is tried
-
-`cases` has each of these rules at both sides of its bounds (`kernel_launches.case`, `kernel_holds.case`, `access_rules.case`, `work_groups.case` and those beside them), and what each instruction leaves, at each of its types (`pairs_32.case` and the files after it).
+Cases try each of these rules at both sides of its bounds (`kernel_launches.case`), and what each instruction leaves, at each of its types (`pairs_32.case`).
 ";

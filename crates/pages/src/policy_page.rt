@@ -3,7 +3,7 @@
 /// The page's text.
 pub const TEXT: &str = "# Writing a policy
 
-A policy says what exists in a broker, and which rights may be granted to whom. It grants nothing by itself: a right is in force only once it was granted (`grant ..` in a script). A grant is made only where allow rows of the policy cover each of its rights and no deny row covers one. This page is for the administrator who writes the file. Its example is `crates/brokerd/data/sample.toml`:
+A policy says what exists in a broker, and which rights may be granted to whom. It grants nothing by itself: a right is in force only once it was granted (`grant ..` in a script). A grant is made only where allow rows of the policy cover each of its rights and no deny row covers one. This page's example is `crates/brokerd/data/sample.toml`:
 
 ```console
 $ brokerd check crates/brokerd/data/sample.toml
@@ -54,7 +54,7 @@ A policy is a TOML file of at most 1,048,576 bytes. It may begin with `version =
 | `[[agent]]` | 16 | `name`; `takes`: an array of `\"kernel\"` and `\"agent\"`, the dispatches that it takes (barrier packets are taken by all) |
 | `[[region]]` | 64 | `name`; `length` in bytes, 1 to 16,777,216; all regions together at most 67,108,864 |
 | `[[signal]]` | 1,024 | `name`; `initial`, the number with which it begins |
-| `[[kernel]]` | 64 | `name`; `entry`, the kernel's name in the module, beginning with `&`; `text`, the module |
+| `[[kernel]]` | 64 | `name`; `entry`, the kernel's name in the module, beginning with `&`; `text`, the module ([in a file](kernels.md#a-kernel-of-your-own)) |
 | `[[allow]]` | 4,096 | `client`, a name or `\"*\"`; `kind`, one of `\"agent\"`, `\"region\"`, `\"signal\"`, `\"kernel\"`; `object`, a name or `\"*\"`; `rights`, an array |
 | `[[deny]]`, in version 2 alone | 4,096 | those of `[[allow]]` |
 
@@ -71,15 +71,9 @@ A name is 1 to 64 ASCII letters, digits, `_` or `-`, and no two rows of an array
 | `CHANGE` | signal | to change it, and to name it as a packet's completion signal |
 | `LAUNCH` | kernel | to launch it by kernel dispatches (`docs/kernels.md`) |
 
-An allow row covers a right where its `client` is the client or `\"*\"`, its `kind` and `object` are the object's (or `\"*\"`, all objects of the kind), and its `rights` have the right. Rows only add to each other, and their order doesn't matter. Two rows of the sample:
+An allow row covers a right where its `client` is the client or `\"*\"`, its `kind` and `object` are the object's (or `\"*\"`, all objects of the kind), and its `rights` have the right. Rows only add to each other, and their order doesn't matter. A row of the sample:
 
 ```
-[[allow]]
-client = \"alice\"
-kind = \"region\"
-object = \"*\"
-rights = [\"READ\", \"WRITE\"]
-
 [[allow]]
 client = \"bob\"
 kind = \"region\"
@@ -153,15 +147,15 @@ A reload is refused, and changes nothing:
 - `refused 4 Busy queue Q packet ID`, where a packet in flight holds a right that the rows don't allow: the one named has the least queue and id of all clients' packets. Bring it to its end, then reload.
 - `refused 10 AuditFull`, as every call that leaves an entry; `refused 0 OutOfMemory`, where there is no memory for the copy of the policy.
 
-A client whose `USE` on an agent was cut keeps its queues. The next packet that is judged in such a queue is denied, by rule L4 unless its bytes break one of L1 to L3, and that stops the queue. So it goes with every right: a launched packet holds what it needs until it is released, and one that waits in a ring is judged by what is in force when it is taken. So give each client the least that its packets need.
+A client whose `USE` on an agent was cut keeps its queues. The next packet that is judged in such a queue is denied, by rule L4 unless its bytes break one of L1 to L3, and that stops the queue. So with every right: a launched packet holds what it needs until it is released, and one that waits in a ring is judged by what is in force when it is taken. So give each client the least that its packets need.
 
 Each further policy is read in full before the script begins, in the order of the files and after all faults of the first policy and its kernels; one that is written later can't come in. Its first fault is told as that of any policy. The texts of its kernels aren't read, since a policy with another text is refused.
 
 ## When a packet is denied
 
-A denied packet stops its queue, and the error names the first rule that failed: `queue 1 packet 0 rule L8`. [The page on scripts](scripts.md#a-packet-is-denied) has each rule with what helps. For L4, L6 and L8 to L10 a grant is missing that has to be in force when the packet is taken, or something that the policy declares: an object that isn't declared fails the same rule as one without a grant.
+A denied packet stops its queue, and the error names the first rule that failed, as `queue 1 packet 0 rule L8` ([each rule, with what helps](scripts.md#a-packet-is-denied)). For L4, L6 and L8 to L10 a grant is missing that has to be in force when the packet is taken, or the object isn't declared.
 
-If a grant is answered `refused 5 NotAllowed`, the policy itself has to be widened by an allow row, or a deny row has to go. The same page has [each refusal](scripts.md#a-line-is-refused). Each call tries them in an order of its own (`crates/core_model/specs/Owed.antt`), 10 after all others but 0.
+If a grant is answered `refused 5 NotAllowed`, the policy wants an allow row more, or a deny row less. The same page has [each refusal](scripts.md#a-line-is-refused). Each call tries them in an order of its own (`crates/core_model/specs/Owed.antt`), 10 after all others but 0.
 
 ## When a policy is refused
 
@@ -178,13 +172,13 @@ If a grant is answered `refused 5 NotAllowed`, the policy itself has to be widen
 
 They are looked for in this order: the length of the file, its form, its version and keys, and then the arrays in the order of the table above, row by row. In a row, unknown keys come first, then each key in the table's order, then the name. So the sample with a further allow row for the object `nosuch` is refused with `policy: 4 UnknownName allow 7`.
 
-The kernels' texts are read and checked after the policy itself, in order; the first that fails is named, as `kernel 1: check 3 line 4` ([its causes](kernel_text.md#faults-of-a-text)). `brokerd run` asks more than `brokerd check`: each module has to have a kernel of its entry's name. The first that has none is named as `kernel 1: no entry`, after all other faults of the policy and its kernels, and before those of further policies and any reply.
+The kernels' texts are read and checked after the policy itself, in order; the first that fails is named, as `kernel 1: check 3 line 4` ([its causes](kernel_text.md#faults-of-a-text)). `brokerd run` asks more than `brokerd check`: each module has to have a kernel of its entry's name. The first that has none (`check` tells of it on standard error) is named as `kernel 1: no entry`, after all other faults of the policy and its kernels, and before those of further policies and any reply.
 
 ## What reading and asking cost
 
 None of this is proved; it is what the code in `crates/policy/src` and `crates/grants/src` does.
 
-**Reading** is done once, before the first reply. A file over 2^20 bytes is refused by its length alone. Else it is parsed once into a tree, and each array is gone through once, its rows counted first; reading stops at the first fault. At most the file, its tree and the policy are in memory together. A name is looked up by a hash with a fixed seed. Somebody who picks the names can make them collide, and a look-up then compares with each of them, 1,024 at most.
+**Reading** is done once, before the first reply, and stops at the first fault. A file over 2^20 bytes is refused by its length alone. Else it is parsed into a tree, and each array is gone through once, its rows counted first. At most the file, its tree and the policy are in memory together. Names are looked up by a hash with a fixed seed: who picks them can make them collide, and a look-up then compares with each, 1,024 at most.
 
-**Asking** takes no memory. A number is found in one step, since it is the place of the row. `allows` walks over all allow rows and all deny rows; `declares_as` compares all names and what the rows hold, kernel texts among them. A grant asks neither: it looks into a table of what the rows allow each client on each object, which is made at a broker's opening and by each reload. Nothing that a packet does asks the policy: a launch looks at the rights in force.
+**Asking** takes no memory. A number is the place of its row. `allows` walks over all allow and deny rows; `declares_as` compares all names and what the rows hold, kernel texts among them. A grant asks neither, but a table of what the rows allow each client on each object, made at a broker's opening and by each reload. No packet asks the policy: a launch looks at the rights in force.
 ";

@@ -34,21 +34,26 @@ The second line becomes two: Alice writes the argument block, and the packet is 
 write alice 0000000200000000 0000000001000000
 submit 1 1 02140100020001000100000004000000010000000100000000000000000000000100000000000000000000000200000000000000000000000100000000000000
 ```
-Both are cases in `cases/readable.case`, with all their replies.
+`args` writes a block alone, by the arguments' names:
+```console
+$ echo 'args alice args inc p=buf+16' | brokerd assemble crates/brokerd/data/sample.toml
+write alice 0000000200000000 1000000001000000
+```
 
 ## The lines
 Q is a queue's number, P that of a producer; what stands in capitals is put in.
 
 | Line | Packet |
 |---|---|
-| `dispatch CLIENT? Q P KERNEL grid SIZES group SIZES` | a kernel dispatch. After the sizes may stand `arguments VALUE..`, and then options |
+| `dispatch CLIENT? Q P KERNEL grid SIZES group SIZES` | a kernel dispatch. After the sizes may stand `args PLACE NAME=VALUE ..` or `arguments VALUE..`, and then options |
+| `args CLIENT PLACE KERNEL NAME=VALUE ..` | none: CLIENT writes the kernel's argument block |
 | `fill Q P ADDRESS length N with BYTE` | an agent dispatch of FILL: N bytes become the low byte of BYTE |
 | `copy Q P ADDRESS to ADDRESS length N` | an agent dispatch of COPY: N bytes, as if by a copy aside |
 | `add Q P N to ADDRESS` | an agent dispatch of ADD64: the 64-bit number there gains N |
 | `all-of Q P SIGNAL..` | a barrier-AND on up to five signals; those not named are null |
 | `any-of Q P SIGNAL..` | a barrier-OR |
 
-Any line of a script is a readable line too. `read CLIENT ADDRESS N` and `write CLIENT ADDRESS BYTES` take their address as below besides the 16 digits that it has in a script. A comment begins with a word that begins with `#`, and goes to the line's end. A line that begins with no word of this table or of that of `docs/scripts.md` is a fault; `drain` is told below.
+Any line of a script is a readable line too. `read CLIENT ADDRESS N` and `write CLIENT ADDRESS BYTES` take their address as below besides the 16 digits that it has in a script. A comment begins with a word that begins with `#`, and goes to the line's end.
 
 Options stand at the end, in any order; of one that stands twice the last counts.
 
@@ -66,7 +71,9 @@ Options stand at the end, in any order; of one that stands twice the last counts
 - **SIZES** are one to three decimal numbers with commas, as `4` or `4,2,1`: as many as the dispatch has dimensions, for the grid and for the work-group alike.
 - **ADDRESS** is a region (`buf`), a region with an offset (`buf+16`, `buf+0x10`), or a number; of `read` and `write` a word of 16 hexadecimal digits is one as in a script, whatever else it may be. A packet past the region's end is one that is denied.
 - **Numbers** are decimal, or hexadecimal after `0x`.
-- **`arguments`** takes as many VALUEs as the kernel has arguments, in their order: a number that fits the argument's bits, with `-` before it if negative, or an ADDRESS. They are laid out as the kernel's own text says: each at the next multiple of its size, or of its `align`, with zeros between. CLIENT, who is named in front of the queue, writes the block where `at` says. Without `arguments` nothing is written, and CLIENT may be left out; the block then is what lies there.
+- **`args`** takes each argument once, by its name, in any order: a number of its type, or for 64 bits without a sign an ADDRESS or a signal. PLACE is where the block lies: an ADDRESS; a region's name alone is the next multiple of 16 behind the blocks that the script wrote there.
+- **`arguments`** takes as many VALUEs as the kernel has arguments, in their order: a number of the argument's bits, or an ADDRESS. `at` says where the block lies.
+- **Blocks** are laid out as the kernel's own text says, and `brokerd kernel FILE` lists: each argument at the next multiple of its size, or of its `align`, with zeros between. CLIENT writes them. Without either word nothing is written, and CLIENT may be left out.
 - A first word that is a number is the queue's: a client whose name is a number can't be named here. Nor can a signal of the name `signal` or `barrier` be one of `all-of` and `any-of`.
 
 ## What isn't a form
@@ -78,15 +85,16 @@ line 7: serv: wanted is a word that lines begin with, as serve
 ```
 A line of over 16,384 bytes is one too. The policy and its kernels are read and checked first; their faults are told as `brokerd check` tells them. Status 3 is as for `run`.
 
-`run --readable` tells it after its own `line 3: bad request`. All that it tells has the number of the line as it was typed. The second of the two commands in a row counts the lines that it reads: after a `dispatch` with arguments, which becomes two, its `line N` is one further.
+`run --readable` tells it after its own `line 3: bad request`. All that it tells has the number of the line as it was typed. In a row, the second command counts the lines that it reads: a `dispatch` with arguments becomes two.
 
 ## Draining queues
-Two lines finish what can be finished:
+Further lines:
 
 | Line | Does |
 |---|---|
 | `drain` | serves, runs, polls and finishes in all open queues, until nothing moves |
 | `drain Q` | the same in one queue |
+| `state` | tells what there is: rights, queues, signals, memory, audit |
 
 They are lines of `run --readable` alone: what they ask depends on what is replied, so `assemble` refuses them.
 ```text file=drain.script
@@ -102,21 +110,24 @@ After the first seven requests of `examples/fill.script`:
 $ cat examples/fill.script | head -n 8 | cat - drain.script | brokerd run --readable crates/brokerd/data/sample.toml | tail -n +8
 published 0
 published 1
+packet 1 0 all-of launched
 drained launched 1 denied 0 ran 0 faulted 0 ready 0 failed 0 finished 0 waiting 2
 queue 1 waiting 1 Barrier
 queue 1 packet 0 pending on go
 ok
+packet 1 0 all-of ready finished
+packet 1 1 fill launched ran 1 finished
 drained launched 1 denied 0 ran 1 faulted 0 ready 1 failed 0 finished 2 waiting 0
 bytes 5a5a5a5a
 ```
 A drain makes the requests that `serve`, `run`, `poll` and `finish` make, one after the other, and replies once. In each round every open queue is served as far as it comes; then each packet in flight is run group by group, or polled, and finished once its work is done. After a round in which nothing moved it is over.
 
-Its first line counts what its requests came to: packets `launched` and `denied`, groups that `ran` and `faulted`, barrier packets that were `ready` and `failed`, packets `finished`. `waiting N` counts the lines that follow, one for each request of the last round that moved nothing though something is there. Such a line has the queue, the packet where the request named one, and the reply to the request. After `pending on` stand the signals that a barrier packet depends on. A refusal, as `refused 7 QueueDown` of a stopped queue, waits too.
+First stand packets that moved, a line each: the queue, the id, `kernel` and its name or the word of its line, `launched`, how many groups `ran`, `ready`, and `finished`, or `denied`, `faulted` or `failed` with the rule. Then `drained` counts what requests came to: packets `launched` and `denied`, groups that `ran` and `faulted`, barrier packets that were `ready` and `failed`, packets `finished`. `waiting N` counts the lines behind it, one for each request of the last round that waits or was refused: the queue, the packet where one was named, and the reply. After `pending on` stand the signals that a barrier packet depends on.
 
-It ends: each round but the last makes entries in the audit, which has at most 1,048,576, and where it is full what would make one is refused. At most 8 packets of a queue are in flight, and what is launched has at most 4,294,967,295 groups.
+It ends: each round but the last makes entries in the audit, which has at most 1,048,576.
 
 A strict run ends after a drain in which a packet was denied or failed or a group faulted, or in whose last round a request was refused. With `--explain` the first such fault is explained, or else the first wait.
 
 ## What is proved
-[What is proved](proved.md#scripts-and-the-program) has which packet each form is, down to the digits, and that drains and runs by line are requests as of a script's lines; which form a line has, and its argument block, are [only tested](proved.md#only-tested).
+[What is proved](proved.md#scripts-and-the-program) has which packet each form is, down to the digits, that `args` writes no byte more than its block, what drains do and tell, and that lines are requests as of a script's; which form a line has, and which value an argument, is [only tested](proved.md#only-tested).
 ";

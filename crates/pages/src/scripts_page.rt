@@ -178,18 +178,18 @@ The pages on the texts say what each fault means, and what helps: of [a policy](
 
 ## A picture of a run
 
-`brokerd picture POLICY [NEXT..]` runs a script just as `run` does, also with `--audit N`. In place of the replies it writes one SVG page of what the audit tells at the end.
+`brokerd picture POLICY [NEXT..]` runs a script just as `run` does, also with `--audit N` and `--readable`. In place of the replies it writes one SVG page of what the audit tells at the end.
 ```console
 $ brokerd picture crates/brokerd/data/sample.toml < examples/two_queues.script | cmp - docs/picture.svg
 ```
-The page tells its colours on top, and under the pointer each mark tells its entry.
+The page says on top which entries it has and what its colours mean, and under the pointer each mark tells its entry.
 
-- **Entries** have their numbers below the colours. After a `rotate` these go on, and the queues and packets in flight with which the rest of the audit begins have their lanes and bars from the left edge on.
+- **Bands.** A page is as wide as a screen at the most. What has no room goes on in a band below, as text does, and each band has the numbers of its entries and the names of its lanes. After a `rotate` numbers go on, and the queues and packets in flight with which the rest of the audit begins have their lanes and bars from the left edge on.
 - **Lanes.** The first is the administrator's and the clients': grants, revocations, writes and changes of signals. Below it each queue has one, from its opening to its close, as high as its packets need; a queue that was closed before the first entry that is drawn has none. A line across all lanes is a reload.
-- **Packets.** A bar is a packet from its launch to its release, in the first row of its lane that is free, with its id and its kernel or function where there is room. Its colour tells how it ended, \"stopped\" also of a closed queue. Ticks in its lower part are its groups, the dark end its completion. A red mark is a denial or a fault, with its rule after it.
-- **Signals.** A violet tick is a poll of a barrier packet that saw a signal at 0, and an arrow leads there from what set it to 0.
+- **Packets.** A bar is a packet from its launch to its release, in the first row of its lane that is free, with its id and its kernel or function where there is room, else with its id. Its colour tells how it ended, \"stopped\" also of a closed queue, \"failed\" of a barrier packet whose signal fell below 0. Ticks in its lower part are its groups, the dark end its completion. Behind a denial, a fault or a failure stands its rule.
+- **Signals.** A pink tick is a poll of a barrier packet that saw a signal at 0, and an arrow leads there from what set it to 0, or, where that is in another band, from the left.
 
-200 packets fit on a screen. A page that is wider than 1,920 points isn't shrunk to the window: look at it part by part. `--from N` and `--to N` draw the entries from one number to another; what is in flight before the first has its bar from the left edge on. At most the last 5,000 entries are drawn. `--journal FILE` draws [a journal](audit.md#a-journal) in place of a script's run.
+`--from N` and `--to N` draw the entries from one number to another; what is in flight before the first has its bar from the left edge on. At most the last 20,000 entries are drawn, those of some 6,000 packets. `--journal FILE` draws [a journal](audit.md#a-journal) in place of a script's run.
 
 A page is that of a whole script or there is none. If a line has no form, or reading, writing or memory fails, nothing is drawn (but a beginning, where the page's writer fails). Standard error and the status are then those of `run`. So put a `#` before the bad line, or end the script before it. Refusals, denials and faults of packets end nothing.
 
@@ -202,11 +202,10 @@ A page is that of a whole script or there is none. If a line has no form, or rea
 - `--readable` takes [packets in words, and `drain`](assemble.md), which finishes what can be finished;
 - `--json` writes each reply as an object of JSON ([its members](json.md#replies));
 - `--audit N` has room for N entries, 1 to 1,048,576; without it for 65,536;
-- `--journal FILE` writes [a journal](audit.md#a-journal) as it goes.
+- `--journal FILE` writes [a journal](audit.md#a-journal) as it goes;
+- `-f FILE` takes the script from a file.
 
-All of these go together. Of other commands two pairs contradict each other, and a command line with one of them ends with status 2: `picture --journal FILE` and `--audit N` (nothing is run, so there is no audit of so many places), `decode --slots FILE` and digits (the slots stand in place of the digits).
-
-`brokerd explain L8`, or `explain QueueDown`, or `explain 7`, tells what a rule, a refusal or a cause means.
+All of these go together. Of other commands some contradict each other, and a command line with both has status 2: `picture --journal FILE` and `--audit N`, `-f FILE` or `--readable` (nothing is run), `decode --slots FILE` and digits (the slots stand in place of the digits).
 
 ## Every form once
 

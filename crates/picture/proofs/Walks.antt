@@ -8,6 +8,7 @@ use Rattle.core_model.specs.declared.origin.PacketOrigin.{PacketOrigin}
 use Rattle.policy.specs.Policy.{Declared}
 use Rattle.picture.specs.declared.arrows.Zero.{Zero}
 use Rattle.picture.specs.declared.element.Ending.TheVariants as ending
+use Rattle.picture.specs.declared.element.Element.{Element}
 use Rattle.picture.specs.declared.element.Frame.{Frame}
 use Rattle.picture.specs.declared.element.Lane.{Lane}
 use Rattle.picture.specs.declared.element.Spot.{Spot}
@@ -15,7 +16,7 @@ use Rattle.picture.specs.declared.seats.Seat.{Seat}
 use Rattle.picture.specs.Arrows.{last_zero, zeros_after}
 use Rattle.picture.specs.Lanes.{deepened, lanes_after, lanes_in, lanes_of, place_of}
 use Rattle.picture.specs.Reading.{close_of, closes, ending_of, end_of, spot_of}
-use Rattle.picture.specs.Shapes.{height_at, height_of_lanes}
+use Rattle.picture.specs.Shapes.{height_at, height_of_lanes, text_of_band, text_of_bands, text_of_piece, text_of_pieces}
 use Rattle.picture.specs.Seats.{releases, seats_after, seats_of, with_seat}
 use Rattle.picture.specs.Pages.{text_of_entry, text_of_entries}
 
@@ -136,6 +137,21 @@ pub height_step : (lanes : List Lane) (n height one : ℕ) → height ≡ height
     → height + (one + 6) ≡ height_of_lanes lanes (n + 1)
 unfolding height_of_lanes
 height_step lanes n height one h k = rw (add-one, h, k) refl
+
+-- ---- pieces and bands
+
+-- one piece more
+pub piece_step : (frame : Frame) (e : Element) (words brief : List ℕ) (n : ℕ) (old : List ℕ) {out new : List ℕ}
+    → out ≡ old ++ text_of_pieces frame e words brief n → new ≡ out ++ text_of_piece frame e words brief n
+    → new ≡ old ++ text_of_pieces frame e words brief (n + 1)
+unfolding text_of_pieces
+piece_step frame e words brief n old before made = rw (add-one, made, before) (append_assoc old _ _)
+
+-- one band more
+pub band_step : (frame : Frame) (n : ℕ) (old : List ℕ) {out new : List ℕ} → out ≡ old ++ text_of_bands frame n
+    → new ≡ out ++ text_of_band frame n → new ≡ old ++ text_of_bands frame (n + 1)
+unfolding text_of_bands
+band_step frame n old before made = rw (add-one, made, before) (append_assoc old _ _)
 
 -- ---- the seats of packets
 

@@ -1,5 +1,5 @@
 -- The page: its head, and behind it in two layers what an audit begins from, and each of its entries, in order, each once (own).
-use Rattle.std.specs.Prelude.{ℕ, ◌+◌, Bool, List, [], ◌∷◌, ◌++◌, flat_map, codes, decimal, length, nat_lt, if◌then◌else◌}
+use Rattle.std.specs.Prelude.{ℕ, ◌+◌, ◌-◌, Bool, List, [], ◌∷◌, ◌++◌, flat_map, codes, decimal, length, if◌then◌else◌}
 use Rattle.aql_packet.specs.declared.ids.QueueId.{QueueId}
 use Rattle.aql_packet.specs.declared.ids.PacketId.{PacketId}
 use Rattle.core_model.specs.declared.outcome.Satisfied.{Satisfied}
@@ -18,12 +18,12 @@ use Rattle.picture.specs.declared.element.Span.{Span}
 use Rattle.picture.specs.declared.element.Frame.{Frame}
 use Rattle.picture.specs.declared.element.Element.{Element}
 use Rattle.picture.specs.declared.seats.Seat.{Seat}
-use Rattle.picture.specs.declared.page.TheConstants.{BEGIN, END, SCREEN, SHRINKING, STYLE, WIDTH}
+use Rattle.picture.specs.declared.page.TheConstants.{BEGIN, END, SHRINKING, STYLE, WIDTH}
 use Rattle.picture.specs.Arrows.{arrow_from, zeros_after}
-use Rattle.picture.specs.Frames.{asked_of, front_of, frame_of}
+use Rattle.picture.specs.Frames.{asked_of, front_of, frame_of, lesser}
 use Rattle.picture.specs.Reading.{bar_from_start, element_of, greater, lane_from_start, spot_of, stop_before}
 use Rattle.picture.specs.Seats.{seats_after, seats_of}
-use Rattle.picture.specs.Shapes.{foot_of, is_shown, left_of, text_of_arrow, text_of_element, text_of_number}
+use Rattle.picture.specs.Shapes.{band_of, foot_of, is_shown, left_of_column, shift_of, text_of_all_bands, text_of_arrow, text_of_element, text_of_number, text_of_shown}
 
 -- ---- entries
 
@@ -94,25 +94,34 @@ text_of_size width height = codes " width=\"" ++ decimal width ++ codes "\" heig
 unfoldable pub text_of_shrinking : List ℕ
 text_of_shrinking = SHRINKING.now
 
--- a page that a screen has no room for is shown as it is, to be looked at part by part
-abbrev pub text_of_fit : ℕ → List ℕ
-text_of_fit width = if nat_lt SCREEN width then codes ">\n" else text_of_shrinking
-
 -- how wide and how high the page is
 unfoldable pub text_of_measures : ℕ → ℕ → List ℕ
-text_of_measures width height = text_of_box width height ++ text_of_size width height ++ text_of_fit width
+text_of_measures width height = text_of_box width height ++ text_of_size width height ++ text_of_shrinking
 
 -- what stands at the head of each page
 unfoldable pub text_of_style : List ℕ
 text_of_style = STYLE.now
 
--- how wide the page of so many entries is
+-- how wide the page of so many entries is: up to the last place of its widest band, with the words behind it
 abbrev pub width_of_page : Frame → ℕ → ℕ
-width_of_page frame count = greater WIDTH (left_of frame count + END)
+width_of_page frame count = greater WIDTH (left_of_column frame (lesser (count - frame.skipped) frame.more) + END)
+
+-- how high it is: its bands follow each other
+abbrev pub height_of_page : Frame → ℕ → ℕ
+height_of_page frame count = shift_of frame (band_of frame count) + foot_of frame
+
+-- which of so many entries are drawn, and what stands at the left of their bands
+unfoldable pub text_of_labels : Frame → ℕ → List ℕ
+text_of_labels frame count = text_of_shown frame count ++ text_of_all_bands frame count
+
+-- the same behind what stands at the head of each page
+unfoldable pub text_of_legend : Frame → ℕ → List ℕ
+text_of_legend frame count = text_of_style ++ text_of_labels frame count
 
 -- the page's head, of so many entries
 unfoldable pub text_of_head : Frame → ℕ → List ℕ
-text_of_head frame count = BEGIN.now ++ text_of_measures (width_of_page frame count) (foot_of frame) ++ text_of_style
+text_of_head frame count =
+    BEGIN.now ++ text_of_measures (width_of_page frame count) (height_of_page frame count) ++ text_of_legend frame count
 
 -- the page of these entries
 unfoldable pub text_of_framed : Frame → Origin → List Entry → List ℕ

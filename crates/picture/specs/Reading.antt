@@ -76,7 +76,7 @@ spot_of seats at entry = spot_of_event seats at entry.event entry.outcome
 abbrev pub ending_of : Event → Ending
 ending_of (event.Call (call.Finish queue id)) = ending.Finished
 ending_of (event.Call (call.RunNext queue id)) = ending.Faulted
-ending_of (event.Call (call.Poll queue id)) = ending.Faulted
+ending_of (event.Call (call.Poll queue id)) = ending.Failed
 ending_of _ = ending.Stopped
 
 -- the entry that ends a packet in flight, and how: the first of those behind the n-th that releases it, else the last
@@ -121,7 +121,7 @@ sign_of_work id _ = sign.Nothing
 abbrev pub sign_of_poll : PacketId → Outcome → Sign
 sign_of_poll id (outcome.Polled (polled.Pending seen)) = sign.Look id seen
 sign_of_poll id (outcome.Polled (polled.Ready seen)) = sign.Look id seen
-sign_of_poll id (outcome.Polled (polled.Failed error)) = sign.Fault error
+sign_of_poll id (outcome.Polled (polled.Failed error)) = sign.Failure error
 sign_of_poll id _ = sign.Nothing
 
 -- what the entry of a call is drawn as

@@ -74,6 +74,7 @@ words_of policy (sign.Bar packet work ending) = decimal packet.0 ++ codes " " ++
 words_of policy (sign.Denial error) = words_of_error error
 words_of policy (sign.Group packet group) = decimal packet.0 ++ codes " group " ++ decimal group
 words_of policy (sign.Fault error) = words_of_error error
+words_of policy (sign.Failure error) = words_of_error error
 words_of policy (sign.Look packet seen) = decimal packet.0 ++ codes " seen" ++ words_of_seen seen
 words_of policy (sign.Completion packet) = decimal packet.0 ++ codes " completed"
 words_of policy (sign.Write client) = codes "write " ++ name_of_client policy client
@@ -81,12 +82,18 @@ words_of policy (sign.Change client) = codes "signal " ++ name_of_client policy 
 words_of policy (sign.Reload allows denies) = codes "reload " ++ decimal allows ++ codes " allow " ++ decimal denies ++ codes " deny"
 words_of policy sign.Nothing = []
 
+-- what is said of a packet's bar where there is no room for more: its id
+abbrev pub brief_of : Sign → List ℕ
+brief_of (sign.Bar packet work ending) = decimal packet.0
+brief_of _ = []
+
 -- ---- under the pointer
 
 -- what stands before a sign's words, where they begin with a packet's id
 abbrev pub lead_of : Sign → List ℕ
 lead_of (sign.Denial error) = codes "denied packet "
 lead_of (sign.Fault error) = codes "faulted packet "
+lead_of (sign.Failure error) = codes "failed packet "
 lead_of (sign.Bar packet work ending) = codes "packet "
 lead_of (sign.Group packet group) = codes "packet "
 lead_of (sign.Look packet seen) = codes "packet "

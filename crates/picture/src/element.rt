@@ -26,6 +26,8 @@ pub enum Ending {
     Finished,
     /// It broke a rule at its work.
     Faulted,
+    /// A signal that it waited for failed it.
+    Failed,
     /// Its queue was stopped or closed.
     Stopped,
     /// It hadn't, at the audit's end.
@@ -72,6 +74,8 @@ pub enum Sign {
     },
     /// A fault of a packet in flight.
     Fault(QueueError),
+    /// The failure of a barrier packet by a signal that it waited for.
+    Failure(QueueError),
     /// A poll of a packet that saw a signal as 0.
     Look {
         packet: PacketId,
@@ -133,6 +137,8 @@ pub struct Frame {
     pub lanes: Sequence<Lane>,
     /// How far entries are from each other.
     pub step: u8,
+    /// How many places of a band stand behind its first.
+    pub more: u8,
     /// Of how many entries between two numbers on the axis none has its own there.
     pub bare: u8,
 }

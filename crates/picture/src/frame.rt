@@ -1,7 +1,7 @@
 //! What a page is drawn by.
 
 ghost use Rattle.std.specs.Prelude.{◌≡◌, ◌+◌, ◌<◌, ◌≤◌, ◌^◌, IfOk, length, take};
-ghost use Rattle.picture.specs.Frames.{lesser, asked_of, skipped_of, step_of, room_of_number, bare_for, front_of, frame_of};
+ghost use Rattle.picture.specs.Frames.{lesser, asked_of, skipped_of, step_of, more_of, room_of_number, bare_for, front_of, frame_of};
 ghost use Rattle.picture.specs.Reading.{greater};
 
 use crate::element::{Frame, Span};
@@ -11,16 +11,19 @@ use core_model::{Entry, Origin};
 use std::alloc::{AllocError, Global};
 
 /// How many entries are drawn at the most.
-pub const MOST_DRAWN: u64 = 5000;
+pub const MOST_DRAWN: u64 = 20000;
 
-/// How much room the entries are to fill.
+/// How much room the entries of a band are to fill.
 pub const ROOM: u64 = 1400;
 
 /// How far entries are from each other at the most.
 pub const WIDEST: u64 = 26;
 
 /// How far they are from each other at the least.
-pub const NARROWEST: u64 = 2;
+pub const NARROWEST: u64 = 12;
+
+/// How many places of a band stand behind its first at the most.
+pub const BEHIND: u64 = 115;
 
 /// How much room a number of up to three digits wants on the axis.
 pub const THREE: u64 = 22;
@@ -76,9 +79,19 @@ fn skipped_of(before: u64, count: u64, span: Span) -> u64
 // How far so many entries are from each other.
 fn step_of(count: u32) -> u64
     ensures exact { result ≡ step_of count }
+    ensures least { 1 ≤ result }
     ensures bound { result < 2 ^ 8 }
 {
     lesser(WIDEST, greater(NARROWEST, ROOM / (count as u64 + 1)))
+}
+
+// How many places of a band stand behind its first, where entries are so far from each other.
+fn more_of(step: u64) -> u64
+    requires { 1 ≤ step }
+    ensures exact { result ≡ more_of step }
+    ensures bound { result < 2 ^ 8 }
+{
+    lesser(BEHIND, (ROOM / step).saturating_sub(1))
 }
 
 // How much room a number on the axis wants.
@@ -105,12 +118,8 @@ fn bare_for(step: u64, room: u64) -> u8
         4
     } else if room < step * 10 {
         9
-    } else if room < step * 20 {
-        19
-    } else if room < step * 50 {
-        49
     } else {
-        99
+        19
     }
 }
 
@@ -147,6 +156,7 @@ pub(crate) fn frame_of(
         skipped,
         lanes,
         step: step as u8,
+        more: more_of(step) as u8,
         bare: bare_for(step, room_of_number(before as u128 + count as u128)),
     })
 }

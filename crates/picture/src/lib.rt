@@ -12,6 +12,7 @@ mod frame;
 mod lanes;
 mod laws;
 mod page;
+mod places;
 mod reading;
 mod said;
 mod seats;

@@ -2,7 +2,7 @@
 
 ghost use Rattle.std.specs.Prelude.{◌≡◌, ◌++◌, ◌+◌, ◌<◌, ◌^◌, OnOk, [], flat_map, string_bytes, length, if◌then◌else◌};
 ghost use Rattle.picture.specs.Arrows.{arrow_from, zeros_after};
-ghost use Rattle.picture.specs.Pages.{text_of_looks, text_of_arrows, text_of_shown_arrows, text_of_drawn, text_of_entry, text_of_entries, text_of_stop, text_of_queue, text_of_flight, text_of_layer, text_of_box, text_of_size, text_of_shrinking, text_of_fit, text_of_measures, text_of_style, width_of_page, text_of_head, text_of_framed, text_of_page};
+ghost use Rattle.picture.specs.Pages.{text_of_looks, text_of_arrows, text_of_shown_arrows, text_of_drawn, text_of_entry, text_of_entries, text_of_stop, text_of_queue, text_of_flight, text_of_layer, text_of_box, text_of_size, text_of_shrinking, text_of_measures, text_of_style, width_of_page, height_of_page, text_of_labels, text_of_legend, text_of_head, text_of_framed, text_of_page};
 ghost use Rattle.picture.specs.declared.page.TheConstants.{BEGIN};
 ghost use Rattle.picture.specs.Reading.{spot_of};
 ghost use Rattle.picture.specs.Seats.{seats_after};
@@ -11,9 +11,12 @@ ghost use Rattle.picture.specs.Shapes.{text_of_arrow};
 use crate::arrows::{Zero, arrow_from, note_zeros};
 use crate::element::{Element, Frame, Sign, Span, Spot};
 use crate::frame::{asked_of, frame_of, front_of};
+use crate::places::{band_of, foot_of, left_of_column, shift_of};
 use crate::reading::{bar_from_start, element_of, lane_from_start, spot_of, stop_before};
 use crate::seats::{Seat, pass_seats, seats_of};
-use crate::shapes::{foot_of, is_shown, left_of, write_arrow, write_element, write_number};
+use crate::shapes::{
+    is_shown, write_all_bands, write_arrow, write_element, write_number, write_shown,
+};
 use aql_packet::{PacketId, QueueId};
 use core_model::{Call, Entry, Event, Origin, QueueOrigin, Satisfied};
 use policy::Policy;
@@ -25,16 +28,13 @@ pub const BEGIN: &str = "<svg xmlns=\"http://www.w3.org/2000/svg\" viewBox=\"0 0
 /// How each page's first tag ends: it is shown no larger than there is room.
 pub const SHRINKING: &str = " style=\"max-width:100%;height:auto\">\n";
 
-/// What stands at the head of each page: the colours of the classes, an arrow's head, what the colours mean, and the
-/// words on the left.
+/// What stands at the head of each page: the colours of the classes, an arrow's head, and what the colours mean. Those of
+/// one kind of mark differ also for who sees no red or no green.
 pub const STYLE: &str =
-    "<style>text{font:10px sans-serif;fill:#222}.number{fill:#777}.page{fill:#fff}.lane rect{fill:#f3f4f6}.stop rect{fill:#b91c1c}.close rect{fill:#171717}.reload rect{fill:#0e7490;fill-opacity:.5}.reload text{fill:#0e7490;font-size:8px}.bar rect{stroke:#555;stroke-width:.5}.finished rect{fill:#bbe5c4}.faulted rect{fill:#f9c0bb}.stopped rect{fill:#d5d5d5}.open rect{fill:#cfe3fb}.denial rect,.fault rect{fill:#dc2626}.denial text,.fault text{fill:#b91c1c}.group rect{fill:#15803d}.look rect{fill:#7c3aed}.completion rect{fill:#14532d}.grant rect{fill:#16a34a}.revocation rect{fill:#ea580c}.write rect{fill:#2563eb}.change rect{fill:#9333ea}line{stroke:#7c3aed;stroke-opacity:.7;marker-end:url(#head)}#legend text{fill:#555}</style>\n<defs><marker id=\"head\" markerWidth=\"7\" markerHeight=\"6\" refX=\"6\" refY=\"3\" orient=\"auto\"><path d=\"M0,0L7,3L0,6z\" fill=\"#7c3aed\"/></marker></defs>\n<rect class=\"page\" width=\"100%\" height=\"100%\"/>\n<g id=\"legend\"><rect x=\"6\" y=\"6\" width=\"10\" height=\"10\" fill=\"#bbe5c4\"/><text x=\"20\" y=\"15\">completed</text><rect x=\"98\" y=\"6\" width=\"10\" height=\"10\" fill=\"#f9c0bb\"/><text x=\"112\" y=\"15\">faulted</text><rect x=\"190\" y=\"6\" width=\"10\" height=\"10\" fill=\"#d5d5d5\"/><text x=\"204\" y=\"15\">stopped</text><rect x=\"282\" y=\"6\" width=\"10\" height=\"10\" fill=\"#cfe3fb\"/><text x=\"296\" y=\"15\">in flight</text><rect x=\"374\" y=\"6\" width=\"10\" height=\"10\" fill=\"#15803d\"/><text x=\"388\" y=\"15\">group run</text><rect x=\"466\" y=\"6\" width=\"10\" height=\"10\" fill=\"#14532d\"/><text x=\"480\" y=\"15\">completion</text><rect x=\"558\" y=\"6\" width=\"10\" height=\"10\" fill=\"#7c3aed\"/><text x=\"572\" y=\"15\">poll</text><rect x=\"650\" y=\"6\" width=\"10\" height=\"10\" fill=\"#dc2626\"/><text x=\"664\" y=\"15\">denial, fault</text><rect x=\"6\" y=\"22\" width=\"10\" height=\"10\" fill=\"#16a34a\"/><text x=\"20\" y=\"31\">grant</text><rect x=\"98\" y=\"22\" width=\"10\" height=\"10\" fill=\"#ea580c\"/><text x=\"112\" y=\"31\">revocation</text><rect x=\"190\" y=\"22\" width=\"10\" height=\"10\" fill=\"#2563eb\"/><text x=\"204\" y=\"31\">write</text><rect x=\"282\" y=\"22\" width=\"10\" height=\"10\" fill=\"#9333ea\"/><text x=\"296\" y=\"31\">signal</text><rect x=\"374\" y=\"22\" width=\"10\" height=\"10\" fill=\"#0e7490\"/><text x=\"388\" y=\"31\">reload</text><rect x=\"466\" y=\"22\" width=\"10\" height=\"10\" fill=\"#b91c1c\"/><text x=\"480\" y=\"31\">stop of a queue</text><line class=\"key\" x1=\"566\" y1=\"27\" x2=\"590\" y2=\"27\"/><text x=\"596\" y=\"31\">0 seen by a poll</text><rect x=\"690\" y=\"22\" width=\"10\" height=\"10\" fill=\"#171717\"/><text x=\"704\" y=\"31\">close</text></g>\n<text x=\"6\" y=\"52\">entry</text><text x=\"6\" y=\"82\">administrator, clients</text>\n";
+    "<style>text{font:10px sans-serif;fill:#222}.number{fill:#666}.page{fill:#fff}.lane rect{fill:#f3f4f6}.bar rect{stroke:#444;stroke-width:.5}.open rect{stroke-dasharray:3 2}.finished rect{fill:#b3d9f2}.faulted rect{fill:#f4a261}.failed rect{fill:#fff0a0}.stopped rect{fill:#a8a8a8}.open rect{fill:#ffffff}.stop rect{fill:#d55e00}.close rect{fill:#000000}.reload rect{fill:#000000;fill-opacity:.5}.reload text{font-size:8px}.denial rect,.fault rect{fill:#d55e00}.failure rect{fill:#f0c000;stroke:#444;stroke-width:.5}.group rect{fill:#0072b2}.look rect{fill:#cc79a7}.completion rect{fill:#000000}.grant rect{fill:#56b4e9}.revocation rect{fill:#d55e00}.write rect{fill:#004b87}.change rect{fill:#cc79a7}line{stroke:#a3457c;marker-end:url(#head)}#legend text{fill:#444}#shown{fill:#444}</style>\n<defs><marker id=\"head\" markerWidth=\"7\" markerHeight=\"6\" refX=\"6\" refY=\"3\" orient=\"auto\"><path d=\"M0,0L7,3L0,6z\" fill=\"#a3457c\"/></marker></defs>\n<rect class=\"page\" width=\"100%\" height=\"100%\"/>\n<g id=\"legend\"><text x=\"6\" y=\"31\">a packet</text><rect x=\"90\" y=\"22\" width=\"10\" height=\"10\" fill=\"#b3d9f2\" stroke=\"#444\" stroke-width=\".5\"/><text x=\"104\" y=\"31\">completed</text><rect x=\"182\" y=\"22\" width=\"10\" height=\"10\" fill=\"#f4a261\" stroke=\"#444\" stroke-width=\".5\"/><text x=\"196\" y=\"31\">faulted</text><rect x=\"274\" y=\"22\" width=\"10\" height=\"10\" fill=\"#fff0a0\" stroke=\"#444\" stroke-width=\".5\"/><text x=\"288\" y=\"31\">failed</text><rect x=\"366\" y=\"22\" width=\"10\" height=\"10\" fill=\"#a8a8a8\" stroke=\"#444\" stroke-width=\".5\"/><text x=\"380\" y=\"31\">stopped</text><rect x=\"458\" y=\"22\" width=\"10\" height=\"10\" fill=\"#ffffff\" stroke=\"#444\" stroke-width=\".5\" stroke-dasharray=\"3 2\"/><text x=\"472\" y=\"31\">in flight</text><text x=\"6\" y=\"47\">marks in it</text><rect x=\"90\" y=\"38\" width=\"10\" height=\"10\" fill=\"#0072b2\"/><text x=\"104\" y=\"47\">group run</text><rect x=\"182\" y=\"38\" width=\"10\" height=\"10\" fill=\"#cc79a7\"/><text x=\"196\" y=\"47\">poll</text><rect x=\"274\" y=\"38\" width=\"10\" height=\"10\" fill=\"#000000\"/><text x=\"288\" y=\"47\">completion</text><rect x=\"366\" y=\"38\" width=\"10\" height=\"10\" fill=\"#d55e00\"/><text x=\"380\" y=\"47\">denial, fault</text><rect x=\"458\" y=\"38\" width=\"10\" height=\"10\" fill=\"#f0c000\" stroke=\"#444\" stroke-width=\".5\"/><text x=\"472\" y=\"47\">failure</text><text x=\"6\" y=\"63\">marks beside</text><rect x=\"90\" y=\"54\" width=\"10\" height=\"10\" fill=\"#56b4e9\"/><text x=\"104\" y=\"63\">grant</text><rect x=\"182\" y=\"54\" width=\"10\" height=\"10\" fill=\"#d55e00\"/><text x=\"196\" y=\"63\">revocation</text><rect x=\"274\" y=\"54\" width=\"10\" height=\"10\" fill=\"#004b87\"/><text x=\"288\" y=\"63\">write</text><rect x=\"366\" y=\"54\" width=\"10\" height=\"10\" fill=\"#cc79a7\"/><text x=\"380\" y=\"63\">signal</text><rect x=\"458\" y=\"54\" width=\"10\" height=\"10\" fill=\"#000000\"/><text x=\"472\" y=\"63\">reload</text><rect x=\"550\" y=\"54\" width=\"10\" height=\"10\" fill=\"#d55e00\"/><text x=\"564\" y=\"63\">stop of a queue</text><rect x=\"660\" y=\"54\" width=\"10\" height=\"10\" fill=\"#000000\"/><text x=\"674\" y=\"63\">close</text><line class=\"key\" x1=\"550\" y1=\"43\" x2=\"574\" y2=\"43\"/><text x=\"580\" y=\"47\">0 seen by a poll</text></g>\n";
 
 /// How wide a page is at the least, which what the colours mean wants.
 pub const WIDTH: u64 = 760;
-
-/// How wide a page is at the most that is shown no larger than there is room.
-pub const SCREEN: u64 = 1920;
 
 /// How much stands to the right of the entries, for the words of the last of them.
 pub const END: u64 = 190;
@@ -342,17 +342,6 @@ fn write_shrinking(out: &mut String) -> Result<(), AllocError>
     out.push_str(SHRINKING)
 }
 
-// Writes how a page of a width is shown: one that a screen has no room for as it is, to be looked at part by part.
-fn write_fit(out: &mut String, width: u64) -> Result<(), AllocError>
-    ensures { OnOk result (string_bytes out.new ≡ string_bytes out.old ++ text_of_fit width) }
-{
-    if SCREEN < width {
-        out.push_str(">\n")
-    } else {
-        write_shrinking(out)
-    }
-}
-
 // Writes how wide and how high the page is.
 #[tactic(auto, unfolding(crate::specs::Pages::text_of_measures))]
 fn write_measures(out: &mut String, width: u64, height: u128) -> Result<(), AllocError>
@@ -360,7 +349,7 @@ fn write_measures(out: &mut String, width: u64, height: u128) -> Result<(), Allo
 {
     write_box(out, width, height)?;
     write_size(out, width, height)?;
-    write_fit(out, width)
+    write_shrinking(out)
 }
 
 // Writes what stands at the head of each page.
@@ -375,8 +364,35 @@ fn write_style(out: &mut String) -> Result<(), AllocError>
 fn width_of_page(frame: &Frame, count: u32) -> u64
     ensures { result ≡ width_of_page frame.now count }
 {
-    let wanted = left_of(frame, count) + END;
+    let (places, more) = (count.saturating_sub(frame.skipped), frame.more as u32);
+    let widest = if places < more { places } else { more };
+    let wanted = left_of_column(frame, widest) + END;
     if WIDTH < wanted { wanted } else { WIDTH }
+}
+
+// How high it is.
+fn height_of_page(frame: &Frame, count: u32) -> u128
+    ensures { result ≡ height_of_page frame.now count }
+{
+    shift_of(frame, band_of(frame, count) as u64) + foot_of(frame)
+}
+
+// Writes which of so many entries are drawn, and what stands at the left of their bands.
+#[tactic(auto, unfolding(crate::specs::Pages::text_of_labels))]
+fn write_labels(out: &mut String, frame: &Frame, count: u32) -> Result<(), AllocError>
+    ensures { OnOk result (string_bytes out.new ≡ string_bytes out.old ++ text_of_labels frame.now count) }
+{
+    write_shown(out, frame, count)?;
+    write_all_bands(out, frame, count)
+}
+
+// Writes the same behind what stands at the head of each page.
+#[tactic(auto, unfolding(crate::specs::Pages::text_of_legend))]
+fn write_legend(out: &mut String, frame: &Frame, count: u32) -> Result<(), AllocError>
+    ensures { OnOk result (string_bytes out.new ≡ string_bytes out.old ++ text_of_legend frame.now count) }
+{
+    write_style(out)?;
+    write_labels(out, frame, count)
 }
 
 // Writes the page's head.
@@ -385,8 +401,12 @@ fn write_head(out: &mut String, frame: &Frame, count: u32) -> Result<(), AllocEr
     ensures { OnOk result (string_bytes out.new ≡ string_bytes out.old ++ text_of_head frame.now count) }
 {
     write_begin(out)?;
-    write_measures(out, width_of_page(frame, count), foot_of(frame))?;
-    write_style(out)
+    write_measures(
+        out,
+        width_of_page(frame, count),
+        height_of_page(frame, count),
+    )?;
+    write_legend(out, frame, count)
 }
 
 // Writes the page of these entries.
@@ -408,7 +428,7 @@ fn write_framed(
 }
 
 /// Writes the page of an audit, by what it begins from and its entries, of which these are asked for. It is what
-/// `text_of_page` says, whatever the audit is: of 5,000 entries at the most each is drawn in turn, once, behind the
+/// `text_of_page` says, whatever the audit is: of 20,000 entries at the most each is drawn in turn, once, behind the
 /// queues and packets in flight from the start on, and what is said of it is escaped.
 pub fn write_page(
     alloc: Global,

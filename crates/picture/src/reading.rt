@@ -88,7 +88,8 @@ fn ending_of(event: &Event) -> Ending
 {
     match event {
         Event::Call(Call::Finish { .. }) => Ending::Finished,
-        Event::Call(Call::RunNext { .. }) | Event::Call(Call::Poll { .. }) => Ending::Faulted,
+        Event::Call(Call::RunNext { .. }) => Ending::Faulted,
+        Event::Call(Call::Poll { .. }) => Ending::Failed,
         _ => Ending::Stopped,
     }
 }
@@ -190,7 +191,7 @@ fn sign_of_poll(packet: PacketId, outcome: &Outcome) -> Sign
             packet,
             seen: *seen,
         },
-        Outcome::Polled(Polled::Failed(error)) => Sign::Fault(*error),
+        Outcome::Polled(Polled::Failed(error)) => Sign::Failure(*error),
         _ => Sign::Nothing,
     }
 }

@@ -1,7 +1,7 @@
 //! What is said of an entry in words.
 
 ghost use Rattle.std.specs.Prelude.{◌≡◌, ◌++◌, ◌≤◌, OnOk, flat_map, string_bytes, slice_index_or, false};
-ghost use Rattle.picture.specs.Words.{right_in, words_of_rights, words_of_function, words_of_work, position_in, words_of_seen, words_of_error, words_of, lead_of, has_queue, words_of_queue, words_of_effect, told_of};
+ghost use Rattle.picture.specs.Words.{right_in, words_of_rights, words_of_function, words_of_work, position_in, words_of_seen, words_of_error, words_of, brief_of, lead_of, has_queue, words_of_queue, words_of_effect, told_of};
 ghost use Rattle.words.specs.Names.{name_of_client, name_of_object};
 ghost use Rattle.policy.specs.Rights.{all_rights};
 ghost use Rattle.picture.specs.declared.element.Sign.TheVariants as signs;
@@ -171,7 +171,7 @@ pub(crate) fn write_words(out: &mut String, policy: &Policy, sign: &Sign) -> Res
         }
         Sign::Denial(error) => write_error(out, error),
         Sign::Group { packet, group } => write!(out, "{} group {group}", packet.0),
-        Sign::Fault(error) => write_error(out, error),
+        Sign::Fault(error) | Sign::Failure(error) => write_error(out, error),
         Sign::Look { packet, seen } => {
             write!(out, "{} seen", packet.0)?;
             write_seen(out, *seen)
@@ -190,6 +190,16 @@ pub(crate) fn write_words(out: &mut String, policy: &Policy, sign: &Sign) -> Res
     }
 }
 
+/// Writes what is said of a packet's bar where there is no room for more.
+pub(crate) fn write_brief(out: &mut String, sign: &Sign) -> Result<(), AllocError>
+    ensures { OnOk result (string_bytes out.new ≡ string_bytes out.old ++ brief_of sign.now) }
+{
+    match sign {
+        Sign::Bar { packet, .. } => write!(out, "{}", packet.0),
+        _ => Ok(()),
+    }
+}
+
 // What stands before a sign's words, where they begin with a packet's id.
 fn lead_of(sign: &Sign) -> &'static str
     ensures { result.now ≡ lead_of sign.now }
@@ -197,6 +207,7 @@ fn lead_of(sign: &Sign) -> &'static str
     match sign {
         Sign::Denial(_) => "denied packet ",
         Sign::Fault(_) => "faulted packet ",
+        Sign::Failure(_) => "failed packet ",
         Sign::Bar { .. } | Sign::Group { .. } | Sign::Look { .. } | Sign::Completion(_) => {
             "packet "
         }

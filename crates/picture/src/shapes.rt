@@ -1,238 +1,29 @@
 //! What is drawn, as text of SVG.
 
-ghost use Rattle.std.specs.Prelude.{◌≡◌, ◌++◌, ◌<◌, ◌^◌, ◌+◌, ◌*◌, OnOk, IfOk, not, nat_lt, string_bytes};
-ghost use Rattle.picture.specs.Shapes.{left_of, depth_at, height_at, height_of_lane, height_of_lanes, top_of_lane, foot_of, has_lane, top_of_row, width_of_mark, width_of_tick, reach_of, width_of, is_behind, is_tick, drop_of, top_of, height_of, class_of_ending, class_of, is_labelled, left_of_words, line_of_words, label_of, text_of_rectangle, text_of_words, text_of_label, number_of, text_of_place, text_of_opening, text_of_outline, text_with, is_in_layer, is_shown, text_of_element, text_of_line, text_of_arrow, is_numbered, text_of_number};
-ghost use Rattle.picture.specs.Words.{words_of, told_of};
-ghost use Rattle.picture.specs.declared.shapes.TheConstants.{LETTER, THIN};
+ghost use Rattle.std.specs.Prelude.{◌≡◌, ◌++◌, ◌<◌, ◌^◌, OnOk, IfOk, string_bytes};
+ghost use Rattle.picture.specs.Shapes.{class_of_ending, class_of, is_room, label_of_bar, label_of, left_of_words, line_of_words, text_of_rectangle, text_of_words, text_of_some_words, shift_of_piece, text_of_label, number_of, text_of_place, text_of_opening, text_of_outline, text_of_piece, text_of_pieces, text_with, is_in_layer, is_shown, text_of_element, line_of, is_one_band, left_of_arrow, line_of_arrow, text_of_stroke, text_of_line, text_of_arrow, is_numbered, text_of_number, text_of_band, text_of_bands, text_of_all_bands, text_before_range, text_behind_range, text_of_numbers, text_of_range, text_of_no_range, text_of_shown};
+ghost use Rattle.picture.specs.Words.{words_of, brief_of, told_of};
 
-use crate::element::{Element, Ending, Frame, Lane, Sign, Spot};
+use crate::element::{Element, Ending, Frame, Sign, Spot};
 use crate::escape::write_escaped;
-use crate::lanes::place_of;
-use crate::said::{write_told, write_words};
+use crate::places::{
+    AXIS, DROP, EDGE, HEAD, HOSTS, LEAD, LETTER, MARK, THIN, band_of, first_of, has_lane,
+    height_of, is_behind, left_of, left_of_column, pieces_of, shift_of, top_of, top_of_lane,
+    top_of_row, width_of, width_of_mark, width_of_tick,
+};
+use crate::said::{write_brief, write_told, write_words};
 use core_model::Effect;
 use policy::Policy;
 use std::alloc::{AllocError, Global};
 
-/// How much stands to the left of the entries.
-pub const MARGIN: u64 = 150;
+/// What stands before the numbers of the entries that are drawn.
+pub const BEFORE_RANGE: &str = "<text id=\"shown\" x=\"6\" y=\"15\">entries ";
 
-/// How far from the page's left edge words stand.
-pub const EDGE: u64 = 6;
+/// What stands behind them.
+pub const BEHIND_RANGE: &str = "; --from N --to N draws those from one number to another</text>\n";
 
-/// On which line the numbers of entries stand.
-pub const AXIS: u64 = 52;
-
-/// Where the lane of the administrator and of clients begins.
-pub const HOSTS: u64 = 56;
-
-/// Where the lanes of queues begin.
-pub const LANES: u64 = 94;
-
-/// How much of a lane stands above its rows.
-pub const HEAD: u64 = 16;
-
-/// How high a row is.
-pub const ROW: u64 = 22;
-
-/// How far lanes are from each other.
-pub const GAP: u64 = 6;
-
-/// How high a bar is.
-pub const BAR: u64 = 18;
-
-/// How far below the begin of a bar its ticks begin.
-pub const DROP: u64 = 12;
-
-/// How high a tick is.
-pub const TICK: u64 = 6;
-
-/// How high a mark is.
-pub const MARK: u64 = 12;
-
-/// How wide a tick is, at most.
-pub const THIN: u64 = 3;
-
-/// How wide a letter is, about.
-pub const LETTER: u64 = 6;
-
-/// How far to the right an entry's place is.
-pub(crate) fn left_of(frame: &Frame, at: u32) -> u64
-    ensures exact { result ≡ left_of frame.now at }
-    ensures bound { result < 2 ^ 42 }
-{
-    MARGIN + frame.step as u64 * at.saturating_sub(frame.skipped) as u64
-}
-
-// The lowest row of a queue's lane, by its place, from 0.
-fn depth_at(lanes: &[Lane], place: usize) -> u8
-    ensures { result ≡ depth_at lanes.now place }
-{
-    match lanes.get(place) {
-        Some(lane) => lane.depth,
-        None => 0,
-    }
-}
-
-// How high such a lane is.
-fn height_at(lanes: &[Lane], place: usize) -> u128
-    ensures exact { result ≡ height_at lanes.now place }
-    ensures bound { result < 2 ^ 13 }
-{
-    HEAD as u128 + ROW as u128 * (depth_at(lanes, place) as u128 + 1)
-}
-
-// How high so many lanes are, each with the gap below it.
-fn height_of_lanes(lanes: &[Lane], count: usize) -> u128
-    ensures exact { result ≡ height_of_lanes lanes.now count }
-    ensures bound { result < 2 ^ 78 }
-{
-    let mut height = 0;
-    'lanes: for place in 0..count {
-        height += height_at(lanes, place) + GAP as u128;
-    }
-    height
-}
-
-// How high the lane of a queue is.
-fn height_of_lane(frame: &Frame, lane: u64) -> u128
-    ensures exact { result ≡ height_of_lane frame.now lane }
-    ensures bound { result < 2 ^ 13 }
-{
-    let lanes = frame.lanes.as_slice();
-    height_at(lanes, place_of(lanes, lane))
-}
-
-// Where a lane begins.
-fn top_of_lane(frame: &Frame, lane: u64) -> u128
-    ensures exact { result ≡ top_of_lane frame.now lane }
-    ensures bound { result < 2 ^ 79 }
-{
-    if lane == 0 {
-        HOSTS as u128
-    } else {
-        let lanes = frame.lanes.as_slice();
-        LANES as u128 + height_of_lanes(lanes, place_of(lanes, lane))
-    }
-}
-
-/// Where the lanes end.
-pub(crate) fn foot_of(frame: &Frame) -> u128
-    ensures exact { result ≡ foot_of frame.now }
-    ensures bound { result < 2 ^ 79 }
-{
-    LANES as u128 + height_of_lanes(frame.lanes.as_slice(), frame.lanes.len())
-}
-
-// Whether a lane is on the page.
-fn has_lane(frame: &Frame, lane: u64) -> bool
-    ensures { result ≡ has_lane frame.now lane }
-{
-    lane == 0 || place_of(frame.lanes.as_slice(), lane) < frame.lanes.len()
-}
-
-// Where a row of a lane begins.
-fn top_of_row(frame: &Frame, spot: Spot) -> u128
-    ensures exact { result ≡ top_of_row frame.now spot }
-    ensures bound { result < 2 ^ 80 }
-{
-    top_of_lane(frame, spot.lane) + HEAD as u128 + ROW as u128 * spot.row as u128
-}
-
-// How wide a mark is.
-fn width_of_mark(frame: &Frame) -> u64
-    ensures exact { result ≡ width_of_mark frame.now }
-    ensures bound { result < 2 ^ 8 }
-{
-    frame.step as u64 / 2
-}
-
-// How wide a tick is.
-fn width_of_tick(frame: &Frame) -> u64
-    ensures exact { result ≡ width_of_tick frame.now }
-    ensures bound { result < 2 ^ 8 }
-{
-    let mark = width_of_mark(frame);
-    if mark < THIN { mark } else { THIN }
-}
-
-// How many of the entries that aren't skipped an element reaches further.
-fn reach_of(frame: &Frame, element: &Element) -> u32
-    ensures { result ≡ reach_of frame.now element.now }
-{
-    let from = element.spot.at.saturating_sub(frame.skipped);
-    element
-        .until
-        .saturating_sub(frame.skipped)
-        .saturating_sub(from)
-}
-
-// How wide an element is.
-fn width_of(frame: &Frame, element: &Element) -> u64
-    ensures { result ≡ width_of frame.now element.now element.now.sign }
-{
-    let step = frame.step as u64;
-    let reach = reach_of(frame, element) as u64;
-    match &element.sign {
-        Sign::Lane { .. } => step * reach + step,
-        Sign::Bar { .. } => step * reach + width_of_mark(frame),
-        Sign::Group { .. } | Sign::Reload { .. } | Sign::Stop | Sign::Close => width_of_tick(frame),
-        _ => width_of_mark(frame),
-    }
-}
-
-// Whether a sign goes over its lane, or over all lanes, behind the others.
-fn is_behind(sign: &Sign) -> bool
-    ensures { result ≡ is_behind sign.now }
-{
-    matches!(
-        sign,
-        Sign::Lane { .. } | Sign::Reload { .. } | Sign::Stop | Sign::Close
-    )
-}
-
-// Whether a sign is a tick, in the lower part of a bar.
-fn is_tick(sign: &Sign) -> bool
-    ensures { result ≡ is_tick sign.now }
-{
-    matches!(
-        sign,
-        Sign::Group { .. } | Sign::Look { .. } | Sign::Completion(_) | Sign::Fault(_)
-    )
-}
-
-// How far below the begin of its row a sign begins.
-fn drop_of(sign: &Sign) -> u64
-    ensures exact { result ≡ drop_of sign.now }
-    ensures bound { result < 2 ^ 8 }
-{
-    if is_tick(sign) { DROP } else { 0 }
-}
-
-// Where an element begins.
-fn top_of(frame: &Frame, element: &Element) -> u128
-    ensures { result ≡ top_of frame.now element.now }
-{
-    if is_behind(&element.sign) {
-        top_of_lane(frame, element.spot.lane)
-    } else {
-        top_of_row(frame, element.spot) + drop_of(&element.sign) as u128
-    }
-}
-
-// How high a sign in a lane is.
-fn height_of(frame: &Frame, lane: u64, sign: &Sign) -> u128
-    ensures { result ≡ height_of frame.now lane sign.now }
-{
-    match sign {
-        Sign::Lane { .. } | Sign::Stop | Sign::Close => height_of_lane(frame, lane),
-        Sign::Reload { .. } => foot_of(frame).saturating_sub((HOSTS + GAP) as u128),
-        Sign::Bar { .. } => BAR as u128,
-        Sign::Group { .. } | Sign::Look { .. } | Sign::Completion(_) | Sign::Fault(_) => {
-            TICK as u128
-        }
-        _ => MARK as u128,
-    }
-}
+/// What stands in their place where no entry is drawn.
+pub const NO_RANGE: &str = "<text id=\"shown\" x=\"6\" y=\"15\">no entries</text>\n";
 
 // How a bar's packet ended.
 fn class_of_ending(ending: Ending) -> &'static str
@@ -241,6 +32,7 @@ fn class_of_ending(ending: Ending) -> &'static str
     match ending {
         Ending::Finished => "bar finished",
         Ending::Faulted => "bar faulted",
+        Ending::Failed => "bar failed",
         Ending::Stopped => "bar stopped",
         Ending::Open => "bar open",
     }
@@ -260,6 +52,7 @@ fn class_of(sign: &Sign) -> &'static str
         Sign::Denial(_) => "denial",
         Sign::Group { .. } => "group",
         Sign::Fault(_) => "fault",
+        Sign::Failure(_) => "failure",
         Sign::Look { .. } => "look",
         Sign::Completion(_) => "completion",
         Sign::Write(_) => "write",
@@ -269,56 +62,76 @@ fn class_of(sign: &Sign) -> &'static str
     }
 }
 
-// Whether so many letters are as wide as an element, at most.
-fn is_room(frame: &Frame, element: &Element, letters: usize) -> bool
-    ensures { result ≡ not (nat_lt (width_of frame.now element.now element.now.sign) (LETTER * letters + THIN + THIN)) }
+// Whether so many letters fit in a piece.
+fn is_room(frame: &Frame, element: &Element, piece: u64, letters: usize) -> bool
+    requires { piece < 2 ^ 33 }
+    ensures { result ≡ is_room frame.now element.now piece letters }
 {
     let wanted = LETTER as u128 * letters as u128 + THIN as u128 + THIN as u128;
-    wanted <= width_of(frame, element) as u128
+    wanted <= width_of(frame, element, piece) as u128
 }
 
-// Whether words of so many letters stand on the page.
-fn is_labelled(frame: &Frame, element: &Element, letters: usize) -> bool
-    ensures { result ≡ is_labelled frame.now element.now letters element.now.sign }
+// What stands in a bar's piece.
+fn label_of_bar<'w>(
+    frame: &Frame,
+    element: &Element,
+    piece: u64,
+    words: &'w str,
+    brief: &'w str,
+) -> &'w str
+    requires { piece < 2 ^ 33 }
+    ensures { result.now ≡ label_of_bar frame.now element.now piece words.now brief.now }
+{
+    if is_room(frame, element, piece, words.len()) {
+        words
+    } else if is_room(frame, element, piece, brief.len()) {
+        brief
+    } else {
+        ""
+    }
+}
+
+// What stands on the page of what is said of an element.
+fn label_of<'w>(
+    frame: &Frame,
+    element: &Element,
+    piece: u64,
+    words: &'w str,
+    brief: &'w str,
+) -> &'w str
+    requires { piece < 2 ^ 33 }
+    ensures { result.now ≡ label_of frame.now element.now piece words.now brief.now element.now.sign }
 {
     match &element.sign {
-        Sign::Bar { .. } => is_room(frame, element, letters),
-        Sign::Lane { .. } | Sign::Denial(_) | Sign::Fault(_) | Sign::Reload { .. } => true,
-        _ => false,
+        Sign::Bar { .. } => label_of_bar(frame, element, piece, words, brief),
+        Sign::Lane { .. } | Sign::Denial(_) | Sign::Fault(_) | Sign::Failure(_) => words,
+        Sign::Reload { .. } => "reload",
+        _ => "",
     }
 }
 
 // Where an element's words begin.
-fn left_of_words(frame: &Frame, element: &Element) -> u64
-    ensures { result ≡ left_of_words frame.now element.now element.now.sign }
+fn left_of_words(frame: &Frame, element: &Element, piece: u64) -> u64
+    ensures { result ≡ left_of_words frame.now element.now piece element.now.sign }
 {
     let left = left_of(frame, element.spot.at);
     match &element.sign {
         Sign::Lane { .. } => EDGE,
-        Sign::Denial(_) | Sign::Fault(_) => left + width_of_mark(frame) + THIN,
+        Sign::Denial(_) | Sign::Fault(_) | Sign::Failure(_) => left + width_of_mark(frame) + THIN,
         Sign::Reload { .. } => left + width_of_tick(frame) + 1,
-        _ => left + THIN,
+        _ => left_of_column(frame, first_of(frame, element, piece)) + THIN,
     }
 }
 
-// On which line they stand.
+// On which line they would stand in the first band.
 fn line_of_words(frame: &Frame, element: &Element) -> u128
-    ensures { result ≡ line_of_words frame.now element.now }
+    ensures exact { result ≡ line_of_words frame.now element.now }
+    ensures bound { result < 2 ^ 81 }
 {
     if is_behind(&element.sign) {
         top_of_lane(frame, element.spot.lane) + MARK as u128
     } else {
         top_of_row(frame, element.spot) + DROP as u128 - THIN as u128
-    }
-}
-
-// What stands on the page of a sign's words.
-fn label_of<'w>(sign: &Sign, words: &'w str) -> &'w str
-    ensures { result.now ≡ label_of sign.now words.now }
-{
-    match sign {
-        Sign::Reload { .. } => "reload",
-        _ => words,
     }
 }
 
@@ -347,23 +160,42 @@ fn write_text(out: &mut String, x: u64, y: u128, words: &str) -> Result<(), Allo
     out.push_str("</text>")
 }
 
-// Writes an element's words, where they stand on the page.
+// Writes words at a place, if there are some.
+fn write_some_words(out: &mut String, x: u64, y: u128, words: &str) -> Result<(), AllocError>
+    ensures { OnOk result (string_bytes out.new ≡ string_bytes out.old ++ text_of_some_words x y words.now) }
+{
+    if words.len() == 0 {
+        Ok(())
+    } else {
+        write_text(out, x, y, words)
+    }
+}
+
+// How far a piece of an element is below the first band.
+fn shift_of_piece(frame: &Frame, element: &Element, piece: u64) -> u128
+    requires { piece < 2 ^ 33 }
+    ensures exact { result ≡ shift_of_piece frame.now element.now piece }
+    ensures bound { result < 2 ^ 113 }
+{
+    shift_of(frame, band_of(frame, element.spot.at) as u64 + piece)
+}
+
+// Writes the words of a piece, where they stand on the page.
 #[tactic(auto, unfolding(crate::specs::Shapes::text_of_label))]
 fn write_label(
     out: &mut String,
     frame: &Frame,
     element: &Element,
     words: &str,
+    brief: &str,
+    piece: u64,
 ) -> Result<(), AllocError>
-    ensures { OnOk result (string_bytes out.new ≡ string_bytes out.old ++ text_of_label frame.now element.now words.now) }
+    requires { piece < 2 ^ 33 }
+    ensures { OnOk result (string_bytes out.new ≡ string_bytes out.old ++ text_of_label frame.now element.now words.now brief.now piece) }
 {
-    if is_labelled(frame, element, words.len()) {
-        let x = left_of_words(frame, element);
-        let y = line_of_words(frame, element);
-        write_text(out, x, y, label_of(&element.sign, words))
-    } else {
-        Ok(())
-    }
+    let x = left_of_words(frame, element, piece);
+    let y = shift_of_piece(frame, element, piece) + line_of_words(frame, element);
+    write_some_words(out, x, y, label_of(frame, element, piece, words, brief))
 }
 
 // The words of a sign.
@@ -373,6 +205,15 @@ fn words(alloc: Global, policy: &Policy, sign: &Sign) -> Result<String, AllocErr
     let mut words = String::new(alloc);
     write_words(&mut words, policy, sign)?;
     Ok(words)
+}
+
+// What is said of a sign where there is no room for more.
+fn brief(alloc: Global, sign: &Sign) -> Result<String, AllocError>
+    ensures { IfOk result (λ brief. string_bytes brief ≡ brief_of sign.now) }
+{
+    let mut brief = String::new(alloc);
+    write_brief(&mut brief, sign)?;
+    Ok(brief)
 }
 
 // What is said under the pointer of an element whose entry made these changes.
@@ -425,19 +266,60 @@ fn write_opening(
     out.push_str("</title>")
 }
 
-// Writes an element's rectangle.
+// Writes the rectangle of a piece.
 #[tactic(auto, unfolding(crate::specs::Shapes::text_of_outline))]
-fn write_outline(out: &mut String, frame: &Frame, element: &Element) -> Result<(), AllocError>
-    ensures { OnOk result (string_bytes out.new ≡ string_bytes out.old ++ text_of_outline frame.now element.now) }
+fn write_outline(
+    out: &mut String,
+    frame: &Frame,
+    element: &Element,
+    piece: u64,
+) -> Result<(), AllocError>
+    requires { piece < 2 ^ 33 }
+    ensures { OnOk result (string_bytes out.new ≡ string_bytes out.old ++ text_of_outline frame.now element.now piece) }
 {
-    let x = left_of(frame, element.spot.at);
-    let y = top_of(frame, element);
-    let width = width_of(frame, element);
+    let x = left_of_column(frame, first_of(frame, element, piece));
+    let y = shift_of_piece(frame, element, piece) + top_of(frame, element);
+    let width = width_of(frame, element, piece);
     let height = height_of(frame, element.spot.lane, &element.sign);
     write_rectangle(out, x, y, width, height)
 }
 
-// Writes an element with what is said under the pointer and words.
+// Writes a piece, with its words.
+#[tactic(auto, unfolding(crate::specs::Shapes::text_of_piece))]
+fn write_piece(
+    out: &mut String,
+    frame: &Frame,
+    element: &Element,
+    words: &str,
+    brief: &str,
+    piece: u64,
+) -> Result<(), AllocError>
+    requires { piece < 2 ^ 33 }
+    ensures { OnOk result (string_bytes out.new ≡ string_bytes out.old ++ text_of_piece frame.now element.now words.now brief.now piece) }
+{
+    write_outline(out, frame, element, piece)?;
+    write_label(out, frame, element, words, brief, piece)
+}
+
+// Writes the first pieces of an element, so many of them.
+fn write_pieces(
+    out: &mut String,
+    frame: &Frame,
+    element: &Element,
+    words: &str,
+    brief: &str,
+    count: u64,
+) -> Result<(), AllocError>
+    requires { count < 2 ^ 33 }
+    ensures { OnOk result (string_bytes out.new ≡ string_bytes out.old ++ text_of_pieces frame.now element.now words.now brief.now count) }
+{
+    'pieces: for piece in 0..count {
+        write_piece(out, frame, element, words, brief, piece)?;
+    }
+    Ok(())
+}
+
+// Writes an element with what is said under the pointer, and its piece in each band.
 #[tactic(auto, unfolding(crate::specs::Shapes::text_with))]
 fn write_with(
     out: &mut String,
@@ -445,12 +327,12 @@ fn write_with(
     element: &Element,
     told: &str,
     words: &str,
+    brief: &str,
 ) -> Result<(), AllocError>
-    ensures { OnOk result (string_bytes out.new ≡ string_bytes out.old ++ text_with frame.now element.now told.now words.now) }
+    ensures { OnOk result (string_bytes out.new ≡ string_bytes out.old ++ text_with frame.now element.now told.now words.now brief.now) }
 {
     write_opening(out, frame, element, told)?;
-    write_outline(out, frame, element)?;
-    write_label(out, frame, element, words)?;
+    write_pieces(out, frame, element, words, brief, pieces_of(frame, element))?;
     out.push_str("</g>\n")
 }
 
@@ -486,24 +368,77 @@ pub(crate) fn write_element(
     if is_shown(frame, element) {
         let told = told(alloc, policy, element, effects)?;
         let words = words(alloc, policy, &element.sign)?;
-        write_with(out, frame, element, told.as_str(), words.as_str())
+        let brief = brief(alloc, &element.sign)?;
+        let (told, words, brief) = (told.as_str(), words.as_str(), brief.as_str());
+        write_with(out, frame, element, told, words, brief)
     } else {
         Ok(())
     }
 }
 
-// Writes an arrow from one place to another.
+// On which line an arrow's end is.
+fn line_of(frame: &Frame, spot: Spot) -> u128
+    ensures exact { result ≡ line_of frame.now spot }
+    ensures bound { result < 2 ^ 114 }
+{
+    shift_of(frame, band_of(frame, spot.at) as u64) + top_of_row(frame, spot) + DROP as u128
+}
+
+// Whether an arrow stays in a band.
+fn is_one_band(frame: &Frame, from: Spot, to: Spot) -> bool
+    ensures { result ≡ is_one_band frame.now from to }
+{
+    band_of(frame, from.at) == band_of(frame, to.at)
+}
+
+// Where an arrow begins.
+fn left_of_arrow(frame: &Frame, from: Spot, to: Spot) -> u64
+    ensures { result ≡ left_of_arrow frame.now from to }
+{
+    if is_one_band(frame, from, to) {
+        left_of(frame, from.at) + width_of_mark(frame)
+    } else {
+        LEAD
+    }
+}
+
+// On which line it begins.
+fn line_of_arrow(frame: &Frame, from: Spot, to: Spot) -> u128
+    ensures { result ≡ line_of_arrow frame.now from to }
+{
+    if is_one_band(frame, from, to) {
+        line_of(frame, from)
+    } else {
+        line_of(frame, to)
+    }
+}
+
+// Writes an arrow's line.
+#[tactic(auto, unfolding(crate::specs::Shapes::text_of_stroke))]
+fn write_stroke(out: &mut String, frame: &Frame, from: Spot, to: Spot) -> Result<(), AllocError>
+    ensures { OnOk result (string_bytes out.new ≡ string_bytes out.old ++ text_of_stroke frame.now from to) }
+{
+    let x1 = left_of_arrow(frame, from, to);
+    let y1 = line_of_arrow(frame, from, to);
+    let x2 = left_of(frame, to.at);
+    let y2 = line_of(frame, to);
+    write!(
+        out,
+        "<line x1=\"{x1}\" y1=\"{y1}\" x2=\"{x2}\" y2=\"{y2}\">"
+    )
+}
+
+// Writes an arrow from one place to another, and under the pointer whence and where.
+#[tactic(auto, unfolding(crate::specs::Shapes::text_of_line))]
 fn write_line(out: &mut String, frame: &Frame, from: Spot, to: Spot) -> Result<(), AllocError>
     ensures { OnOk result (string_bytes out.new ≡ string_bytes out.old ++ text_of_line frame.now from to) }
 {
-    let x1 = left_of(frame, from.at) + width_of_mark(frame);
-    let y1 = top_of_row(frame, from) + DROP as u128;
-    let x2 = left_of(frame, to.at);
-    let y2 = top_of_row(frame, to) + DROP as u128;
-    writeln!(
-        out,
-        "<line x1=\"{x1}\" y1=\"{y1}\" x2=\"{x2}\" y2=\"{y2}\"/>"
-    )
+    write_stroke(out, frame, from, to)?;
+    out.push_str("<title>")?;
+    write_place(out, frame, to.at)?;
+    out.push_str(" saw the 0 of ")?;
+    write_place(out, frame, from.at)?;
+    out.push_str("</title></line>\n")
 }
 
 /// Writes an arrow from one place to another, if there is one and it begins in a lane of the page.
@@ -528,13 +463,13 @@ fn is_numbered(frame: &Frame, at: u32) -> bool
     frame.is_behind && frame.skipped < at && number_of(frame, at) % (frame.bare as u128 + 1) == 0
 }
 
-/// Writes an entry's number on the axis, where it has one there.
+/// Writes an entry's number on the axis of its band, where it has one there.
 pub(crate) fn write_number(out: &mut String, frame: &Frame, at: u32) -> Result<(), AllocError>
     ensures { OnOk result (string_bytes out.new ≡ string_bytes out.old ++ text_of_number frame.now at) }
 {
     if is_numbered(frame, at) {
         let x = left_of(frame, at);
-        let y = AXIS;
+        let y = shift_of(frame, band_of(frame, at) as u64) + AXIS as u128;
         let number = number_of(frame, at);
         writeln!(
             out,
@@ -542,5 +477,89 @@ pub(crate) fn write_number(out: &mut String, frame: &Frame, at: u32) -> Result<(
         )
     } else {
         Ok(())
+    }
+}
+
+// Writes what stands at the left of a band.
+#[tactic(auto, unfolding(crate::specs::Shapes::text_of_band))]
+fn write_band(out: &mut String, frame: &Frame, band: u64) -> Result<(), AllocError>
+    requires { band < 2 ^ 34 }
+    ensures { OnOk result (string_bytes out.new ≡ string_bytes out.old ++ text_of_band frame.now band) }
+{
+    let shift = shift_of(frame, band);
+    write_text(out, EDGE, shift + AXIS as u128, "entry")?;
+    let hosts = (HOSTS + HEAD + DROP - THIN) as u128;
+    write_text(out, EDGE, shift + hosts, "administrator, clients")?;
+    out.push_str("\n")
+}
+
+// Writes what stands at the left of so many bands.
+fn write_bands(out: &mut String, frame: &Frame, count: u64) -> Result<(), AllocError>
+    requires { count < 2 ^ 34 }
+    ensures { OnOk result (string_bytes out.new ≡ string_bytes out.old ++ text_of_bands frame.now count) }
+{
+    'bands: for band in 0..count {
+        write_band(out, frame, band)?;
+    }
+    Ok(())
+}
+
+/// Writes what stands at the left of all bands of so many entries.
+pub(crate) fn write_all_bands(out: &mut String, frame: &Frame, count: u32) -> Result<(), AllocError>
+    ensures { OnOk result (string_bytes out.new ≡ string_bytes out.old ++ text_of_all_bands frame.now count) }
+{
+    write_bands(out, frame, band_of(frame, count) as u64 + 1)
+}
+
+// Writes what stands before the numbers of the entries that are drawn.
+#[tactic(auto, unfolding(crate::specs::Shapes::text_before_range))]
+fn write_before_range(out: &mut String) -> Result<(), AllocError>
+    ensures { OnOk result (string_bytes out.new ≡ string_bytes out.old ++ text_before_range) }
+{
+    out.push_str(BEFORE_RANGE)
+}
+
+// Writes what stands behind them.
+#[tactic(auto, unfolding(crate::specs::Shapes::text_behind_range))]
+fn write_behind_range(out: &mut String) -> Result<(), AllocError>
+    ensures { OnOk result (string_bytes out.new ≡ string_bytes out.old ++ text_behind_range) }
+{
+    out.push_str(BEHIND_RANGE)
+}
+
+// Writes two numbers.
+fn write_numbers(out: &mut String, first: u128, last: u128) -> Result<(), AllocError>
+    ensures { OnOk result (string_bytes out.new ≡ string_bytes out.old ++ text_of_numbers first last) }
+{
+    write!(out, "{first} to {last}")
+}
+
+// Writes that the entries from one number to another are drawn.
+#[tactic(auto, unfolding(crate::specs::Shapes::text_of_range))]
+fn write_range(out: &mut String, first: u128, last: u128) -> Result<(), AllocError>
+    ensures { OnOk result (string_bytes out.new ≡ string_bytes out.old ++ text_of_range first last) }
+{
+    write_before_range(out)?;
+    write_numbers(out, first, last)?;
+    write_behind_range(out)
+}
+
+// Writes that no entry is drawn.
+#[tactic(auto, unfolding(crate::specs::Shapes::text_of_no_range))]
+fn write_no_range(out: &mut String) -> Result<(), AllocError>
+    ensures { OnOk result (string_bytes out.new ≡ string_bytes out.old ++ text_of_no_range) }
+{
+    out.push_str(NO_RANGE)
+}
+
+/// Writes which of so many entries are drawn.
+pub(crate) fn write_shown(out: &mut String, frame: &Frame, count: u32) -> Result<(), AllocError>
+    ensures { OnOk result (string_bytes out.new ≡ string_bytes out.old ++ text_of_shown frame.now count) }
+{
+    if frame.skipped < count {
+        let first = number_of(frame, frame.skipped + 1);
+        write_range(out, first, number_of(frame, count))
+    } else {
+        write_no_range(out)
     }
 }

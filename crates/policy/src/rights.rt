@@ -107,14 +107,7 @@ impl Rights {
     pub fn of(right: Right) -> Rights
         ensures { result ≡ set_of right }
     {
-        match right {
-            Right::Use => Rights::USE,
-            Right::Read => Rights::READ,
-            Right::Write => Rights::WRITE,
-            Right::Wait => Rights::WAIT,
-            Right::Change => Rights::CHANGE,
-            Right::Launch => Rights::LAUNCH,
-        }
+        Rights(1 << right as u8)
     }
 
     /// Whether a right is in the set.

@@ -38,6 +38,18 @@ pub struct QueueError {
     pub place: Option<FaultPlace>,
 }
 
+impl Default for QueueError {
+    /// What stands where no error is kept yet.
+    fn default() -> QueueError {
+        QueueError {
+            queue: QueueId(0),
+            packet: PacketId(0),
+            rule: Rule::L1,
+            place: None,
+        }
+    }
+}
+
 impl fmt::Display for FaultPlace {
     ghost use Rattle.std.specs.Prelude.{Some};
     ghost use Rattle.queue_error.specs.Texts.{text_of_place};

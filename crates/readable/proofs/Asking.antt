@@ -14,11 +14,10 @@ use Rattle.script.specs.Expansions.{does}
 use Rattle.script.specs.Runs.{Cut, CutShort, IsCutBy, Served, Telling, Told, Watching, answers_as, by_line, cuts_as, law, names, stands_for}
 use Rattle.readable.specs.declared.moves.Move.{Move}
 use Rattle.readable.specs.declared.moves.Move.TheVariants as move
-use Rattle.readable.specs.declared.tally.Tally.{Tally}
-use Rattle.readable.specs.Drains.{Drains, Makes}
+use Rattle.readable.specs.declared.flight.Queues.{Queues}
+use Rattle.readable.specs.Drains.{Drains, Makes, Story}
 use Rattle.readable.specs.Moves.{Made, MadeInTurn, command_of}
-use Rattle.readable.specs.Runs.{Answers, Asked, AskedInTurn, Replied, RepliedInPart, RepliedInTurn, Reply, TellingDrains, asked_of, by_readable, text_of_replies}
-use Rattle.readable.specs.Tallies.{none_yet, tallied}
+use Rattle.readable.specs.Runs.{Answers, Asked, AskedInTurn, Replied, RepliedInPart, RepliedInTurn, Reply, TellingDrains, TellingState, asked_of, by_readable, text_of_replies}
 
 -- ---- requests
 
@@ -60,31 +59,31 @@ texts_more : (first more : List Reply) → text_of_replies (first ++ more) ≡ t
 texts_more [] more = refl
 texts_more (reply ∷ first) more = ap (λ rest. reply.text ++ rest) (texts_more first more) ∙ sym (append_assoc reply.text (text_of_replies first) (text_of_replies more))
 
-module _ (tells : Telling) (drains : TellingDrains) (later : List Declared) where
+module _ (tells : Telling) (drains : TellingDrains) (states : TellingState) (later : List Declared) where
   in_turn_more : (old mid new : Joined) (first more : List Reply) →
-      RepliedInTurn tells drains later old first mid → RepliedInTurn tells drains later mid more new → RepliedInTurn tells drains later old (first ++ more) new
+      RepliedInTurn tells drains states later old first mid → RepliedInTurn tells drains states later mid more new → RepliedInTurn tells drains states later old (first ++ more) new
   unfolding RepliedInTurn
-  in_turn_more old mid new [] more same h = subst (λ start. RepliedInTurn tells drains later start more new) same h
+  in_turn_more old mid new [] more same h = subst (λ start. RepliedInTurn tells drains states later start more new) same h
   in_turn_more old mid new (reply ∷ first) more h k = (h.0, h.1, h.2, in_turn_more h.0 mid new first more h.3 k)
 
   in_turn_one : (old new : Joined) (reply : Reply) → AskedInTurn later old reply.asked new →
-      Answers tells drains (names new) reply → RepliedInTurn tells drains later old (reply ∷ []) new
+      Answers tells drains states old reply new → RepliedInTurn tells drains states later old (reply ∷ []) new
   unfolding RepliedInTurn
   in_turn_one old new reply asked answers = (new, asked, answers, refl)
 
-  in_turn_same : (old new : Joined) → new ≡ old → RepliedInTurn tells drains later old [] new
+  in_turn_same : (old new : Joined) → new ≡ old → RepliedInTurn tells drains states later old [] new
   unfolding RepliedInTurn
   in_turn_same old new same = same
 
   -- nothing is asked, and nothing told
-  pub replied_none : (old new : Joined) (text : List ℕ) → new ≡ old → text ≡ [] → Replied tells drains later old text new
+  pub replied_none : (old new : Joined) (text : List ℕ) → new ≡ old → text ≡ [] → Replied tells drains states later old text new
   replied_none old new text same none = ([], in_turn_same old new same, none)
 
-  replied_one : (old new : Joined) (reply : Reply) → AskedInTurn later old reply.asked new → Answers tells drains (names new) reply → Replied tells drains later old reply.text new
+  replied_one : (old new : Joined) (reply : Reply) → AskedInTurn later old reply.asked new → Answers tells drains states old reply new → Replied tells drains states later old reply.text new
   replied_one old new reply asked answers = (reply ∷ [], in_turn_one old new reply asked answers, sym (append-nil reply.text))
 
   pub replied_more : (old mid new : Joined) (text more : List ℕ) →
-      Replied tells drains later old text mid → Replied tells drains later mid more new → Replied tells drains later old (text ++ more) new
+      Replied tells drains states later old text mid → Replied tells drains states later mid more new → Replied tells drains states later old (text ++ more) new
   replied_more old mid new text more h k = (
     h.0 ++ k.0,
     in_turn_more old mid new h.0 k.0 h.1 k.1,
@@ -92,19 +91,19 @@ module _ (tells : Telling) (drains : TellingDrains) (later : List Declared) wher
   )
 
   part_more : (old mid new : Joined) (text more : List ℕ) →
-      Replied tells drains later old text mid → RepliedInPart tells drains later mid more new → RepliedInPart tells drains later old (text ++ more) new
+      Replied tells drains states later old text mid → RepliedInPart tells drains states later mid more new → RepliedInPart tells drains states later old (text ++ more) new
   part_more old mid new text more h k = (k.0, k.1, replied_more old mid k.0 text more h k.2, k.3)
 
   -- a line of a script
   answered : (says : Told → Flow → Type 0) (old new : Joined) (stands : Option Line) (reply : List ℕ) (said : Flow) →
-      answers_as tells says later old stands reply said new → Replied tells drains later old reply new
+      answers_as tells says later old stands reply said new → Replied tells drains states later old reply new
   answered says old new None reply said done = absurd done
   answered says old new (Some line.Quiet) reply said done = replied_none old new reply done.2 done.0
   answered says old new (Some (line.Asks command)) reply said done =
       replied_one old new (record { asked = record { command = command; told = done.0 } ∷ []; text = reply }) (asked_one later old new command done.0 done.1)
       (inl (record { command = command; told = done.0 }, refl, done.2))
 
-  cut_off : (old new : Joined) (stands : Option Line) (last : List ℕ) → cuts_as later old stands last new → RepliedInPart tells drains later old last new
+  cut_off : (old new : Joined) (stands : Option Line) (last : List ℕ) → cuts_as later old stands last new → RepliedInPart tells drains states later old last new
   cut_off old new None last done = absurd done
   cut_off old new (Some line.Quiet) last done = absurd done
   cut_off old new (Some (line.Asks command)) last done = (
@@ -115,23 +114,28 @@ module _ (tells : Telling) (drains : TellingDrains) (later : List Declared) wher
   )
 
   -- requests of a drain
-  drained : (old new : Joined) (tally : Tally) (text : List ℕ) → Drains old none_yet new tally → drains tally text → Replied tells drains later old text new
-  drained old new tally text made told =
+  drained : (queues : Queues) (old new : Joined) (story : Story) (text : List ℕ) → Drains queues old story new → drains (names new) story text → Replied tells drains states later old text new
+  drained queues old new story text made told =
       replied_one old new (record { asked = map asked_of made.0; text = text }) (asked_made later old new made.0 made.1)
-      (inr (made.0, refl, subst (λ tally. drains tally text) made.2 told))
+      (inr (inl (queues, made.0, refl, made.2, subst (λ story. drains (names new) story text) made.3 told)))
 
-  made_unsaid : (old new : Joined) → Makes old new → RepliedInPart tells drains later old [] new
+  -- what there is
+  stated : (world : Joined) (text : List ℕ) → states text → Replied tells drains states later world text world
+  stated world text told =
+      replied_one world world (record { asked = []; text = text }) (asked_none later world) (inr (inr (refl, told)))
+
+  made_unsaid : (old new : Joined) → Makes old new → RepliedInPart tells drains states later old [] new
   made_unsaid old new made = (old, map asked_of made.0, replied_none old old [] refl refl, asked_made later old new made.0 made.1)
 
   module _ (watcher : Watching) where
     pub served_line : (old new : Joined) (line more before after : List ℕ) (said : Option Flow) →
-        Served (law (by_line tells) watcher later) old new line before after said → Served (law (by_readable tells drains) watcher later) old new more before after said
+        Served (law (by_line tells) watcher later) old new line before after said → Served (law (by_readable tells drains states) watcher later) old new more before after said
     unfolding law
     served_line old new line more before after (Some said) served = (served.0, answered watcher.says old new (stands_for later old line) served.0 said served.1, served.2)
     served_line old new line more before after None served = (tt, served.1, served.2)
 
     pub cut_line : {F : Type 0} (old new : Joined) (line more before after : List ℕ) (fault : RunFault F) →
-        Cut (law (by_line tells) watcher later) old new line before after fault → Cut (law (by_readable tells drains) watcher later) old new more before after fault
+        Cut (law (by_line tells) watcher later) old new line before after fault → Cut (law (by_readable tells drains states) watcher later) old new more before after fault
     unfolding law
     cut_line old new line more before after (Script OutOfMemory) (last, is, inl same) = (last, is, inl same)
     cut_line old new line more before after (Script OutOfMemory) (last, is, inr cut) = (last, is, inr (cut_off old new (stands_for later old line) last cut))
@@ -142,8 +146,8 @@ module _ (tells : Telling) (drains : TellingDrains) (later : List Declared) wher
 
     -- whichever line it is
     pub any_line : {F : Type 0} (old new : Joined) (line more before after : List ℕ) (result : Result (Option Flow) (RunFault F)) →
-        MatchResult result (Served (law (by_readable tells drains) watcher later) old new line before after) (Cut (law (by_readable tells drains) watcher later) old new line before after) →
-        MatchResult result (Served (law (by_readable tells drains) watcher later) old new more before after) (Cut (law (by_readable tells drains) watcher later) old new more before after)
+        MatchResult result (Served (law (by_readable tells drains states) watcher later) old new line before after) (Cut (law (by_readable tells drains states) watcher later) old new line before after) →
+        MatchResult result (Served (law (by_readable tells drains states) watcher later) old new more before after) (Cut (law (by_readable tells drains states) watcher later) old new more before after)
     unfolding law
     any_line old new line more before after (Ok (Some said)) served = served
     any_line old new line more before after (Ok None) served = served
@@ -156,22 +160,22 @@ module _ (tells : Telling) (drains : TellingDrains) (later : List Declared) wher
     -- one of no form, which asks nothing
     pub refused_line : {F : Type 0} (world : Joined) (line before : List ℕ) (result : Result (Option Flow) (RunFault F)) →
         MatchResult result (λ said. said ≡ None) (λ fault. fault ≡ Script OutOfMemory) →
-        MatchResult result (Served (law (by_readable tells drains) watcher later) world world line before before) (Cut (law (by_readable tells drains) watcher later) world world line before before)
+        MatchResult result (Served (law (by_readable tells drains states) watcher later) world world line before before) (Cut (law (by_readable tells drains states) watcher later) world world line before before)
     unfolding law
     refused_line world line before (Ok said) is =
-        subst (λ said. Served (law (by_readable tells drains) watcher later) world world line before before said) (sym is) (tt, refl, refl)
+        subst (λ said. Served (law (by_readable tells drains states) watcher later) world world line before before said) (sym is) (tt, refl, refl)
     refused_line world line before (Err fault) is =
-        subst (λ fault. Cut (law (by_readable tells drains) watcher later) world world line before before fault) (sym is) ([], sym (append-nil before), inl (refl, refl))
+        subst (λ fault. Cut (law (by_readable tells drains states) watcher later) world world line before before fault) (sym is) ([], sym (append-nil before), inl (refl, refl))
 
     -- a line behind one that was served, or none
     pub served_next : (old mid new : Joined) (line next more before between after : List ℕ) (first said : Flow) →
-        Served (law (by_readable tells drains) watcher later) old mid line before between (Some first) →
-        ((said ≡ first) × (new ≡ mid) × (after ≡ between)) ⊎ ((flow : Flow) × Served (law (by_readable tells drains) watcher later) mid new next between after (Some flow)) →
-        Served (law (by_readable tells drains) watcher later) old new more before after (Some said)
+        Served (law (by_readable tells drains states) watcher later) old mid line before between (Some first) →
+        ((said ≡ first) × (new ≡ mid) × (after ≡ between)) ⊎ ((flow : Flow) × Served (law (by_readable tells drains states) watcher later) mid new next between after (Some flow)) →
+        Served (law (by_readable tells drains states) watcher later) old new more before after (Some said)
     unfolding law
     served_next old mid new line next more before between after first said one (inl none) = (
       one.0,
-      subst (λ world. Replied tells drains later old one.0 world) (sym none.1) one.1,
+      subst (λ world. Replied tells drains states later old one.0 world) (sym none.1) one.1,
       none.2 ∙ one.2,
     )
     served_next old mid new line next more before between after first said one (inr (flow, behind)) = (
@@ -181,8 +185,8 @@ module _ (tells : Telling) (drains : TellingDrains) (later : List Declared) wher
     )
 
     pub cut_next : {F : Type 0} (old mid new : Joined) (line next more before between after : List ℕ) (first : Flow) (fault : RunFault F) →
-        Served (law (by_readable tells drains) watcher later) old mid line before between (Some first) →
-        Cut (law (by_readable tells drains) watcher later) mid new next between after fault → Cut (law (by_readable tells drains) watcher later) old new more before after fault
+        Served (law (by_readable tells drains states) watcher later) old mid line before between (Some first) →
+        Cut (law (by_readable tells drains states) watcher later) mid new next between after fault → Cut (law (by_readable tells drains states) watcher later) old new more before after fault
     unfolding law
     cut_next old mid new line next more before between after first (Script OutOfMemory) one (last, is, inl same) = (
       one.0,
@@ -206,16 +210,30 @@ module _ (tells : Telling) (drains : TellingDrains) (later : List Declared) wher
 
     -- ---- a drain
 
-    pub drained_line : (old new : Joined) (line before after : List ℕ) (tally : Tally) (said : Flow) → Drains old none_yet new tally →
-        ((text : List ℕ) × drains tally text × (after ≡ before ++ text)) → Served (law (by_readable tells drains) watcher later) old new line before after (Some said)
+    pub drained_line : (queues : Queues) (old new : Joined) (line before after : List ℕ) (story : Story) (said : Flow) → Drains queues old story new →
+        ((text : List ℕ) × drains (names new) story text × (after ≡ before ++ text)) → Served (law (by_readable tells drains states) watcher later) old new line before after (Some said)
     unfolding law
-    drained_line old new line before after tally said made told = (told.0, drained old new tally told.0 made told.1, told.2)
+    drained_line queues old new line before after story said made told = (told.0, drained queues old new story told.0 made told.1, told.2)
 
     pub drained_unsaid : {F : Type 0} (old new : Joined) (line before after : List ℕ) (fault : RunFault F) → Makes old new → after ≡ before → IsCutBy watcher.may_fail fault →
-        Cut (law (by_readable tells drains) watcher later) old new line before after fault
+        Cut (law (by_readable tells drains states) watcher later) old new line before after fault
     unfolding law
     drained_unsaid old new line before after (Script OutOfMemory) made same may = ([], same ∙ sym (append-nil before), inr (made_unsaid old new made))
     drained_unsaid old new line before after (Script (BadLine number)) made same may = absurd may
     drained_unsaid old new line before after (Script Read) made same may = absurd may
     drained_unsaid old new line before after (Script Write) made same may = absurd may
     drained_unsaid old new line before after (Watcher fault) made same may = ([], same ∙ sym (append-nil before), may, made_unsaid old new made)
+
+    -- ---- what there is
+
+    pub stated_line : (world : Joined) (line before after : List ℕ) (said : Flow) →
+        ((text : List ℕ) × states text × (after ≡ before ++ text)) → Served (law (by_readable tells drains states) watcher later) world world line before after (Some said)
+    unfolding law
+    stated_line world line before after said told = (told.0, stated world told.0 told.1, told.2)
+
+    -- memory is wanted for it
+    pub unsaid_line : {F : Type 0} (world : Joined) (line before after : List ℕ) (fault : RunFault F) → fault ≡ Script OutOfMemory → after ≡ before →
+        Cut (law (by_readable tells drains states) watcher later) world world line before after fault
+    unfolding law
+    unsaid_line world line before after fault is same =
+        subst (λ fault. Cut (law (by_readable tells drains states) watcher later) world world line before after fault) (sym is) ([], same ∙ sym (append-nil before), inl (refl, refl))

@@ -1,4 +1,9 @@
 pub mod Moves
+pub mod Steps
 pub mod Tallies
+pub mod Fates
+pub mod FateLines
+pub mod Rounds
 pub mod Drains
 pub mod Runs
+pub mod inner

@@ -1,5 +1,8 @@
 -- What a drain asks, and what it comes to: each request is that of a line of a script (own).
-use Rattle.std.specs.Prelude.{◌≡◌, List, [], ◌∷◌, Result, Ok, Err}
+use Rattle.std.specs.Prelude.{◌≡◌, List, [], ◌∷◌, Option, Some, None, Result, Ok, Err}
+use Rattle.aql_packet.specs.declared.ids.PacketId.{PacketId}
+use Rattle.aql_packet.specs.declared.ids.QueueId.{QueueId}
+use Rattle.aql_packet.specs.declared.packet.Packet.{Packet}
 use Rattle.core_model.specs.declared.answer.Answer as core
 use Rattle.core_model.specs.declared.answer.Answer.TheVariants as answer
 use Rattle.core_model.specs.declared.call.Call.TheVariants as call
@@ -39,10 +42,24 @@ came_of (Ok (line.Answered meaning answer)) = of_answer answer
 came_of (Ok _) = came.Nothing
 came_of (Err why) = came.Refused why
 
--- a request that was made, and what it was replied
+-- the queue that a request is about, and the packet, if it names one
+abbrev pub queue_of : Move → QueueId
+queue_of (move.Serve queue) = queue
+queue_of (move.Run queue packet) = queue
+queue_of (move.Poll queue packet) = queue
+queue_of (move.Finish queue packet) = queue
+
+abbrev pub packet_of : Move → Option PacketId
+packet_of (move.Serve queue) = None
+packet_of (move.Run queue packet) = Some packet
+packet_of (move.Poll queue packet) = Some packet
+packet_of (move.Finish queue packet) = Some packet
+
+-- a request that was made, what it was replied, and the packet that it launched or was about
 pub record Made : Type 0 where
   pub asked : Move
   pub told : Told
+  pub about : Option Packet
 
 -- requests are made in turn, each as its line would be
 unfoldable pub MadeInTurn : Joined → List Made → Joined → Type 0

@@ -1,8 +1,11 @@
 //! What a drain comes to, and how it is told.
 
 ghost use Rattle.std.specs.Prelude.{◌≡◌, ◌++◌, ℕ, List, OnOk, string_bytes};
+ghost use Rattle.readable.specs.FateLines.{text_of_fates};
 ghost use Rattle.readable.specs.Tallies.{text_of_polled, text_of_taken, text_of_tally, text_of_worked};
 
+use crate::fate_lines::{put_fate, write_fates};
+use crate::fates::Fate;
 use crate::moves::{Came, Move, reply_of};
 use crate::tally::Tally;
 use aql_packet::{PacketId, QueueId, SignalHandle};
@@ -24,11 +27,12 @@ pub struct Wait {
     pub signals: Option<[SignalHandle; 5]>,
 }
 
-/// What a drain came to: how often its requests came to what, what waits and why, and the request of the first fault, or
+/// What a drain came to: how often its requests came to what, what came of its packets, what waits and why, and the request of the first fault, or
 /// else of the first wait.
 #[derive(Drop)]
 pub struct Drained {
     pub tally: Tally,
+    pub fates: Vec<Fate>,
     pub waits: Vec<Wait>,
     pub noted: Option<(Move, Came)>,
 }
@@ -139,16 +143,18 @@ fn waits_told(alloc: Global, policy: &Policy, waits: &[Wait]) -> Result<String, 
 }
 
 impl Drained {
-    /// Writes it as text: the counts, how many wait, and a line for each of these.
+    /// Writes it as text: a line for each packet of which something came, the counts, how many wait, and a line for each of
+    /// these.
     pub fn write_text(
         &self,
         alloc: Global,
         out: &mut String,
         policy: &Policy,
     ) -> Result<(), AllocError>
-        ensures { OnOk result ((rest : List ℕ) × (string_bytes out.new ≡ string_bytes out.old ++ (text_of_tally self.now.tally ++ rest))) }
+        ensures { OnOk result ((rest : List ℕ) × (string_bytes out.new ≡ string_bytes out.old ++ (text_of_fates policy.now self.now.fates.items ++ text_of_tally self.now.tally ++ rest))) }
     {
         let waits = waits_told(alloc, policy, self.waits.as_slice())?;
+        write_fates(out, policy, self.fates.as_slice())?;
         write_tally(out, &self.tally)?;
         out.push_str(waits.as_str())
     }
@@ -162,6 +168,12 @@ impl Drained {
     ) -> Result<(), AllocError> {
         begin(out, line, "drained")?;
         put_tally(out, &self.tally)?;
+        put_name(out, "packets")?;
+        out.push_str("[")?;
+        for fate in self.fates.as_slice() {
+            put_fate(out, policy, fate)?;
+        }
+        out.push_str("]")?;
         put_name(out, "waiting")?;
         out.push_str("[")?;
         for wait in self.waits.as_slice() {

@@ -4,16 +4,24 @@
 // The check tries its tactics on what is left of each proof.
 #![tactic(auto)]
 
-mod course;
 mod drained;
 mod draining;
+mod fate_lines;
+mod fates;
 mod flight;
 mod lines;
+mod log;
 mod moves;
+mod rounds;
+mod states;
+mod steps;
 mod tally;
 
 pub use drained::{Drained, Wait};
 pub use draining::drain;
+pub use fates::{Ending, Fate};
+pub use flight::Queues;
 pub use lines::{DrainVoice, Readable};
 pub use moves::{Came, Move, command_of};
+pub use steps::Step;
 pub use tally::Tally;

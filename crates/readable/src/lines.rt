@@ -1,30 +1,39 @@
 //! A readable line of a run is done, by way of the lines that it comes to, and replied to.
 
 ghost use Rattle.std.specs.Prelude.{◌≡◌, ◌⊎◌, ◌++◌, ℕ, List, None, Some, IfErr, IfOk, MatchResult, OnErr, OnOk, string_bytes};
-ghost use Rattle.script.specs.Runs.{Cut, IsCutBy, Served, law};
+ghost use Rattle.script.specs.Runs.{Cut, IsCutBy, Served, law, names};
 ghost use Rattle.script.specs.declared.fault.RunFault.TheVariants.{Script};
 ghost use Rattle.script.specs.declared.fault.ScriptFault.TheVariants.{OutOfMemory};
 ghost use Rattle.script.specs.declared.watch.Flow.{Flow};
+ghost use Rattle.readable.specs.Drains.{story_in};
 ghost use Rattle.readable.specs.Runs.{by_readable};
 
 use crate::drained::Drained;
 use crate::draining::drain;
 use crate::moves::{command_of, reply_of};
+use crate::states::{write_json, write_text};
 use aql_packet::QueueId;
-use assemble::{Book, Fault, LineError, Turned, fault_text, help_text, put_lines, without_comment};
+use assemble::{
+    Book, Fault, LineError, Places, Turned, fault_text, help_text, put_lines, without_comment,
+};
+use explain::{State, state_of};
 use json_replies::Json;
 use policy::Policy;
-use script::{Flow, RunFault, ScriptFault, Style, Text, Voice, Watch, answer};
+use script::{Flow, RunFault, ScriptFault, Silent, Style, Text, Voice, Watch, answer};
 use std::alloc::{AllocError, Global};
 use world::World;
 
-/// Tells what a drain came to, beside the replies to the lines of a script.
+/// Tells what a drain came to and what there is, beside the replies to the lines of a script.
 pub trait DrainVoice: Voice {
     ghost use Rattle.std.specs.Prelude.{◌≡◌, [], OnOk, string_bytes};
-    ghost use Rattle.readable.specs.Runs.{TellingDrains};
+    ghost use Rattle.readable.specs.Drains.{story_in};
+    ghost use Rattle.readable.specs.Runs.{TellingDrains, TellingState};
 
-    /// What it tells of a drain whose requests came to what so often.
+    /// What it tells of a drain that came to what.
     ghost drains: { TellingDrains };
+
+    /// What it tells of what there is.
+    ghost states: { TellingState };
 
     /// Puts the reply to the drain that the line of a number, from 1, asks for into an empty text.
     fn tell_drained(
@@ -36,13 +45,26 @@ pub trait DrainVoice: Voice {
         drained: &Drained,
     ) -> Result<(), AllocError>
         requires { string_bytes out.old ≡ [] }
-        ensures { OnOk result (drains drained.now.tally (string_bytes out.new)) };
+        ensures { OnOk result (drains policy.now (story_in drained.now) (string_bytes out.new)) };
+
+    /// Puts the reply to the line of a number, from 1, that asks what there is into an empty text.
+    fn tell_state(
+        &self,
+        alloc: Global,
+        out: &mut String,
+        number: u64,
+        state: &State,
+    ) -> Result<(), AllocError>
+        requires { string_bytes out.old ≡ [] }
+        ensures { OnOk result (states (string_bytes out.new)) };
 }
 
 impl DrainVoice for Text {
-    ghost use Rattle.readable.specs.Runs.{counts_first};
+    ghost use Rattle.readable.specs.Runs.{begins_with_state, fates_and_counts};
 
-    ghost drains = { counts_first };
+    ghost drains = { fates_and_counts };
+
+    ghost states = { begins_with_state };
 
     fn tell_drained(
         &self,
@@ -54,12 +76,24 @@ impl DrainVoice for Text {
     ) -> Result<(), AllocError> {
         drained.write_text(alloc, out, policy)
     }
+
+    fn tell_state(
+        &self,
+        alloc: Global,
+        out: &mut String,
+        _number: u64,
+        state: &State,
+    ) -> Result<(), AllocError> {
+        write_text(alloc, out, state)
+    }
 }
 
 impl DrainVoice for Json {
     ghost use Rattle.std.specs.Prelude.{⊤};
 
-    ghost drains = { λ tally text. ⊤ };
+    ghost drains = { λ policy story text. ⊤ };
+
+    ghost states = { λ text. ⊤ };
 
     fn tell_drained(
         &self,
@@ -71,14 +105,54 @@ impl DrainVoice for Json {
     ) -> Result<(), AllocError> {
         drained.write_json(out, policy, number)
     }
+
+    fn tell_state(
+        &self,
+        _alloc: Global,
+        out: &mut String,
+        number: u64,
+        state: &State,
+    ) -> Result<(), AllocError> {
+        write_json(out, number, state)
+    }
+}
+
+impl DrainVoice for Silent {
+    ghost use Rattle.std.specs.Prelude.{◌≡◌, []};
+
+    ghost drains = { λ policy story text. text ≡ [] };
+
+    ghost states = { λ text. text ≡ [] };
+
+    fn tell_drained(
+        &self,
+        _alloc: Global,
+        _out: &mut String,
+        _policy: &Policy,
+        _number: u64,
+        _drained: &Drained,
+    ) -> Result<(), AllocError> {
+        Ok(())
+    }
+
+    fn tell_state(
+        &self,
+        _alloc: Global,
+        _out: &mut String,
+        _number: u64,
+        _state: &State,
+    ) -> Result<(), AllocError> {
+        Ok(())
+    }
 }
 
 /// Lines are readable, done by a book, and replied to in a voice. A readable line is done by way of the lines of a script that
 /// it comes to, and these are replied to in turn; a drain is replied to once, and its first fault or else its first wait
-/// shown to who watches.
+/// shown to who watches; what there is is told, and nothing asked for it.
 #[derive(Drop)]
 pub struct Readable<'a, S> {
     book: &'a Book,
+    places: Places,
     voice: S,
     wanted: String,
 }
@@ -126,6 +200,7 @@ impl<'a, S: DrainVoice> Readable<'a, S> {
     pub fn new(alloc: Global, book: &'a Book, voice: S) -> Readable<'a, S> {
         Readable {
             book,
+            places: Places::new(alloc),
             voice,
             wanted: String::new(alloc),
         }
@@ -144,8 +219,8 @@ impl<'a, S: DrainVoice> Readable<'a, S> {
         out: &mut String,
     ) -> Result<Option<Flow>, RunFault<V::Fault>>
         ensures { MatchResult result
-            (Served (law (by_readable S.tells S.drains) V.watching later.now) world.old world.new line.now (string_bytes out.old) (string_bytes out.new))
-            (Cut (law (by_readable S.tells S.drains) V.watching later.now) world.old world.new line.now (string_bytes out.old) (string_bytes out.new)) }
+            (Served (law (by_readable S.tells S.drains S.states) V.watching later.now) world.old world.new line.now (string_bytes out.old) (string_bytes out.new))
+            (Cut (law (by_readable S.tells S.drains S.states) V.watching later.now) world.old world.new line.now (string_bytes out.old) (string_bytes out.new)) }
     {
         let voice = &self.voice;
         answer(
@@ -168,8 +243,8 @@ impl<'a, S: DrainVoice> Readable<'a, S> {
     ) -> Result<Flow, RunFault<V::Fault>>
         ensures { MatchResult result
             (λ said. ((said ≡ first) × (world.new ≡ world.old) × (string_bytes out.new ≡ string_bytes out.old))
-            ⊎ ((flow : Flow) × Served (law (by_readable S.tells S.drains) V.watching later.now) world.old world.new line.now (string_bytes out.old) (string_bytes out.new) (Some flow)))
-            (Cut (law (by_readable S.tells S.drains) V.watching later.now) world.old world.new line.now (string_bytes out.old) (string_bytes out.new)) }
+            ⊎ ((flow : Flow) × Served (law (by_readable S.tells S.drains S.states) V.watching later.now) world.old world.new line.now (string_bytes out.old) (string_bytes out.new) (Some flow)))
+            (Cut (law (by_readable S.tells S.drains S.states) V.watching later.now) world.old world.new line.now (string_bytes out.old) (string_bytes out.new)) }
     {
         if first == Flow::End {
             return Ok(first);
@@ -194,8 +269,8 @@ impl<'a, S: DrainVoice> Readable<'a, S> {
         out: &mut String,
     ) -> Result<Option<Flow>, RunFault<V::Fault>>
         ensures { MatchResult result
-            (Served (law (by_readable S.tells S.drains) V.watching later.now) world.old world.new lines.now (string_bytes out.old) (string_bytes out.new))
-            (Cut (law (by_readable S.tells S.drains) V.watching later.now) world.old world.new lines.now (string_bytes out.old) (string_bytes out.new)) }
+            (Served (law (by_readable S.tells S.drains S.states) V.watching later.now) world.old world.new lines.now (string_bytes out.old) (string_bytes out.new))
+            (Cut (law (by_readable S.tells S.drains S.states) V.watching later.now) world.old world.new lines.now (string_bytes out.old) (string_bytes out.new)) }
     {
         let (line, further) = split_line(lines);
         let (next, _) = split_line(further);
@@ -219,7 +294,7 @@ impl<'a, S: DrainVoice> Readable<'a, S> {
         number: u64,
         drained: &Drained,
     ) -> Result<String, AllocError>
-        ensures { IfOk result (λ text. S.drains drained.now.tally (string_bytes text)) }
+        ensures { IfOk result (λ text. S.drains (names world.now) (story_in drained.now) (string_bytes text)) }
     {
         let mut reply = String::new(alloc);
         self.voice
@@ -237,7 +312,7 @@ impl<'a, S: DrainVoice> Readable<'a, S> {
         drained: &Drained,
         out: &mut String,
     ) -> Result<Flow, RunFault<V::Fault>>
-        ensures told { OnOk result ((text : List ℕ) × S.drains drained.now.tally text × (string_bytes out.new ≡ string_bytes out.old ++ text)) }
+        ensures told { OnOk result ((text : List ℕ) × S.drains (names world.now) (story_in drained.now) text × (string_bytes out.new ≡ string_bytes out.old ++ text)) }
         ensures kept { OnErr result (string_bytes out.new ≡ string_bytes out.old) }
         ensures cut { IfErr result (IsCutBy V.watching.may_fail) }
     {
@@ -260,14 +335,60 @@ impl<'a, S: DrainVoice> Readable<'a, S> {
         out: &mut String,
     ) -> Result<Option<Flow>, RunFault<V::Fault>>
         ensures { MatchResult result
-            (Served (law (by_readable S.tells S.drains) V.watching later.now) world.old world.new line.now (string_bytes out.old) (string_bytes out.new))
-            (Cut (law (by_readable S.tells S.drains) V.watching later.now) world.old world.new line.now (string_bytes out.old) (string_bytes out.new)) }
+            (Served (law (by_readable S.tells S.drains S.states) V.watching later.now) world.old world.new line.now (string_bytes out.old) (string_bytes out.new))
+            (Cut (law (by_readable S.tells S.drains S.states) V.watching later.now) world.old world.new line.now (string_bytes out.old) (string_bytes out.new)) }
     {
         match drain(alloc, world, queue) {
             Ok(drained) => match self.reply_to_drain(alloc, world, watcher, number, &drained, out) {
                 Ok(flow) => Ok(Some(flow)),
                 Err(fault) => Err(fault),
             },
+            Err(_) => Err(RunFault::Script(ScriptFault::OutOfMemory)),
+        }
+    }
+
+    // What is told of what there is.
+    fn state_told(&self, alloc: Global, world: &World, number: u64) -> Result<String, AllocError>
+        ensures { IfOk result (λ text. S.states (string_bytes text)) }
+    {
+        let mut reply = String::new(alloc);
+        let state = state_of(alloc, world)?;
+        self.voice.tell_state(alloc, &mut reply, number, &state)?;
+        Ok(reply)
+    }
+
+    // Tells what there is.
+    fn reply_with_state(
+        &self,
+        alloc: Global,
+        world: &World,
+        number: u64,
+        out: &mut String,
+    ) -> Result<(), AllocError>
+        ensures told { OnOk result ((text : List ℕ) × S.states text × (string_bytes out.new ≡ string_bytes out.old ++ text)) }
+        ensures kept { OnErr result (string_bytes out.new ≡ string_bytes out.old) }
+    {
+        let reply = self.state_told(alloc, world, number)?;
+        out.push_str(reply.as_str())
+    }
+
+    // Answers a line that asks what there is.
+    fn do_state<V: Watch>(
+        &self,
+        alloc: Global,
+        world: &World,
+        later: &[Policy],
+        _watcher: &mut V,
+        number: u64,
+        line: &[u8],
+        out: &mut String,
+    ) -> Result<Option<Flow>, RunFault<V::Fault>>
+        ensures { MatchResult result
+            (Served (law (by_readable S.tells S.drains S.states) V.watching later.now) world.now world.now line.now (string_bytes out.old) (string_bytes out.new))
+            (Cut (law (by_readable S.tells S.drains S.states) V.watching later.now) world.now world.now line.now (string_bytes out.old) (string_bytes out.new)) }
+    {
+        match self.reply_with_state(alloc, world, number, out) {
+            Ok(()) => Ok(Some(Flow::GoOn)),
             Err(_) => Err(RunFault::Script(ScriptFault::OutOfMemory)),
         }
     }
@@ -315,7 +436,7 @@ impl<'a, S: DrainVoice> Readable<'a, S> {
 impl<'a, S: DrainVoice> Style for Readable<'a, S> {
     ghost use Rattle.readable.specs.Runs.{by_readable};
 
-    ghost answering = { by_readable S.tells S.drains };
+    ghost answering = { by_readable S.tells S.drains S.states };
 
     fn answer<V: Watch>(
         &mut self,
@@ -331,7 +452,7 @@ impl<'a, S: DrainVoice> Style for Readable<'a, S> {
         let line = without_comment(line);
         let mut lines = Vec::new(alloc);
         self.wanted.clear();
-        match put_lines(alloc, self.book, line, &mut lines) {
+        match put_lines(alloc, self.book, &mut self.places, line, &mut lines) {
             Ok(Turned::Itself) => {
                 self.do_line(alloc, world, later, watcher, number, line, reply, out)
             }
@@ -342,6 +463,7 @@ impl<'a, S: DrainVoice> Style for Readable<'a, S> {
             Ok(Turned::Drain(queue)) => {
                 self.do_drain(alloc, world, later, watcher, number, line, queue, out)
             }
+            Ok(Turned::State) => self.do_state(alloc, world, later, watcher, number, line, out),
             Err(error) => self.refuse(alloc, number, line, error),
         }
     }

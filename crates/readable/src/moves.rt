@@ -1,7 +1,7 @@
 //! What is asked of queues and packets as queues are drained, and what it comes to.
 
 ghost use Rattle.std.specs.Prelude.{◌≡◌};
-ghost use Rattle.readable.specs.Moves.{came_of, command_of, of_answer, of_core};
+ghost use Rattle.readable.specs.Moves.{came_of, command_of, of_answer, of_core, packet_of, queue_of};
 
 use aql_packet::{PacketId, QueueId};
 use core_model::{Answer, Call, Outcome, Taken};
@@ -107,7 +107,9 @@ pub fn reply_of(came: Came) -> LineReply {
 
 impl Move {
     /// The queue that it is about.
-    pub fn queue(self) -> QueueId {
+    pub fn queue(self) -> QueueId
+        ensures { result ≡ queue_of self }
+    {
         match self {
             Move::Serve { queue } => queue,
             Move::Run { queue, .. } => queue,
@@ -117,7 +119,9 @@ impl Move {
     }
 
     /// The packet that it is about, if it names one.
-    pub fn packet(self) -> Option<PacketId> {
+    pub fn packet(self) -> Option<PacketId>
+        ensures { result ≡ packet_of self }
+    {
         match self {
             Move::Serve { .. } => None,
             Move::Run { packet, .. } => Some(packet),

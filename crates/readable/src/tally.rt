@@ -19,8 +19,8 @@ pub struct Tally {
     pub finished: u64,
 }
 
-// A count and one more.
-fn one_more(count: u64) -> u64
+/// A count and one more, up to the greatest.
+pub(crate) fn one_more(count: u64) -> u64
     ensures { result ≡ one_more count }
 {
     if count < u64::MAX { count + 1 } else { count }

@@ -10,6 +10,6 @@ pub mod Writing
 pub mod Blocks
 pub mod Joining
 pub mod Reaching
-pub mod Rotating
+pub mod Emptying
 pub mod Fitting
 pub mod Formed

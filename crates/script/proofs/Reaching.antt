@@ -124,7 +124,7 @@ module _ (tells : Telling) (watcher : Watching) (later : List Declared) where
   turn_reach : (old new : Joined) → Turns (law (by_line tells) watcher later) old new → (parts : List Part) × Reaches old parts new
   unfolding law
   turn_reach old new (inl same) = ([], reaches_none old new same)
-  turn_reach old new (inr rotated) = (cons_option (part_of rotated.0) [], reaches_one old new request.Rotate rotated.0 rotated.1)
+  turn_reach old new (inr rotated) = (rotated.0 ∷ [], reaches_one old new request.Rotate (Ok (answer.Rotated rotated.0)) rotated.1)
 
   replied_reach : (old new : Joined) (line reply : List ℕ) → Replied (law (by_line tells) watcher later) old line reply new → (parts : List Part) × Reaches old parts new
   unfolding law

@@ -50,9 +50,9 @@ audit_reply world = Ok (told.Answered Plain (answer.Core (Audit (beginning world
 abbrev pub names : Joined → Declared
 names world = world.core.origin.policy
 
--- the audit of a world is rotated: handed out to nobody; or that is refused
+-- the audit of a world is rotated: handed out to nobody
 abbrev pub Rotates : Joined → Joined → Type 0
-Rotates old new = (reply : Reply) × IsServed old request.Rotate reply new
+Rotates old new = (part : Part) × IsServed old request.Rotate (Ok (answer.Rotated part)) new
 
 -- what a watcher may say to a reply; what it may have said where it lets the run go on at its turn; that the run may go on behind a line of
 -- no form; and that it may fail as it sees a reply

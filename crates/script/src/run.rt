@@ -3,6 +3,7 @@
 ghost use Rattle.std.specs.Prelude.{◌≡◌, [], ◌+◌, ◌<◌, ◌^◌, IfErr, OnErr, OnOk, MatchResult, length, string_bytes, true, false};
 ghost use Rattle.std.specs.Io.KnownBytes.{Appends};
 ghost use Rattle.script.specs.Streams.{AppendsBeginning};
+ghost use Rattle.core_model.specs.Rotation.{lies_too_far};
 ghost use Rattle.script.specs.Runs.{Rotates, law};
 ghost use Rattle.script.specs.Scripts.{EndedAll, FailedBlock, HasCause, IsCaused, RunsScript, TakesTurn, TookBlock, TookUpTo, unwatched};
 ghost use Rattle.script.specs.Sessions.{at_end, pending, with_further};
@@ -18,7 +19,7 @@ use crate::watch::{Flow, Turn, Watch};
 use crate::watchers::Nobody;
 use policy::Policy;
 use std::alloc::Global;
-use world::{Request, World, law_refusals_change_nothing};
+use world::World;
 
 // The most reads of a run (own).
 const MOST_READS: u64 = 1 << 40;
@@ -43,14 +44,13 @@ fn hand_over<W: Sink>(writer: &mut W, out: &mut String) -> Result<(), ScriptFaul
     }
 }
 
-// Rotates the audit, whose entries are handed out to nobody: whether it did; it stays where memory is wanted for that.
-fn rotate(alloc: Global, world: &mut World) -> bool
-    ensures rotated { result ≡ true → Rotates world.old world.new }
+// Empties the audit, whose entries are handed out to nobody: whether it did. No memory is wanted for that.
+fn empty_audit(alloc: Global, world: &mut World) -> bool
+    ensures emptied { result ≡ true → Rotates world.old world.new }
+    ensures far { result ≡ false → lies_too_far world.old.core ≡ true }
     ensures kept { result ≡ false → world.new ≡ world.old }
 {
-    law_refusals_change_nothing();
-    let reply = world.serve(alloc, Request::Rotate);
-    reply.is_ok()
+    world.truncate(alloc).is_ok()
 }
 
 // The watcher has its turn, between two lines, unless it said that the run goes on.
@@ -68,7 +68,7 @@ fn take_turn<V: Watch>(
     match watcher.told(world, said) {
         Ok(Turn::GoOn) => Ok(()),
         Ok(Turn::Rotate) => {
-            if rotate(alloc, world) {
+            if empty_audit(alloc, world) {
                 Ok(())
             } else {
                 Err(RunFault::Script(ScriptFault::OutOfMemory))

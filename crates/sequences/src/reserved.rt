@@ -1,6 +1,6 @@
 //! A list whose room is got before it is needed.
 
-ghost use Rattle.std.specs.Prelude.{◌≡◌, ◌≤◌, ◌<◌, ◌+◌, ◌-◌, ◌++◌, ◌∷◌, [], OnOk, OnErr, IfOk, length, slice_get};
+ghost use Rattle.std.specs.Prelude.{◌≡◌, ◌≤◌, ◌<◌, ◌+◌, ◌-◌, ◌++◌, ◌∷◌, [], OnOk, OnErr, IfOk, length, slice_get, vec_capacity};
 ghost use Rattle.std.specs.Option.{option_copied};
 
 use std::alloc::{AllocError, Global};
@@ -41,6 +41,27 @@ impl<T> Reserved<T> {
         Ok(Reserved {
             items: Vec::with_capacity(alloc, room)?,
         })
+    }
+
+    /// The empty list, in the memory of a vector, whose items are dropped.
+    pub fn empty_in(items: Vec<T>) -> Reserved<T>
+    where
+        T: Drop,
+        ensures items { result.items ≡ [] }
+        ensures room { result.room ≡ vec_capacity items }
+    {
+        let mut items = items;
+        items.clear();
+        Reserved { items }
+    }
+
+    /// The items as a vector, in order, with the room behind them. It takes no memory.
+    pub fn into_vec(self) -> Vec<T>
+        ensures items { result.items ≡ self.items }
+        ensures capacity { vec_capacity result ≡ length self.items + self.room }
+    {
+        let Reserved { items } = self;
+        items
     }
 
     /// Gets room for this many further items. The items stay, and room is never lost. It is refused

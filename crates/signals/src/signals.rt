@@ -2,7 +2,7 @@
 
 ghost use Rattle.signals.specs.Values.{after, meets, unknown_signal, value_of};
 ghost use Rattle.std.specs.Option.{ok_or, option_map};
-ghost use Rattle.std.specs.Prelude.{IfOk, is_some, length, true, ◌==◌, ◌≡◌, ◌↔◌};
+ghost use Rattle.std.specs.Prelude.{IfOk, is_some, length, slice_set, true, ◌==◌, ◌≡◌, ◌↔◌};
 
 use crate::operation::{Condition, SignalOp};
 use aql_packet::SignalHandle;
@@ -87,6 +87,15 @@ impl Signals {
     {
         let index = (signal.0 - 1) as usize;
         self.values[index] = operation.applied(self.values[index]);
+    }
+
+    /// Gives the signal behind so many others a value. Where there is none, all stay. It takes no memory.
+    pub fn set_behind(&mut self, before: u64, value: i64)
+        ensures { self.new ≡ slice_set self.old before value }
+    {
+        if before < self.values.len() as u64 {
+            self.values[before as usize] = value;
+        }
     }
 
     /// A signal's value (PRM, signal load). It takes no memory.

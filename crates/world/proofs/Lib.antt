@@ -15,6 +15,7 @@ pub mod Asking
 pub mod Refusing
 pub mod Obeyed
 pub mod Deciding
+pub mod Truncating
 pub mod Handing
 pub mod Replies
 pub mod Acting

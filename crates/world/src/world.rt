@@ -3,6 +3,7 @@
 ghost use Rattle.std.specs.Prelude.{◌≡◌, ◌≤◌, List, [], IfOk, OnErr, length};
 ghost use Rattle.policy.specs.Policy.{Declared};
 ghost use Rattle.core_model.specs.declared.entry.Entry.{Entry};
+ghost use Rattle.core_model.specs.Rotation.{Truncates};
 ghost use Rattle.world.specs.Dues.{AreReplies, IsServed};
 ghost use Rattle.world.specs.Headline.{Headline};
 ghost use Rattle.world.specs.InStep.{IsJoined, IsJoinedBehind};
@@ -142,6 +143,17 @@ impl World {
             &mut self.closed,
             request,
         )
+    }
+
+    /// Empties the audit, whose entries were written down elsewhere, as a rotation does whose part nobody gets: the history
+    /// goes on from the state behind them, and queues and rings stay. Refused where more than 2^62 entries would lie before
+    /// that. The headline holds after it (`headline`).
+    pub fn truncate(&mut self, alloc: Global) -> Result<(), core_model::Refusal>
+        ensures truncated { Truncates self.old.core result self.new.core }
+        ensures rings { (self.new.rings ≡ self.old.rings) × (self.new.closed ≡ self.old.closed) }
+        ensures joined { IsJoined self.new }
+    {
+        self.core.truncate(alloc)
     }
 
     /// Serves requests in turn, and tells the reply to each. Want of memory for the list of replies is

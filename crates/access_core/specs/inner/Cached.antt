@@ -11,7 +11,7 @@ use Rattle.regions.specs.Memory.{byte_at, lengths_of, lies_in_region}
 use Rattle.sequences.specs.Room.{Roomy}
 use Rattle.core_model.specs.declared.entry.Entry.{Entry}
 use Rattle.core_model.specs.declared.limits.TheConstants.{MOST_BEFORE, MOST_ENTRIES, QUEUES}
-use Rattle.core_model.specs.History.{History, Start, begin, beginning}
+use Rattle.core_model.specs.History.{History, Start, begin, beginning, policy_in}
 use Rattle.core_model.specs.declared.origin.Origin.{Origin}
 use Rattle.core_model.specs.Grants.{in_force}
 use Rattle.core_model.specs.Policies.{policy_at}
@@ -34,6 +34,7 @@ use Rattle.access_core.specs.Opening.{has_entry, program_of}
 pub use Rattle.access_core.specs.inner.CachedQueue.{AreLaid, IsSound, cached_view, cached_openings, cached_queue, cached_opening, queue_at}
 use Rattle.access_core.specs.inner.Numbers.{AscendFrom, queue_in}
 use Rattle.access_core.specs.inner.LiesInRegions.{lies_in_regions}
+use Rattle.access_core.specs.inner.Ready.{AreReady}
 
 -- what the history begins from, as data, and the answers that it gives
 abbrev pub origin_of : Inside → Origin
@@ -79,6 +80,13 @@ pub record IsEntered (old new : Roomy Entry) (entry : Entry) : Type 0 where
 abbrev pub HoldsNone : Ledger → Type 0
 HoldsNone grants = (queue : QueueId) (id : PacketId) (client : ClientId) (on : Object) (right : Right) → ledger.holds grants queue id client on right ≡ false
 
+-- What holds of each start that a core keeps: no packet holds anything by its grants, whose rules are its policy's, and its regions are as
+-- long as that says.
+pub record IsKeptStart (start : Origin) : Type 0 where
+  pub unheld : HoldsNone start.grants
+  pub rules : ledger.rules_in start.grants ≡ rules_of (policy_in start)
+  pub lengths : lengths_of start.memory ≡ region_lengths start.policy
+
 -- The fields are what the history says, question by question.
 pub record IsCached (a : Inside) : Type 0 where
   -- the rights in force
@@ -117,7 +125,10 @@ pub record IsCached (a : Inside) : Type 0 where
   pub room : length a.audit.items + a.in_flight_count ≤ a.capacity
   pub places : a.capacity ≡ length a.audit.items + a.audit.room
   pub few : a.capacity ≤ MOST_ENTRIES
-  -- no more entries came before than may
+  -- the start, and no more entries came before it than may
+  pub start_kept : IsKeptStart a.start
   pub before : a.start.before ≤ MOST_BEFORE
+  -- what was told of packets, and room for what will be told of the others
+  pub ready : AreReady a.fresh a.told a.start blocks
   -- the audit is a legal history
   pub legal : IsLegal (start_of a) a.audit.items

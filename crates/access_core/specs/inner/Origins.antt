@@ -1,12 +1,8 @@
 -- What the history of a core goes on from behind its audit, as data: what its fields tell (own).
-use Rattle.std.specs.Prelude.{◌≡◌, ◌+◌, ◌<◌, ◌^◌, ◌||◌, ℕ, All, List, find, length, map, nat_le, nat_lt, Option, None, Some, option_map, if◌then◌else◌}
+use Rattle.std.specs.Prelude.{◌≡◌, ◌+◌, ◌<◌, ◌^◌, ℕ, All, List, find, length, map, nat_le, nat_lt, Option, None, Some, option_map, if◌then◌else◌}
 use Rattle.std.specs.List.{Contains, filter_map}
-use Rattle.aql_packet.specs.declared.ids.ClientId.{ClientId}
 use Rattle.aql_packet.specs.declared.ids.PacketId.{PacketId}
-use Rattle.aql_packet.specs.declared.ids.QueueId.{QueueId}
-use Rattle.policy.specs.declared.object.Object.{Object}
-use Rattle.policy.specs.declared.rights.Right.{Right}
-use Rattle.grants.specs.Ledger.{Ledger, SameRights, holds, rules_in}
+use Rattle.grants.specs.Ledger.{Ledger, SameRights, rules_in}
 use Rattle.core_model.specs.declared.origin.Origin.{Origin}
 use Rattle.core_model.specs.declared.origin.PacketOrigin.{PacketOrigin}
 use Rattle.core_model.specs.declared.origin.QueueOrigin.{QueueOrigin}
@@ -15,7 +11,7 @@ use Rattle.packet_processor.specs.declared.places.Place.{Place}
 use Rattle.access_core.specs.declared.access.AccessCore.TheInside.{Inside}
 use Rattle.access_core.specs.declared.argument_blocks.ArgumentBlock.{ArgumentBlock}
 use Rattle.access_core.specs.declared.queue.Queue.{Queue}
-use Rattle.access_core.specs.inner.ArgumentBlocks.{Ascend, all_blocks, by_number, is_given}
+use Rattle.access_core.specs.inner.ArgumentBlocks.{Ascend, all_blocks, by_number}
 use Rattle.access_core.specs.inner.CachedQueue.{cached_opening}
 use Rattle.access_core.specs.inner.Numbers.{queue_in}
 
@@ -33,6 +29,8 @@ abbrev pub told_origin : ArgumentBlock → Place → PacketOrigin
 told_origin block place = record {
   flying = record { queue = block.queue; id = block.packet; packet = place.packet };
   progress = place.progress;
+  client = block.client;
+  rights = block.rights;
   arguments = block.bytes;
 }
 
@@ -40,12 +38,10 @@ told_origin block place = record {
 abbrev pub packet_origin : List Queue → ArgumentBlock → Option PacketOrigin
 packet_origin queues block = option_map (told_origin block) (sought_in (queue_in queues block.queue) block.packet)
 
--- The grants of a start: what is in force is what the core keeps, and packets hold what their argument blocks list.
-pub record IsHolding (grants : Ledger) (blocks : List ArgumentBlock) (held : Ledger) : Type 0 where
-  pub same_rights : SameRights grants held
-  pub same_rules : rules_in held ≡ rules_in grants
-  pub given : (queue : QueueId) (id : PacketId) (client : ClientId) (on : Object) (right : Right)
-      → holds held queue id client on right ≡ (holds grants queue id client on right || is_given blocks queue id client on right)
+-- The grants of a start: what is in force is what the core keeps, by the same rules. What packets hold lies with them.
+pub record SameInForce (grants start : Ledger) : Type 0 where
+  pub same_rights : SameRights grants start
+  pub same_rules : rules_in start ≡ rules_in grants
 
 -- of two blocks the one with the lower number, if the second isn't below this number
 abbrev pub sooner : ℕ → Option ArgumentBlock → ArgumentBlock → Option ArgumentBlock

@@ -44,9 +44,7 @@ impl AccessCore {
         Ok(())
     }
 
-    // Completes a packet that was found and whose work is done. It stands apart, so that a call that is refused clears no
-    // room for its entry.
-    #[inline(never)]
+    // Completes a packet that was found and whose work is done.
     fn complete_found(&mut self, queue: QueueId, found: FoundPacket, signal: SignalHandle)
         requires finished { IsFinishedAs self.old.history queue found.packet signal }
         requires at { IsFoundAt self.old.history queue found }

@@ -81,8 +81,8 @@ fn change_of(run: WrittenRange) -> Effect
     }
 }
 
-// Lays changes over memory, one after another.
-fn lay_changes(memory: &mut Regions, changes: &[Effect])
+/// Lays changes over memory, one after another.
+pub(crate) fn lay_changes(memory: &mut Regions, changes: &[Effect])
     requires { All (LiesWithin (lengths_of memory.old)) changes.now }
     ensures changed { IsChanged memory.old changes.now memory.new }
     ensures lengths { lengths_of memory.new ≡ lengths_of memory.old }

@@ -27,6 +27,7 @@ pub(crate) enum Leaving {
 
 // Takes a packet out of its place, if one was found, and answers how many places that frees. What it was given goes with it,
 // but for the memory of its rights.
+#[inline(always)]
 fn free_place(
     places: &mut Places,
     blocks: &mut ArgumentBlocks,
@@ -46,14 +47,14 @@ fn free_place(
         Some(found) => {
             let block = blocks.remove(found.index);
             spare.keep(block.rights);
-            let before = places.len();
             places.release(found);
-            before - places.len()
+            1
         }
     }
 }
 
 // Takes a packet out of its queue, if one was found, and answers how many places that frees.
+#[inline(always)]
 fn leave_queue(
     queues: &mut Vec<Queue>,
     spare: &mut SpareLists,
@@ -81,6 +82,7 @@ fn leave_queue(
 
 /// Takes a packet out of flight, if one was found: its place is free, it counts no more, and the rights that it held
 /// and its arguments are dropped.
+#[inline(always)]
 pub(crate) fn leave_flight(
     queues: &mut Vec<Queue>,
     in_flight_count: &mut usize,

@@ -70,14 +70,11 @@ fn queue_index(queues: &[Queue], queue: QueueId) -> Option<usize>
     requires { AscendFrom 0 queues.now }
     ensures { IsQueueIndex queues.now queue result }
 {
-    let behind = (queue.0 as usize).min(queues.len());
-    if behind == 0 {
-        return None;
-    }
-    if queues[behind - 1].number == queue {
+    let behind = queue.0 as usize;
+    if 0 < behind && behind <= queues.len() && queues[behind - 1].number == queue {
         return Some(behind - 1);
     }
-    index_before(queues, queue, behind - 1)
+    index_before(queues, queue, behind.min(queues.len()))
 }
 
 // The index of the queue with a number, if one of these has it before another index, where none has it from there on.

@@ -1,6 +1,6 @@
 //! A core is opened.
 
-ghost use Rattle.std.specs.Prelude.{◌≡◌, ◌+◌, ◌<◌, All, IfOk, IfSome, IsTrue, Some, length, map, true};
+ghost use Rattle.std.specs.Prelude.{◌≡◌, ◌+◌, ◌<◌, [], All, IfOk, IfSome, IsTrue, Some, length, map, true};
 ghost use Rattle.policy.specs.Policy.{initial_values, region_lengths, row_of};
 ghost use Rattle.aql_packet.specs.Memory.{are_region_lengths};
 ghost use Rattle.regions.specs.Memory.{zeros};
@@ -11,15 +11,18 @@ ghost use Rattle.access_core.specs.inner.Untouched.{IsFirst, IsUntouched};
 ghost use Rattle.access_core.specs.Opening.{first_missing, has_entry, is_capacity, open_fault, Opens, program_of};
 
 use crate::access::{AccessCore, OpenFault};
+use crate::fresh::Fresh;
 use crate::kernel::Kernel;
 use crate::spare_lists::SpareLists;
 use aql_packet::{KernelObject, RegionHandle, SignalHandle};
 use boxed::Boxed;
-use core_model::{Entry, KernelSegments, MOST_ENTRIES, Origin};
+use core_model::{
+    ALL_IN_FLIGHT, Entry, KernelSegments, MOST_ENTRIES, Origin, PacketOrigin, QUEUES, QueueOrigin,
+};
 use grants::Grants;
 use policy::{Kind, Policy};
 use regions::Regions;
-use sequences::{Reserved, Sequence};
+use sequences::{Ample, Reserved, Sequence};
 use signals::Signals;
 use std::alloc::{AllocError, Global};
 
@@ -36,6 +39,7 @@ struct State {
 struct Parts {
     segments: Vec<KernelSegments>,
     state: State,
+    fresh: Fresh,
     audit: Reserved<Entry>,
 }
 
@@ -106,10 +110,12 @@ fn get_parts(
 {
     let segments = segments(alloc, kernels)?;
     let state = first_state(alloc, policy)?;
+    let fresh = Fresh::get(alloc)?;
     let audit = Reserved::with_room(alloc, capacity)?;
     Ok(Parts {
         segments,
         state,
+        fresh,
         audit,
     })
 }
@@ -224,9 +230,29 @@ fn opening_origin(alloc: Global, policy: Policy) -> Result<Boxed<Origin>, AllocE
     ensures { IfOk result (IsOpeningOrigin policy) }
 {
     match first_state(alloc, &policy) {
-        Ok(state) => boxed(alloc, first_origin(alloc, policy, state)),
+        Ok(state) => match first_lists(alloc) {
+            Ok(lists) => boxed(alloc, first_origin(policy, state, lists)),
+            Err(want) => Err(want),
+        },
         Err(want) => Err(want),
     }
+}
+
+/// Lists for queues and packets, which are empty.
+#[derive(Drop)]
+struct Lists {
+    queues: Ample<QueueOrigin, QUEUES>,
+    packets: Ample<PacketOrigin, ALL_IN_FLIGHT>,
+}
+
+// Memory for what is told of queues and packets.
+fn first_lists(alloc: Global) -> Result<Lists, AllocError>
+    ensures { IfOk result (λ lists. (lists.queues ≡ []) × (lists.packets ≡ [])) }
+{
+    Ok(Lists {
+        queues: Ample::get(alloc)?,
+        packets: Ample::get(alloc)?,
+    })
 }
 
 // What a history begins from, in memory of its own.
@@ -237,8 +263,9 @@ fn boxed(alloc: Global, origin: Origin) -> Result<Boxed<Origin>, AllocError>
 }
 
 // What a history begins from in which nothing has happened.
-fn first_origin(alloc: Global, policy: Policy, state: State) -> Origin
-    requires { IsFirst policy state }
+fn first_origin(policy: Policy, state: State, lists: Lists) -> Origin
+    requires first { IsFirst policy state }
+    requires none { (lists.queues ≡ []) × (lists.packets ≡ []) }
     ensures { IsOpeningOrigin policy result }
 {
     let State {
@@ -251,9 +278,9 @@ fn first_origin(alloc: Global, policy: Policy, state: State) -> Origin
         grants,
         memory,
         signals,
-        queues: Sequence::new(alloc),
+        queues: lists.queues,
         opened: 0,
-        packets: Sequence::new(alloc),
+        packets: lists.packets,
         before: 0,
     }
 }
@@ -276,6 +303,7 @@ fn blank(
     let Parts {
         segments,
         state,
+        fresh,
         audit,
     } = parts;
     let State {
@@ -289,6 +317,8 @@ fn blank(
         segments,
         grants,
         spare: SpareLists::new(alloc),
+        fresh,
+        told: 0,
         memory,
         signals,
         queues: Vec::new(alloc),

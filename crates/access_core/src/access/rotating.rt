@@ -1,6 +1,7 @@
 //! The audit is rotated: its entries so far are handed out, and the history goes on from the state behind them.
 
-ghost use Rattle.std.specs.Prelude.{◌≡◌, ◌++◌, true, false, fold, map, option_to_list, All, IfOk, List, None, OnOk};
+ghost use Rattle.std.specs.Prelude.{◌≡◌, ◌≤◌, ◌<◌, ◌++◌, false, fold, length, map, option_to_list, All, IfOk, List, None, OnOk};
+ghost use Rattle.core_model.specs.declared.limits.TheConstants.{ALL_IN_FLIGHT, MOST_IN_FLIGHT, QUEUES};
 ghost use Rattle.std.specs.List.{filter_map};
 ghost use Rattle.std.specs.Option.{option_copied};
 ghost use Rattle.core_model.specs.History.{begin, beginning};
@@ -9,24 +10,25 @@ ghost use Rattle.regions.specs.Memory.{lengths_of};
 ghost use Rattle.core_model.specs.Legal.{IsLegalPart, SameOrigin};
 ghost use Rattle.core_model.specs.Rotation.{Rotates, lies_too_far};
 ghost use Rattle.core_model.specs.States.{state_after};
-ghost use Rattle.grants.specs.Ledger.{are_in_force};
+ghost use Rattle.grants.specs.Ledger.{IsCopy};
 ghost use Rattle.access_core.specs.declared.argument_blocks.ArgumentBlock.{ArgumentBlock};
 ghost use Rattle.access_core.specs.inner.ArgumentBlocks.{all_blocks};
+ghost use Rattle.access_core.specs.inner.Cached.{IsKeptStart, IsSound};
 ghost use Rattle.access_core.specs.inner.Numbers.{AscendFrom, queue_in};
-ghost use Rattle.access_core.specs.inner.Origins.{AreInOrder, IsHolding, NumbersFit, packet_origin, queue_origin, sooner, sought_in, told_origin};
+ghost use Rattle.access_core.specs.inner.Origins.{AreInOrder, NumbersFit, packet_origin, queue_origin, sooner, sought_in, told_origin};
 
 use crate::access::AccessCore;
 use crate::access::lookups::queue_of;
 use crate::argument_blocks::ArgumentBlock;
+use crate::fresh::flying;
 use crate::queue::Queue;
 use aql_packet::{PacketId, QueueId};
 use boxed::Boxed;
 use core_model::{
-    InFlight, MOST_BEFORE, Opening, Origin, PacketOrigin, Part, QueueOrigin, Refusal,
+    ALL_IN_FLIGHT, MOST_BEFORE, Opening, Origin, PacketOrigin, Part, QUEUES, QueueOrigin, Refusal,
 };
-use grants::Grants;
 use packet_processor::Place;
-use sequences::{Reserved, Sequence};
+use sequences::{Ample, Few, Reserved};
 use std::alloc::{AllocError, Global};
 use std::mem::replace;
 
@@ -46,13 +48,15 @@ impl AccessCore {
         let end = self.boxed_origin(alloc)?;
         let next = boxed_copy(alloc, end.as_ref())?;
         let empty = Reserved::with_room(alloc, self.capacity)?;
+        self.fresh.provide(alloc, self.in_flight_count, 0, 0)?;
         let start = replace(&mut self.start, next);
         let entries = replace(&mut self.audit, empty);
+        self.told = 0;
         Ok(Part::new(start, entries, end))
     }
 
-    // Whether more entries would lie before the next start than may.
-    fn lies_too_far(&self) -> bool
+    /// Whether more entries would lie before the next start than may.
+    pub(crate) fn lies_too_far(&self) -> bool
         ensures { result ≡ lies_too_far self.now.history }
     {
         self.entries_before() + self.audit.len() as u64 > MOST_BEFORE
@@ -63,6 +67,7 @@ impl AccessCore {
         requires { lies_too_far self.now.history ≡ false }
         ensures begins { IfOk result (λ origin.
             begin self.now.history.kernels origin ≡ state_after (beginning self.now.history) self.now.history.entries) }
+        ensures kept { IfOk result IsKeptStart }
         ensures policy { IfOk result (λ origin. origin.policy ≡ self.now.history.origin.policy) }
         ensures lengths { IfOk result (λ origin. lengths_of origin.memory ≡ region_lengths self.now.history.origin.policy) }
     {
@@ -75,13 +80,14 @@ impl AccessCore {
         requires { lies_too_far self.now.history ≡ false }
         ensures begins { IfOk result (λ origin.
             begin self.now.history.kernels origin ≡ state_after (beginning self.now.history) self.now.history.entries) }
+        ensures kept { IfOk result IsKeptStart }
         ensures policy { IfOk result (λ origin. origin.policy ≡ self.now.history.origin.policy) }
         ensures lengths { IfOk result (λ origin. lengths_of origin.memory ≡ region_lengths self.now.history.origin.policy) }
     {
         self.regions_fit();
         Ok(Origin {
             policy: self.policy().copy(alloc)?,
-            grants: grants_holding(alloc, &self.grants, self.queues.as_slice())?,
+            grants: self.grants.copy(alloc)?,
             memory: self.memory.copy(alloc)?,
             signals: self.signals.copy(alloc)?,
             queues: queue_origins(alloc, self.queues.as_slice())?,
@@ -96,45 +102,18 @@ impl AccessCore {
 fn boxed_copy(alloc: Global, origin: &Origin) -> Result<Boxed<Origin>, AllocError>
     ensures same { IfOk result (λ copy. SameOrigin copy origin.now) }
     ensures policy { IfOk result (λ copy. copy.policy ≡ origin.now.policy) }
+    ensures grants { IfOk result (λ copy. IsCopy origin.now.grants copy.grants) }
 {
     let copy = origin.copy(alloc)?;
     Ok(Boxed::new(alloc, copy)?)
 }
 
-// The same grants in memory of their own, by which packets hold besides what their argument blocks list.
-fn grants_holding(alloc: Global, grants: &Grants, queues: &[Queue]) -> Result<Grants, AllocError>
-    requires { All (λ block. are_in_force grants.now block.client block.rights ≡ true) (all_blocks queues.now) }
-    ensures { IfOk result (IsHolding grants.now (all_blocks queues.now)) }
-{
-    let mut holding = grants.copy(alloc)?;
-    for queue in queues {
-        hold_all(&mut holding, queue.blocks.as_slice())?;
-    }
-    Ok(holding)
-}
-
-// Has packets hold what these argument blocks list.
-fn hold_all(holding: &mut Grants, blocks: &[ArgumentBlock]) -> Result<(), AllocError>
-    requires { All (λ block. are_in_force holding.old block.client block.rights ≡ true) blocks.now }
-    ensures { OnOk result (IsHolding holding.old blocks.now holding.new) }
-{
-    for block in blocks {
-        holding.hold(
-            block.client,
-            block.queue,
-            block.packet,
-            block.rights.as_slice(),
-        )?;
-    }
-    Ok(())
-}
-
 // What is kept of a queue, as data.
-fn queue_origin(alloc: Global, queue: &Queue) -> Result<QueueOrigin, AllocError>
-    ensures { IfOk result (λ origin. origin ≡ queue_origin queue.now) }
+fn queue_origin(queue: &Queue) -> QueueOrigin
+    requires { length queue.now.errors.items ≤ MOST_IN_FLIGHT }
+    ensures { result ≡ queue_origin queue.now }
 {
-    let errors = Vec::from_slice(alloc, queue.errors.as_slice())?;
-    Ok(QueueOrigin {
+    QueueOrigin {
         queue: queue.number,
         opening: Opening {
             client: queue.client,
@@ -142,23 +121,35 @@ fn queue_origin(alloc: Global, queue: &Queue) -> Result<QueueOrigin, AllocError>
         },
         next: queue.next,
         stopped: queue.stopped,
-        errors: Sequence::from_vec(errors),
-    })
+        errors: Few::of(queue.errors.as_slice()),
+    }
+}
+
+/// Puts what is kept of all queues in the place of what was told of others.
+pub(crate) fn tell_queues(origins: &mut Ample<QueueOrigin, QUEUES>, queues: &[Queue])
+    requires few { length queues.now ≤ QUEUES }
+    requires sound { All IsSound queues.now }
+    ensures { origins.new ≡ map queue_origin queues.now }
+{
+    origins.clear();
+    for queue in queues {
+        origins.push(queue_origin(queue));
+    }
 }
 
 // What is kept of all queues.
-fn queue_origins(alloc: Global, queues: &[Queue]) -> Result<Sequence<QueueOrigin>, AllocError>
+fn queue_origins(alloc: Global, queues: &[Queue]) -> Result<Ample<QueueOrigin, QUEUES>, AllocError>
+    requires few { length queues.now ≤ QUEUES }
+    requires sound { All IsSound queues.now }
     ensures { IfOk result (λ origins. origins ≡ map queue_origin queues.now) }
 {
-    let mut origins = Sequence::new(alloc);
-    for queue in queues {
-        origins.push(queue_origin(alloc, queue)?)?;
-    }
+    let mut origins = Ample::get(alloc)?;
+    tell_queues(&mut origins, queues);
     Ok(origins)
 }
 
-// The place of a packet in its queue, if it is in flight.
-fn place_in(queues: &[Queue], queue: QueueId, packet: PacketId) -> Option<&Place>
+/// The place of a packet in its queue, if it is in flight.
+pub(crate) fn place_in(queues: &[Queue], queue: QueueId, packet: PacketId) -> Option<&Place>
     requires { AscendFrom 0 queues.now }
     ensures { option_copied result ≡ sought_in (queue_in queues.now queue) packet }
 {
@@ -177,12 +168,10 @@ fn packet_origin(
     ensures { IfOk result (λ origin. origin ≡ told_origin block.now place.now) }
 {
     Ok(PacketOrigin {
-        flying: InFlight {
-            queue: block.queue,
-            id: block.packet,
-            packet: place.packet,
-        },
+        flying: flying(block, place),
         progress: place.progress,
+        client: block.client,
+        rights: block.rights.copy(alloc)?,
         arguments: block.bytes.copy(alloc)?,
     })
 }
@@ -225,8 +214,8 @@ fn soonest<'a>(
     next
 }
 
-// The argument block of the first launch from a number on, of the packets in flight.
-fn next_launched<'a>(queues: &'a [Queue], from: u64) -> Option<&'a ArgumentBlock>
+/// The argument block of the first launch from a number on, of the packets in flight.
+pub(crate) fn next_launched<'a>(queues: &'a [Queue], from: u64) -> Option<&'a ArgumentBlock>
     ensures { option_copied result ≡ fold (sooner from) None (all_blocks queues.now) }
 {
     let mut next = None;
@@ -239,30 +228,32 @@ fn next_launched<'a>(queues: &'a [Queue], from: u64) -> Option<&'a ArgumentBlock
 // What is kept of a packet in flight, as data, behind what is of others, if its place is there.
 fn tell_packet(
     alloc: Global,
-    origins: &mut Sequence<PacketOrigin>,
+    origins: &mut Ample<PacketOrigin, ALL_IN_FLIGHT>,
     queues: &[Queue],
     block: &ArgumentBlock,
 ) -> Result<(), AllocError>
-    requires { AscendFrom 0 queues.now }
+    requires ascending { AscendFrom 0 queues.now }
+    requires free { length origins.old < ALL_IN_FLIGHT }
     ensures { OnOk result (origins.new ≡ origins.old ++ option_to_list (packet_origin queues.now block.now)) }
 {
     if let Some(place) = place_in(queues, block.queue, block.packet) {
-        origins.push(packet_origin(alloc, block, place)?)?;
+        origins.push(packet_origin(alloc, block, place)?);
     }
     Ok(())
 }
 
-// What is kept of all packets in flight, which are so many, in the order of their launches.
-fn packet_origins(
+/// What is kept of all packets in flight, which are so many, in the order of their launches.
+pub(crate) fn packet_origins(
     alloc: Global,
     queues: &[Queue],
     count: usize,
-) -> Result<Sequence<PacketOrigin>, AllocError>
+) -> Result<Ample<PacketOrigin, ALL_IN_FLIGHT>, AllocError>
     requires ascending { AscendFrom 0 queues.now }
     requires few { NumbersFit (all_blocks queues.now) }
+    requires fit { (count ≤ ALL_IN_FLIGHT) × ((blocks : List ArgumentBlock) × AreInOrder queues.now count blocks) }
     ensures { IfOk result (λ origins. (blocks : List ArgumentBlock) → AreInOrder queues.now count blocks → origins ≡ filter_map (packet_origin queues.now) blocks) }
 {
-    let mut origins = Sequence::new(alloc);
+    let mut origins = Ample::get(alloc)?;
     let mut from = 0;
     for told in 0..count {
         if let Some(block) = next_launched(queues, from) {

@@ -1,7 +1,7 @@
 //! Packets are handed over: they wait, are launched, or denied.
 
 ghost use Rattle.core_model.specs.History.{beginning};
-ghost use Rattle.std.specs.Prelude.{◌≡◌, ◌++◌, [], All, IfErr, IfOk, Ok, OnOk, map, vec_capacity};
+ghost use Rattle.std.specs.Prelude.{◌≡◌, ◌<◌, ◌++◌, [], All, IfErr, IfOk, Ok, OnOk, map, vec_capacity};
 ghost use Rattle.aql_packet.specs.Reading.{barrier_bit};
 ghost use Rattle.core_model.specs.Holds.{arguments_of, rights_at_launch};
 ghost use Rattle.core_model.specs.Owed.{facts_of, refuses};
@@ -11,7 +11,8 @@ ghost use Rattle.access_core.specs.inner.Deciding.{Decides, IsBlockPlaced, openi
 ghost use Rattle.access_core.specs.inner.CachedQueue.{IsSound};
 ghost use Rattle.access_core.specs.inner.QueueChanges.{CanFail, CanLaunch, IsAbove, with_denied, with_launched, with_queue};
 ghost use Rattle.policy.specs.Results.{map_ok};
-ghost use Rattle.core_model.specs.Legal.{Meets, MeetsOrLacks, due};
+ghost use Rattle.core_model.specs.Legal.{Meets, MeetsOrLacks, due, entry_of};
+ghost use Rattle.access_core.specs.inner.Cached.{IsEntered};
 
 use crate::access::lookups::{open_index, queue_of};
 use crate::access::{AccessCore, enter};
@@ -21,13 +22,13 @@ use aql_packet::{
     AgentHandle, ClientId, Packet, PacketId, QueueId, RawHeader, header_of,
     law_header_in_first_word, words_of,
 };
-use core_model::{Effects, Event, Outcome, Range, Refusal, Taken, WaitCause};
+use core_model::{Effects, Entry, Event, Outcome, Range, Refusal, Taken, WaitCause};
 use packet_processor::{
     Facts, MayLaunch, PacketNeeds, QueueState, Verdict, held_by_arguments, hold_needs, verdict,
 };
 use policy::{Object, Rights, TAKES_NOTHING};
 use queue_error::{QueueError, Rule};
-use sequences::Sequence;
+use sequences::{Reserved, Sequence};
 use std::alloc::{AllocError, Global};
 
 // What a packet's header says, which its first word holds.
@@ -91,6 +92,24 @@ fn append(
         rights.push(*one)?;
     }
     Ok(())
+}
+
+// Puts the entry of a launch behind the others.
+fn enter_launch(audit: &mut Reserved<Entry>, queue: QueueId, packet: PacketId, bytes: &[u8; 64])
+    requires { 0 < audit.old.room }
+    ensures { IsEntered audit.old audit.new (entry_of (Event.Take queue packet bytes.now) (Outcome.Taken Taken.Launched) []) }
+{
+    let event = Event::Take {
+        queue,
+        packet,
+        bytes: *bytes,
+    };
+    enter(
+        audit,
+        event,
+        Outcome::Taken(Taken::Launched),
+        Effects::none(),
+    );
 }
 
 impl AccessCore {
@@ -310,19 +329,15 @@ impl AccessCore {
             rights,
             bytes: block,
         };
+        self.fresh.provide(
+            alloc,
+            self.in_flight_count + 1,
+            given.rights.len(),
+            given.bytes.len(),
+        )?;
         place_next(&mut self.queues, queue, *launching.asked.packet(), given);
         self.in_flight_count += 1;
-        let event = Event::Take {
-            queue,
-            packet,
-            bytes: *bytes,
-        };
-        enter(
-            &mut self.audit,
-            event,
-            Outcome::Taken(Taken::Launched),
-            Effects::none(),
-        );
+        enter_launch(&mut self.audit, queue, packet, bytes);
         Ok(())
     }
 }

@@ -1,7 +1,8 @@
--- The requests so far are made and counted.
-use Rattle.readable.specs.Drains.{Drains}
-use Rattle.readable.specs.Tallies.{none_yet}
+-- The rounds so far are made and counted.
+use Rattle.std.proofs.Common.{List}
+use Rattle.readable.specs.Moves.{Made}
+use Rattle.readable.specs.inner.Keeping.{Rounds}
 use Rattle.readable.proofs.draining.drive.Given as goal
 
-abbrev pub invariant-requests : goal.invariant-requests
-invariant-requests l = Drains l.fn.world none_yet l.world l.tally
+abbrev pub invariant-rounds : goal.invariant-rounds
+invariant-rounds l = (made : List Made) × Rounds l.initial.world l.initial.log made l.world l.log

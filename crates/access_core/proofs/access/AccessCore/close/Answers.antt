@@ -1,7 +1,7 @@
 -- What is cached follows the close.
 use Rattle.core_model.specs.History.{History, beginning}
 use Rattle.core_model.specs.Queues.{OpenQueue, openings}
-use Rattle.std.proofs.Common.{◌≡◌, ◌∙◌, refl, sym, ap, length, map, subst, rules, Result, Err, Some, option_map, slice_get}
+use Rattle.std.proofs.Common.{◌≡◌, ◌∙◌, refl, sym, ap, length, map, subst, rules, Result, Err, Some, option_map, slice_get, not, ◌==◌}
 use Rattle.access_core.specs.Cores.{Core}
 use Rattle.access_core.specs.Keeping.{ClosesAsDue}
 use Rattle.access_core.proofs.Calls.{met-entry}
@@ -9,10 +9,11 @@ use Rattle.access_core.proofs.CachedMore.{IsCached-more, memory-still, owed-insi
 use Rattle.access_core.proofs.CloseLemmas.{close-open, closed-laid, errors-closed, flying-below, grants-closed, memory-closed, queues-closed, told-closed, values-closed}
 use Rattle.access_core.proofs.Places.{places-closed}
 use Rattle.access_core.proofs.Seen.{seen}
-use Rattle.access_core.proofs.Terms.{Call, Close, Inside, IsCached, Owed, QueueId, Refusal, due, enters, error_places, flight_of, history_of, releases_of, start_of, table_places, without_blocks}
+use Rattle.access_core.proofs.Terms.{Call, Close, Inside, IsCached, Owed, QueueId, Refusal, due, enters, error_places, flight_of, history_of, releases_of, start_of, table_places, without_blocks, ArgumentBlock}
 use Rattle.access_core.proofs.TakeLemmas.{IsOpen}
 use Rattle.core_model.specs.declared.outcome.Outcome.TheVariants as outcome
 use Rattle.core_model.specs.declared.refusal.Refusal.TheVariants as refusal
+use Rattle.access_core.proofs.ReadyLemmas.{ready-left}
 use Rattle.access_core.proofs.access.AccessCore.close.Goals as goal
 
 -- a refusal as the reply to the call
@@ -55,6 +56,7 @@ invariant_of-self c =
       values = sym (values-closed a c.self.invariant queue a.signals (flight_of (start_of a) a.audit.items queue));
       queues = rw (c.close_open-effects.ensures.queues, c.close_open-effects.ensures.in_flight_count) (queues-closed a c.self.invariant queue at);
       laid = rw c.close_open-effects.ensures.queues (closed-laid a c.self.invariant queue);
+      ready = ready-left a.fresh a.told a.start c.self.invariant.blocks c.self.invariant.ready (λ (b : ArgumentBlock). not (b.queue.0 == queue.0));
     })
     (history_of a) refl (due-here a _ (seen c.self.view_is) queue c.in_ok-may_close.ensures.may)
 

@@ -1,6 +1,6 @@
 -- What is kept moves along with the completion, which always finds room: a packet leaves flight for its entry.
-use Rattle.std.proofs.Common.{◌≡◌, ◌++◌, ◌∷◌, [], arith, refl, ap, map, Some, ◌∙◌}
-use Rattle.access_core.proofs.Terms.{Call, Finish, completion_of, completion_signal, error_places, signal_decrement, start_of, with_leaving, without_packet}
+use Rattle.std.proofs.Common.{◌≡◌, ◌++◌, ◌∷◌, [], arith, refl, ap, map, Some, ◌∙◌, not}
+use Rattle.access_core.proofs.Terms.{Call, Finish, completion_of, completion_signal, error_places, signal_decrement, start_of, with_leaving, without_packet, is_block}
 use Rattle.access_core.specs.declared.access.leaving.Leaving.TheVariants as leaving
 use Rattle.access_core.proofs.Places.{places-kept}
 use Rattle.access_core.proofs.ChangedQueue.{errors-changed}
@@ -13,6 +13,7 @@ use Rattle.access_core.proofs.TakeLemmas.{found-of, open-of}
 use Rattle.access_core.proofs.WorkLemmas.{finish-releases, freed-below, memory-completed, finish-due, queues-released, sound-released}
 use Rattle.core_model.specs.declared.entry.Effect.TheVariants as effect
 use Rattle.core_model.specs.declared.outcome.Outcome.TheVariants as outcome
+use Rattle.access_core.proofs.ReadyLemmas.{ready-left}
 use Rattle.access_core.proofs.access.AccessCore.complete_found.Goals as goal
 
 pub leave_flight-requires-clause-there : goal.leave_flight-requires-clause-there
@@ -55,6 +56,7 @@ invariant_of-self c =
           (λ q. refl) (sound-released at.q c.args.found.packet at.sound) refl (λ m v. grind arith));
       laid = rw c.leave_flight.ensures.queues
           (left-laid a c.self.invariant c.args.queue at c.args.found.packet leaving.Completed);
+      ready = ready-left a.fresh a.told a.start c.self.invariant.blocks c.self.invariant.ready (λ b. not (is_block c.args.queue c.args.found.packet b));
     })
     _ (seen c.self.view_is) (finish-due a c.self.invariant _ (seen c.self.view_is) _ c.args.queue c.args.found.packet p c.requires.finished.due_is)
 

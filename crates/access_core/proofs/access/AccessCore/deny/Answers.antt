@@ -28,6 +28,7 @@ invariant_of-self c =
       values = refl;
       queues = rw c.fail_next.ensures.queues (queues-denied a c.self.invariant c.args.queue c.args.packet c.args.bytes.now can c.args.rule);
       laid = rw c.fail_next.ensures.queues (kept-laid a c.self.invariant c.args.queue can.opened (with_denied (error_without_place c.args.queue c.args.packet.0 c.args.rule)) (λ x. refl) refl);
+      ready = c.self.invariant.ready;
     })
     _ (seen c.self.view_is) c.requires.0
 

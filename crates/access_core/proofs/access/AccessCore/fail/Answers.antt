@@ -1,6 +1,6 @@
 -- What is kept moves along with the failure, which always finds room: a packet leaves flight for its entry.
-use Rattle.std.proofs.Common.{arith, ◌++◌, refl, [], ◌∷◌, ap, map, ◌∙◌, Some}
-use Rattle.access_core.proofs.Terms.{B1, Call, Failed, PacketId, Poll, QueueId, QueueView, error_places, error_without_place, start_of, with_leaving, without_packet}
+use Rattle.std.proofs.Common.{arith, ◌++◌, refl, [], ◌∷◌, ap, map, ◌∙◌, Some, not}
+use Rattle.access_core.proofs.Terms.{B1, Call, Failed, PacketId, Poll, QueueId, QueueView, error_places, error_without_place, start_of, with_leaving, without_packet, is_block}
 use Rattle.access_core.specs.declared.access.leaving.Leaving.TheVariants as leaving
 use Rattle.access_core.proofs.Places.{failed-places, places-kept}
 use Rattle.access_core.proofs.ChangedQueue.{errors-changed}
@@ -13,6 +13,7 @@ use Rattle.access_core.proofs.TakeLemmas.{found-of, is-open, open-of}
 use Rattle.access_core.proofs.WorkLemmas.{failure-releases, can-fail, freed-below, place-inside, queues-released, sound-failed}
 use Rattle.core_model.specs.declared.entry.Effect.TheVariants as effect
 use Rattle.core_model.specs.declared.outcome.Outcome.TheVariants as outcome
+use Rattle.access_core.proofs.ReadyLemmas.{ready-left}
 use Rattle.access_core.proofs.access.AccessCore.fail.Goals as goal
 
 abbrev failed : QueueId → PacketId → QueueView → QueueView
@@ -55,6 +56,7 @@ invariant_of-self c =
           (λ q. refl) (sound-failed a c.self.invariant c.args.queue c.args.found.packet at (error_without_place c.args.queue c.args.found.packet.0 B1) found.flying found.found) refl (λ m v. grind arith));
       laid = rw c.leave_flight.ensures.queues
           (left-laid a c.self.invariant c.args.queue at c.args.found.packet (leaving.Failed (error_without_place c.args.queue c.args.found.packet.0 B1)));
+      ready = ready-left a.fresh a.told a.start c.self.invariant.blocks c.self.invariant.ready (λ b. not (is_block c.args.queue c.args.found.packet b));
     })
     _ (seen c.self.view_is) c.requires.may
 

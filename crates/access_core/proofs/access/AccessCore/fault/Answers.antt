@@ -1,6 +1,6 @@
 -- What is kept moves along with the fault, which always finds room: a packet leaves flight for its entry.
-use Rattle.std.proofs.Common.{arith, ◌++◌, refl, [], ◌∷◌, ap, map, ◌∙◌, Some}
-use Rattle.access_core.proofs.Terms.{Call, Faulted, PacketId, QueueError, QueueView, RunNext, error_places, group_error, start_of, with_leaving, without_packet}
+use Rattle.std.proofs.Common.{arith, ◌++◌, refl, [], ◌∷◌, ap, map, ◌∙◌, Some, not}
+use Rattle.access_core.proofs.Terms.{Call, Faulted, PacketId, QueueError, QueueView, RunNext, error_places, group_error, start_of, with_leaving, without_packet, is_block}
 use Rattle.access_core.specs.declared.access.leaving.Leaving.TheVariants as leaving
 use Rattle.access_core.proofs.Places.{failed-places, places-kept}
 use Rattle.access_core.proofs.ChangedQueue.{errors-changed}
@@ -15,6 +15,7 @@ use Rattle.access_core.proofs.TakeLemmas.{found-of, is-open, open-of}
 use Rattle.access_core.proofs.WorkLemmas.{fault-releases, can-fail, freed-below, place-inside, queues-released, sound-failed}
 use Rattle.core_model.specs.declared.entry.Effect.TheVariants as effect
 use Rattle.core_model.specs.declared.outcome.Outcome.TheVariants as outcome
+use Rattle.access_core.proofs.ReadyLemmas.{ready-left}
 use Rattle.access_core.proofs.access.AccessCore.fault.Goals as goal
 
 abbrev failed : QueueError → PacketId → QueueView → QueueView
@@ -56,6 +57,7 @@ invariant_of-self c =
           (λ q. refl) (sound-failed a c.self.invariant c.args.queue c.args.found.packet at error found.flying found.found) refl (λ m v. grind arith));
       laid = rw c.leave_flight.ensures.queues
           (left-laid a c.self.invariant c.args.queue at c.args.found.packet (leaving.Failed error));
+      ready = ready-left a.fresh a.told a.start c.self.invariant.blocks c.self.invariant.ready (λ b. not (is_block c.args.queue c.args.found.packet b));
     })
     _ (seen c.self.view_is) (fault-due a c.self.invariant _ (seen c.self.view_is) c.args.queue c.args.found.packet c.args.place c.requires.found error c.requires.owed)
 

@@ -49,6 +49,7 @@ invariant_of-self c =
       values = refl;
       queues = queues-still a c.self.invariant _ _ _ calm (λ all. refl);
       laid = quiet-laid a c.self.invariant;
+      ready = c.self.invariant.ready;
     })
     _ (seen c.self.view_is) (grant-due a c.self.invariant c.args.client c.args.object c.args.rights _ (seen c.self.view_is) (sym c.in_default.is ∙ c.may_grant.ensures) false
     (sym c.is_full.ensures ∙ c.if-is_full.false))

@@ -1,6 +1,6 @@
 -- The packet is in flight, and the entry tells it.
 use Rattle.core_model.specs.History.{beginning}
-use Rattle.std.proofs.Common.{◌≡◌, ◌∙◌, ◌+◌, ◌++◌, ◌∷◌, length, ap, inr, refl, rules, sym, subst, true, Some, [], map, option_map}
+use Rattle.std.proofs.Common.{◌≡◌, ◌∙◌, ◌+◌, ◌≤◌, arith, ◌++◌, ◌∷◌, length, ap, inr, refl, rules, sym, subst, true, Some, [], map, option_map}
 use Rattle.access_core.proofs.Terms.{ArgumentBlock, History, IsNext-from_owed, Launched, Packet, Take, TakesNext, arguments_of, as_rights, due, launched_by, lies_in_regions, owner}
 use Rattle.access_core.proofs.Terms.{error_places, region_lengths, rights_at_launch, start_of}
 use Rattle.access_core.specs.inner.QueueChanges.{with_launched}
@@ -10,7 +10,10 @@ use Rattle.access_core.proofs.ChangedQueue.{errors-changed}
 use Rattle.access_core.proofs.Seen.{seen}
 use Rattle.access_core.specs.inner.Deciding.{IsBlockPlaced, opening_of}
 use Rattle.access_core.proofs.HeldAfter.{block_laid, grants-launched}
-use Rattle.access_core.proofs.Laid.{laid-launched}
+use Rattle.access_core.proofs.Laid.{blocks-count, laid-launched}
+use Rattle.access_core.proofs.ReadyLemmas.{ready-launched}
+use Rattle.access_core.proofs.Rotating.{IsCached-provided}
+use Rattle.access_core.specs.inner.Ready.{HasLists}
 use Rattle.access_core.proofs.CachedMore.{IsCached-more, memory-still, owed-inside}
 use Rattle.access_core.proofs.QueueAt.{flight-launched}
 use Rattle.access_core.proofs.TakeLemmas.{below-next, block-placed, can-take, client-of, queues-launched}
@@ -39,8 +42,8 @@ argument_block-requires c =
 pub place_next-requires-clause-sound : goal.place_next-requires-clause-sound
 place_next-requires-clause-sound c = c.self.invariant.sound
 
-pub invariant_of-self : goal.invariant_of-self
-invariant_of-self c =
+pub invariant_of-self-2 : goal.invariant_of-self-2
+invariant_of-self-2 c =
     let a = c.self.inside in
     let p = c.args.launching.now.asked.packet in
     let can = can-take a c.self.invariant c.args.queue (subst (λ h. TakesNext h c.args.queue) (sym (seen c.self.view_is)) c.requires.decided.3) in
@@ -57,7 +60,7 @@ invariant_of-self c =
     IsCached-more a _ (Take c.args.queue c.args.packet c.args.bytes.now) (outcome.Taken Launched) [] c.self.invariant
     (record {
       same = ((refl, refl, refl), refl);
-      audit = rw c.none.ensures at c.enter.ensures;
+      audit = c.enter_launch.ensures;
       blocks = c.self.invariant.blocks ++ block ∷ [];
       grants = grants-launched a c.self.invariant _ _ (λ client on right b. refl) (λ rows. refl) (opening_of c.args.launching.now) c.args.queue c.args.packet p _ _ _ launches
           (flight-launched (start_of a) a.audit.items c.args.queue c.args.packet c.args.bytes.now p c.requires.decided.1)
@@ -71,8 +74,27 @@ invariant_of-self c =
           (queues-launched a c.self.invariant c.args.queue c.args.packet c.args.bytes.now can p c.requires.decided.1 next.id_is block refl (refl, client-of a c.self.invariant c.args.queue can _ owned) within);
       laid = rw (c.place_next.ensures.queues, c.packet-2.ensures)
           (laid-launched a.queues.items (a.start.before + length a.audit.items) c.self.invariant.blocks c.self.invariant.laid c.args.queue can.opened.q can.opened.found can.opened.ascending p block refl number_is);
+      ready = ready-launched a.fresh a.told a.start c.self.invariant.blocks c.self.invariant.ready c.provide.new.self c.provide.ensures.rights_kept c.provide.ensures.bytes_kept block
+          (let told = c.self.invariant.ready.before in omega (arith, told, number_is))
+          (subst (λ n. n ≤ c.provide.new.self.rights.each) c.len-2.ensures c.in_ok-provide.ensures.rights.1, subst (λ n. n ≤ c.provide.new.self.bytes.each) c.len-3.ensures c.in_ok-provide.ensures.bytes.1)
+          (subst (HasLists c.provide.new.self) (sym (ap (λ n. n + 1) (blocks-count a c.self.invariant))) (c.in_ok-provide.ensures.rights.0, c.in_ok-provide.ensures.bytes.0));
     })
     _ (seen c.self.view_is) c.requires.decided.0
+
+pub invariant_of-self : goal.invariant_of-self
+invariant_of-self c =
+    let a = c.self.inside in
+    IsCached-provided a c.self.invariant c.provide.new.self c.provide.ensures.rights_kept c.provide.ensures.bytes_kept
+
+pub returns-in_err-provide-clause-met : goal.returns-in_err-provide-clause-met
+returns-in_err-provide-clause-met c =
+    inr (record {
+      may = rw c.requires.decided.0 refl;
+      asks = launch-asks c.args.self.now.history c.args.queue c.args.packet c.args.bytes.now (opening_of c.args.launching.now) c.args.launching.now.asked.packet
+          (due c.args.self.now.history (Take c.args.queue c.args.packet c.args.bytes.now)) c.requires.decided.4 c.requires.decided.1;
+      reply_is = search rules;
+      history_is = seen c.self.view_is;
+    })
 
 pub returns-in_err-block-clause-met : goal.returns-in_err-block-clause-met
 returns-in_err-block-clause-met c =
@@ -98,6 +120,6 @@ pub returns-clause-places : goal.returns-clause-places
 returns-clause-places c =
     let a = c.self.inside in
     let can = can-take a c.self.invariant c.args.queue (subst (λ h. TakesNext h c.args.queue) (sym (seen c.self.view_is)) c.requires.decided.3) in
-    places-kept a _ c.self.view_is c.place_next.new.queues a.grants a.spare c.enter.new.audit _ c.place_next.ensures.capacity
+    places-kept a _ c.self.view_is c.place_next.new.queues a.grants a.spare c.enter_launch.new.audit _ c.place_next.ensures.capacity
     (ap (map error_places) c.place_next.ensures.queues ∙ errors-changed a.queues.items c.args.queue (with_launched _ _) can.opened.q can.opened.found can.opened.ascending refl)
-    refl refl c.enter.ensures
+    refl refl c.enter_launch.ensures

@@ -57,5 +57,6 @@ invariant_of-self-2 c =
         within = none-launched (Open c.args.client c.args.agent c.args.size) (outcome.Opened c.args.queue) refl (start_of a);
       };
       laid = rw push (laid-opened a.queues.items (a.start.before + length a.audit.items) c.self.invariant.blocks c.self.invariant.laid q c.in_ok-blocks.ensures);
+      ready = c.self.invariant.ready;
     })
     _ (seen c.self.view_is) c.requires.may

@@ -39,5 +39,6 @@ invariant_of-self c =
       values = refl;
       queues = queues-still a c.self.invariant _ _ _ calm (λ all. refl);
       laid = quiet-laid a c.self.invariant;
+      ready = c.self.invariant.ready;
     })
     _ (seen c.self.view_is) c.requires.may

@@ -58,6 +58,7 @@ invariant_of-self c =
       queues = rw c.advance.ensures.queues (queues-advanced a c.self.invariant c.args.queue at c.args.found.packet one_group _ _ _ is (λ all. refl) _
           (c.one_more.ensures ∙ ap one_group (sym found.progress_is)));
       laid = rw c.advance.ensures.queues (kept-laid a c.self.invariant c.args.queue at (with_advance c.args.found.packet _) (λ x. refl) refl);
+      ready = c.self.invariant.ready;
     })
     _ (seen c.self.view_is) owing
 

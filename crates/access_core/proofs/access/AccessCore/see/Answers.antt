@@ -40,6 +40,7 @@ invariant_of-self c =
       queues = rw c.advance.ensures.queues (queues-advanced a c.self.invariant c.args.queue at c.args.found.packet (seen_further c.args.new) _ _ _ is (λ all. refl) _
           ((λ i. record { groups_run = c.args.place.progress.groups_run; satisfied = c.satisfied_by_either.ensures i }) ∙ ap (seen_further c.args.new) (sym found.progress_is)));
       laid = rw c.advance.ensures.queues (kept-laid a c.self.invariant c.args.queue at (with_advance c.args.found.packet _) (λ x. refl) refl);
+      ready = c.self.invariant.ready;
     })
     _ (seen c.self.view_is) c.requires.may
 

@@ -36,5 +36,6 @@ invariant_of-self c =
       values = values;
       queues = queues-still c.self.inside c.self.invariant _ _ _ calm (λ all. refl);
       laid = quiet-laid c.self.inside c.self.invariant;
+      ready = c.self.invariant.ready;
     })
     _ (seen c.self.view_is) c.in_ok-old.ensures.may

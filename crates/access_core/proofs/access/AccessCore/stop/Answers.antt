@@ -6,7 +6,7 @@ use Rattle.access_core.proofs.Places.{places-kept}
 use Rattle.access_core.proofs.ChangedQueue.{errors-changed}
 use Rattle.access_core.proofs.Seen.{seen}
 use Rattle.access_core.proofs.CachedMore.{IsCached-more, memory-still, owed-inside}
-use Rattle.access_core.proofs.StopLemmas.{blocks-stopped, freed-stopped, grants-stopped, memory-released, queues-stopped, stop-open, stopped-laid, values-released}
+use Rattle.access_core.proofs.StopLemmas.{blocks-stopped, freed-stopped, grants-stopped, memory-released, queues-stopped, stop-open, stopped-laid, values-released, stopped-ready}
 use Rattle.access_core.proofs.TakeLemmas.{all-found-of}
 use Rattle.core_model.specs.declared.outcome.Outcome.TheVariants as outcome
 use Rattle.access_core.proofs.access.AccessCore.stop.Goals as goal
@@ -41,6 +41,7 @@ invariant_of-self c =
       values = sym (values-released c.args.queue barrier a.signals);
       queues = rw (c.leave_flight.ensures.queues, c.leave_flight.ensures.in_flight_count) (queues-stopped a c.self.invariant c.args.queue at barrier);
       laid = rw c.leave_flight.ensures.queues (stopped-laid a c.self.invariant c.args.queue barrier at);
+      ready = stopped-ready a c.self.invariant c.args.queue barrier;
     })
     _ (seen c.self.view_is) c.in_ok-barrier.ensures.may
 

@@ -1,14 +1,10 @@
 -- No place is made by taking a packet out of one, and its block lies at the index of its place.
-use Rattle.std.proofs.Common.{◌≡◌, ◌∙◌, Option, ap, arith, subst, sym, IfSome}
+use Rattle.std.proofs.Common.{◌≡◌, ◌∙◌, Option, ap, arith, length, subst, sym, IfSome}
 use Rattle.access_core.proofs.Ascending.{block-at, out-at}
 use Rattle.access_core.proofs.Terms.{FoundPacket, IsFoundIn, PacketId, packet_in}
-use Rattle.access_core.proofs.WorkLemmas.{filter-not_more}
 use Rattle.access_core.specs.inner.ArgumentBlocks.{by_packet}
-use Rattle.access_core.specs.inner.QueueChanges.{without_block}
+use Rattle.access_core.specs.inner.QueueChanges.{without_block, without_one}
 use Rattle.access_core.proofs.access.leaving.free_place.Goals as goal
-
-pub overflow_sub-result : goal.overflow_sub-result
-overflow_sub-result = grind (arith, filter-not_more)
 
 pub remove-block-requires : goal.remove-block-requires
 remove-block-requires c =
@@ -22,3 +18,10 @@ returns-in-Some-clause-blocks c =
     c.remove-block.ensures.rest
     ∙ out-at by_packet c.args.blocks.now c.in-Some.found.index there.block c.in-Some.found.packet.0 c.requires.rising there.at (ap (λ (id : PacketId). id.0) there.packet_is)
     ∙ ap (λ (o : Option FoundPacket). without_block (packet_in o) c.args.blocks.now) (sym c.in-Some.is)
+
+pub returns-in-Some-clause-freed : goal.returns-in-Some-clause-freed
+returns-in-Some-clause-freed c =
+    let fewer = c.release.ensures.fewer in
+    let left = ap length c.release.ensures.without in
+    let id = ap (λ (o : Option FoundPacket). length (without_one (packet_in o) c.args.places.now)) (sym c.in-Some.is) in
+    omega (arith, fewer, left, id)

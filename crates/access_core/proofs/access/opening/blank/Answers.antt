@@ -6,7 +6,7 @@ use Rattle.access_core.proofs.access.opening.blank.Goals as goal
 pub invariant_of-result : goal.invariant_of-result
 invariant_of-result c =
     let state = c.requires.untouched.state in
-    IsCached-opened _ c.args.start.policy c.requires.begins state.grants state.rules state.memory state.signals c.new-2.ensures.items refl refl
+    IsCached-opened _ c.args.start.policy c.requires.begins state.grants state.rules state.memory state.signals c.new-2.ensures.items refl refl refl
     c.requires.untouched.empty
     c.requires.untouched.places (few_places c.args.capacity c.requires.few) c.requires.entries c.requires.untouched.segments
 

@@ -8,7 +8,7 @@ use Rattle.access_core.proofs.access.rotating.packet_origins.Goals as goal
 use Rattle.access_core.proofs.access.rotating.packet_origins.Goals.{in-Some+in_ok-tell_packet, in_default}
 
 pub loop-told-init : goal.loop-told-init
-loop-told-init c = λ blocks are. subst (λ origins. AreTold c.args.queues.now blocks origins 0 0) (sym c.new-origins.ensures) (told-none c.args.queues.now blocks)
+loop-told-init c = λ blocks are. subst (λ origins. AreTold c.args.queues.now blocks origins 0 0) (sym c.in_ok-origins.ensures) (told-none c.args.queues.now blocks)
 
 pub overflow_add-from : goal.overflow_add-from
 overflow_add-from c =
@@ -16,6 +16,12 @@ overflow_add-from c =
     let fits = All-contains (λ (b : ArgumentBlock). b.number < 2 ^ 63) (all_blocks c.args.queues.now) c.in-Some.block.now c.requires.few
     (found-there c.args.queues.now c.loop-told.from c.in-Some.block.now found) in
     omega (arith, fits)
+
+pub tell_packet-requires-clause-free : goal.tell_packet-requires-clause-free
+tell_packet-requires-clause-free c =
+    let few = (c.loop-told.invariant c.requires.fit.1.0 c.requires.fit.1.1).few in
+    let most = c.requires.fit.0 in
+    omega (arith, few, most)
 
 pub loop-told-preserved : goal.loop-told-preserved
 loop-told-preserved c = λ blocks are.

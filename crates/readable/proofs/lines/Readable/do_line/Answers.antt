@@ -9,5 +9,5 @@ returns g c =
     let new = c.answer.new.world in
     let line = c.args.line.now in
     MatchResult-weaker c.answer.result c.answer.ensures
-    (λ said. λ served. served_line g.S.Voice.tells g.S.DrainVoice.drains c.args.later.now g.V.Watch.watching old new line line _ _ said served)
-    (λ fault. λ cut. cut_line g.S.Voice.tells g.S.DrainVoice.drains c.args.later.now g.V.Watch.watching old new line line _ _ fault cut)
+    (λ said. λ served. served_line g.S.Voice.tells g.S.DrainVoice.drains g.S.DrainVoice.states c.args.later.now g.V.Watch.watching old new line line _ _ said served)
+    (λ fault. λ cut. cut_line g.S.Voice.tells g.S.DrainVoice.drains g.S.DrainVoice.states c.args.later.now g.V.Watch.watching old new line line _ _ fault cut)
