@@ -63,7 +63,25 @@ fn lists_denied(block: &ArgumentBlock, rows: &PolicyRows) -> bool
         .any(|named| !rows.allow(client, named.0, named.1))
 }
 
-// The first of a queue's blocks that lists one of some rights of a client on an object; of another client's queue none does.
+// The first of a queue's blocks that lists one of some rights of a client on an object.
+#[inline(never)]
+fn first_in_queue<'a>(
+    queue: &'a Queue,
+    client: ClientId,
+    object: Object,
+    rights: Rights,
+) -> Option<&'a ArgumentBlock>
+    ensures { option_copied result ≡ find (lists_one client object rights) queue.now.blocks }
+{
+    queue
+        .blocks
+        .as_slice()
+        .iter()
+        .find(|block| lists_one(block, client, object, rights))
+}
+
+// The same, without a look at the blocks of another client's queue: none of them does. It stands in the walk over all queues.
+#[inline(always)]
 fn first_of_client<'a>(
     queue: &'a Queue,
     client: ClientId,
@@ -76,11 +94,7 @@ fn first_of_client<'a>(
     if queue.client.0 != client.0 {
         return None;
     }
-    queue
-        .blocks
-        .as_slice()
-        .iter()
-        .find(|block| lists_one(block, client, object, rights))
+    first_in_queue(queue, client, object, rights)
 }
 
 // The first of all blocks that lists one of some rights of a client on an object, queue by queue.
