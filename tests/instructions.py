@@ -29,7 +29,9 @@ FOR_PROVED = {
     "those before the end, in hundredths of those at the start", "item that stores 1 KB behind the last", "opening of 64 MiB of regions",
     "refused line with --explain, 15,000 entries before it", "run of refused lines with --explain, in hundredths of it without",
     "scripted packet, 441 others in flight, in hundredths of one alone",
-    "grant and revocation, 504 in flight of another client, in hundredths of those alone", "grant and revocation, 504 in flight of the client itself",
+    "grant and revocation without a queue", "grant and revocation, 63 idle queues of another client, in hundredths of those without a queue",
+    "grant and revocation, 504 in flight of another client, in hundredths of those without a queue",
+    "grant and revocation, 504 in flight of the client itself",
 }
 ARCHIVE = f"{TOP}/crates/hobbydresser_c/out/libhobbydresser_c.a"
 # counts only what lies in the settling of a broker that has run, and in letting it go
@@ -307,7 +309,10 @@ class Counter:
         yield "reload, 4,090 rows of one client on one region", lambda: self.reload(single(4090))
         yield "reload, 4,096 rows of all on all signals", lambda: self.reload(allow("*", "signal", "*", "WAIT") * 4096)
         yield "scripted packet, 441 others in flight, in hundredths of one alone", lambda: hundredths(self.passed(64, crowd(64, 7)), self.passed(1, crowd(1, 0)))
-        yield "grant and revocation, 504 in flight of another client, in hundredths of those alone", lambda: hundredths(self.granted_beside("c2", crowd(63, 8)), self.granted_beside("c2", crowd(63, 0)))
+        without = lambda: self.granted_beside("c2", crowd(0, 0))
+        yield "grant and revocation without a queue", without
+        yield "grant and revocation, 63 idle queues of another client, in hundredths of those without a queue", lambda: hundredths(self.granted_beside("c2", crowd(63, 0)), without())
+        yield "grant and revocation, 504 in flight of another client, in hundredths of those without a queue", lambda: hundredths(self.granted_beside("c2", crowd(63, 8)), without())
         yield "grant and revocation, 504 in flight of the client itself", lambda: self.granted_beside("c1", crowd(63, 8))
         yield "opening of 64 MiB of regions", self.opening
         if self.has_library:
