@@ -197,7 +197,7 @@ class Troubled:
     def __init__(self, program, library, room, row, most):
         self.program, self.library, self.room, self.row = program, library, room, row
         self.most, self.given = most, text(row.lines)
-        self.unhooked = run([program, *row.words], self.given)
+        self.unhooked = run_whole([program, *row.words], self.given)
         self.whole, self.calls = self.run()
         self.asked = [it for it in row.lines if it and not it.startswith("#")]
         self.replies = blocks(self.asked, self.whole.out) if row.form in ("script", "strict") else []
