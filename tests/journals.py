@@ -251,10 +251,11 @@ def shown(trials, program, room):
         ended = run([program, *words, "--journal", "-"], harm)
         return None if ended.status == 1 and not ended.out and ended.err.startswith(b"line %d column " % line) else f"{ended}"
 
+    with open(f"{room}/cut.journal", "wb") as it:
+        it.write(rows[0] + b"\n" + rows[1] + b"\n")
+
     def caused(words):
         """Behind the fault stands its place in the file, unless that is left out."""
-        with open(f"{room}/cut.journal", "wb") as it:
-            it.write(rows[0] + b"\n" + rows[1] + b"\n")
         fault, cause = b"line 3 column 1: the journal has no last line\n", f"{room}/cut.journal:3:1: the journal has no last line\n".encode()
         told, quiet = (run_whole([program, *words, "--journal", f"{room}/cut.journal", *option]) for option in ([], ["--quiet"]))
         return None if (told, quiet) == (Ended(1, b"", fault + cause), Ended(1, b"", fault)) else f"{told}, {quiet}"

@@ -21,7 +21,7 @@ from trial import PRELUDE, SAMPLE, Trials, program_given, run, run_whole, text
 # how many scripts of each form are made at random
 COUNT = 100
 # the options of a run that change neither what is asked nor what is replied, but for its form and its end
-OPTIONS = ("--strict", "--readable", "--json", "--explain", "--audit", "--journal")
+OPTIONS = ("--strict", "--readable", "--json", "--explain", "--quiet", "--audit", "--journal")
 
 
 def words_of(options, journal):

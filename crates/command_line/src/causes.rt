@@ -8,6 +8,9 @@ use std::io;
 /// What the lines begin with that are put into a script to mend it.
 const MENDS: &str = "grant ";
 
+/// What the lines begin with that show a kernel's text.
+const SHOWS: &str = "  ";
+
 /// How causes are told.
 #[derive(Clone, Copy, Debug, PartialEq, Eq)]
 pub enum Causes {
@@ -89,12 +92,21 @@ fn take_behind(last: &mut Option<Explanation<'_>>, line: &str) -> Result<(), All
     }
 }
 
+// The cause that a line tells with its place, if it does and shows no text.
+fn told_in(line: &str) -> Option<Why<'_>> {
+    if line.starts_with(SHOWS) {
+        None
+    } else {
+        why_in(line)
+    }
+}
+
 // What is told in lines, as objects: one of each line that tells a cause, with those behind it.
 fn as_objects(alloc: Global, told: &str) -> Result<String, AllocError> {
     let mut out = String::new(alloc);
     let mut last = None;
     for line in told.lines() {
-        match why_in(line) {
+        match told_in(line) {
             Some(why) => {
                 put_last(&mut out, &last)?;
                 last = Some(Explanation::new(alloc, why));
