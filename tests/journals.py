@@ -9,12 +9,13 @@ digests made anew, they are refused by that entry. A journal is drawn as the run
 import hashlib
 import os
 import random
+import re
 import sys
 import tempfile
 
 import against
 import commands
-from trial import FILL, KERNEL, PRELUDE, SAMPLE, TOP, Ended, Trials, program_given, run, text
+from trial import FILL, KERNEL, PRELUDE, SAMPLE, TOP, Ended, Trials, program_given, run, run_whole, text
 
 sys.path.insert(0, f"{TOP}/examples")
 import replay
@@ -36,14 +37,14 @@ def journal_of(program, room, name, script, places="65536", further=()):
 
 
 def refused_at(program, journal, line):
-    ended = run([program, "replay", SAMPLE], journal)
-    well = ended.status == 1 and ended.out == b"" and ended.err.startswith(b"line %d column " % line)
+    ended = run_whole([program, "replay", SAMPLE], journal)
+    well = ended.status == 1 and ended.out == b"" and re.fullmatch(rb"line %d column (\d+): (.*)\n-:%d:\1: \2\n" % (line, line), ended.err)
     return None if well else f"it ended otherwise: {ended}"
 
 
 def refused_by(program, journal, entry):
-    ended = run([program, "replay", SAMPLE], journal)
-    well = ended.status == 1 and ended.out == b"" and ended.err.startswith(b"entry %d: owed" % entry)
+    ended = run_whole([program, "replay", SAMPLE], journal)
+    well = ended.status == 1 and ended.out == b"" and re.fullmatch(rb"(entry %d: owed.*)\n-:%d:1: \1\n" % (entry, entry + 1), ended.err)
     return None if well else f"it ended otherwise: {ended}"
 
 
@@ -221,14 +222,14 @@ def shown(trials, program, room):
     def told(name):
         """The entries of the audit in order, and behind each that failed just what the run tells of it, but for the line's number."""
         script = [it for it in scripts[name] if it != "audit"]
-        ran = run([program, "run", SAMPLE, "--explain"], text([*script, "audit"]))
+        ran = run_whole([program, "run", SAMPLE, "--explain"], text([*script, "audit"]))
         replies = ran.out.decode().splitlines()
         entries = replies[max(place for place, it in enumerate(replies) if it.startswith("audit ")) + 1 :]
         came = run([program, "explain", SAMPLE, "--journal", file_of(name)])
         lines = came.out.decode().splitlines()
         left = [it for it in lines if it in entries]
         why = [it for it in lines if it not in entries]
-        bare = lambda it: it.split(": ", 1)[1] if it.startswith("line ") else it
+        bare = lambda it: it.split(": ", 1)[1] if it.startswith(("line ", "-:")) else it
         ran_why = [bare(it) for it in ran.err.decode().splitlines()]
         missing = [it for it in map(bare, why) if it not in ran_why]
         failures = sum(any(f" {word} " in f" {it} " for word in ("denied", "faulted", "failed")) for it in entries)
@@ -250,6 +251,16 @@ def shown(trials, program, room):
         ended = run([program, *words, "--journal", "-"], harm)
         return None if ended.status == 1 and not ended.out and ended.err.startswith(b"line %d column " % line) else f"{ended}"
 
+    with open(f"{room}/cut.journal", "wb") as it:
+        it.write(rows[0] + b"\n" + rows[1] + b"\n")
+
+    def caused(words):
+        """Behind the fault stands its place in the file, unless that is left out."""
+        fault, cause = b"line 3 column 1: the journal has no last line\n", f"{room}/cut.journal:3:1: the journal has no last line\n".encode()
+        told, quiet = (run_whole([program, *words, "--journal", f"{room}/cut.journal", *option]) for option in ([], ["--quiet"]))
+        return None if (told, quiet) == (Ended(1, b"", fault + cause), Ended(1, b"", fault)) else f"{told}, {quiet}"
+
+    trials.every("behind a journal's fault stands its cause, with its place in the file", caused, [["replay", SAMPLE], ["picture", SAMPLE], ["explain", SAMPLE]])
     chance = random.Random(1)
     trials.every("one with a fault is not shown, and the fault told as replay tells it", refused, [(words, harmed(rows, chance)) for words in (["picture", SAMPLE], ["explain", SAMPLE]) for _ in range(40)])
     bad, worse = f"{room}/bad.toml", f"{room}/worse.toml"

@@ -136,7 +136,15 @@ fn replay(alloc: Global, journal: &str, entries: u64) -> Result<(), Fault> {
     let mut out = Vec::new(alloc);
     let mut err = Vec::new(alloc);
     let policies = policies(alloc)?;
-    let ended = replay_journal(alloc, policies, false, &mut reader, &mut out, &mut err);
+    let ended = replay_journal(
+        alloc,
+        policies,
+        false,
+        None,
+        &mut reader,
+        &mut out,
+        &mut err,
+    );
     let wanted = format!(in alloc; "legal {entries} entries\n")?;
     if ended == Status::Done && out.as_slice() == wanted.as_bytes() {
         Ok(())

@@ -1,5 +1,6 @@
 //! Journals in files, and on standard input.
 
+use crate::causes::Causes;
 use crate::explaining::PolicyFile;
 use crate::further::read_files;
 use crate::perform::{STANDARD_INPUT, read_file, unmade_file, unread};
@@ -14,13 +15,6 @@ use std::io;
 pub enum Shown<'a> {
     Drawn { span: Span, output: Option<&'a str> },
     Told,
-}
-
-impl Shown<'_> {
-    // Whether all is told, and so of a policy's fault what is wrong there.
-    fn is_told(self) -> bool {
-        matches!(self, Shown::Told)
-    }
 }
 
 // Reads the further policies after a policy: the name of the file that can't be read, and why.
@@ -41,37 +35,43 @@ fn draw_into<R: io::Read>(
     policies: JournalPolicies,
     span: Span,
     output: Option<&str>,
-    explains: bool,
+    causes: Causes,
+    named: Option<&str>,
     journal: &mut R,
 ) -> Status {
     let alloc = rt.alloc();
     let mut err = rt.stderr();
     let Some(name) = output else {
-        return draw_journal(alloc, policies, span, journal, &mut rt.stdout(), &mut err);
+        let mut out = rt.stdout();
+        return draw_journal(alloc, policies, span, named, journal, &mut out, &mut err);
     };
     match File::create(rt, name) {
-        Ok(mut file) => draw_journal(alloc, policies, span, journal, &mut file, &mut err),
-        Err(error) => unmade_file(rt, name, explains, &error),
+        Ok(mut file) => draw_journal(alloc, policies, span, named, journal, &mut file, &mut err),
+        Err(error) => unmade_file(rt, name, causes, &error),
     }
 }
 
-// Shows a journal over the policies in files.
+// Shows a journal of a name over the policies in files.
 fn show_over<R: io::Read>(
     rt: &HostRuntime,
     file: PolicyFile<'_>,
     further: Further<'_>,
     shown: Shown<'_>,
-    explains: bool,
+    causes: Causes,
+    name: &str,
     journal: &mut R,
 ) -> Status {
     let alloc = rt.alloc();
     let mut err = rt.stderr();
-    match read_policies(alloc, file, further, explains || shown.is_told()) {
+    let named = causes.named(name);
+    match read_policies(alloc, file, further, causes) {
         Ok(policies) => match shown {
             Shown::Drawn { span, output } => draw_into(
-                rt, policies, span, output, explains, journal,
+                rt, policies, span, output, causes, named, journal,
             ),
-            Shown::Told => tell_journal(alloc, policies, journal, &mut rt.stdout(), &mut err),
+            Shown::Told => {
+                tell_journal(alloc, policies, named, journal, &mut rt.stdout(), &mut err)
+            }
         },
         Err(blame) => name_blame(alloc, blame, &mut err),
     }
@@ -83,35 +83,35 @@ fn show_in(
     file: PolicyFile<'_>,
     further: Further<'_>,
     shown: Shown<'_>,
-    explains: bool,
+    causes: Causes,
     journal: &str,
 ) -> Status {
     if journal == STANDARD_INPUT {
-        return show_over(rt, file, further, shown, explains, &mut rt.stdin());
+        return show_over(rt, file, further, shown, causes, journal, &mut rt.stdin());
     }
     match File::open(rt, journal) {
-        Ok(mut opened) => show_over(rt, file, further, shown, explains, &mut opened),
-        Err(error) => unread(rt, journal, explains, &error),
+        Ok(mut opened) => show_over(rt, file, further, shown, causes, journal, &mut opened),
+        Err(error) => unread(rt, journal, causes, &error),
     }
 }
 
-/// Shows the journal in a file over the policy in another, without making its calls. If it explains, it tells which file can't
-/// be read, and why.
+/// Shows the journal in a file over the policy in another, without making its calls. If causes are told, it tells which
+/// file can't be read, and why, and where a fault lies.
 pub fn show_journal(
     rt: &HostRuntime,
     policy: &str,
     names: &[&str],
     shown: Shown<'_>,
-    explains: bool,
+    causes: Causes,
     journal: &str,
 ) -> Status {
     let text = match read_file(rt, policy) {
         Ok(text) => text,
-        Err(error) => return unread(rt, policy, explains, &error),
+        Err(error) => return unread(rt, policy, causes, &error),
     };
     let mut texts = Vec::new(rt.alloc());
     if let Err((name, error)) = read_further(rt, names, &mut texts) {
-        return unread(rt, name.unwrap_or(policy), explains, &error);
+        return unread(rt, name.unwrap_or(policy), causes, &error);
     }
     let file = PolicyFile {
         name: policy,
@@ -121,5 +121,5 @@ pub fn show_journal(
         names,
         texts: texts.as_slice(),
     };
-    show_in(rt, file, further, shown, explains, journal)
+    show_in(rt, file, further, shown, causes, journal)
 }

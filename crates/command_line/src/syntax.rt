@@ -66,6 +66,9 @@ pub const ALWAYS: &str = "always";
 /// That it is never told why, on a terminal too.
 pub const NEVER: &str = "never";
 
+/// The option by which no cause is told behind the line that names a fault.
+pub const QUIET: &str = "quiet";
+
 /// The argument that names the file of a kernel's text.
 pub const FILE: &str = "FILE";
 
@@ -222,7 +225,13 @@ const AUDIT_PLACES: Argument = argument!(
 const EXPLAINING: Argument = argument!(
     EXPLAIN,
     Takes::When,
-    "Tells on standard error after each fault, refusal and denial why, and\nwhat mends it; if not given, where standard error is a\nterminal"
+    "Tells on standard error after each refusal and denial why, and what\nmends it; if not given, where standard error is a\nterminal"
+);
+
+const QUIETLY: Argument = argument!(
+    QUIET,
+    Takes::Nothing,
+    "Leaves out the cause of a fault, the line FILE:LINE:COLUMN: behind it on\nstandard error"
 );
 
 const SCRIPT_FILE: Argument = argument!(
@@ -237,7 +246,7 @@ const JOURNAL_FILE: Argument = argument!(
     "The file of the journal; standard input if not given"
 );
 
-const CHECK_ARGUMENTS: [Argument; 4] = [
+const CHECK_ARGUMENTS: [Argument; 5] = [
     POLICY_FILE,
     argument!(
         LIST,
@@ -250,9 +259,10 @@ const CHECK_ARGUMENTS: [Argument; 4] = [
         "Lists it as JSON, on one line (docs/json.md)"
     ),
     EXPLAINING,
+    QUIETLY,
 ];
 
-const RUN_ARGUMENTS: [Argument; 9] = [
+const RUN_ARGUMENTS: [Argument; 10] = [
     POLICY_FILE,
     FURTHER_FILES,
     SCRIPT_FILE,
@@ -278,9 +288,10 @@ const RUN_ARGUMENTS: [Argument; 9] = [
         "Writes the history into this file as it goes, for `replay`; the audit is\nrotated then"
     ),
     EXPLAINING,
+    QUIETLY,
 ];
 
-const REPLAY_ARGUMENTS: [Argument; 5] = [
+const REPLAY_ARGUMENTS: [Argument; 6] = [
     POLICY_FILE,
     FURTHER_FILES,
     JOURNAL_FILE,
@@ -290,9 +301,10 @@ const REPLAY_ARGUMENTS: [Argument; 5] = [
         "Prints the state after the last entry, too"
     ),
     EXPLAINING,
+    QUIETLY,
 ];
 
-const PICTURE_ARGUMENTS: [Argument; 10] = [
+const PICTURE_ARGUMENTS: [Argument; 11] = [
     POLICY_FILE,
     FURTHER_FILES,
     SCRIPT_FILE,
@@ -325,9 +337,10 @@ const PICTURE_ARGUMENTS: [Argument; 10] = [
         not with [AUDIT, SCRIPT]
     ),
     EXPLAINING,
+    QUIETLY,
 ];
 
-const KERNEL_ARGUMENTS: [Argument; 3] = [
+const KERNEL_ARGUMENTS: [Argument; 4] = [
     argument!(FILE, Takes::Word, "The file of the kernel's text"),
     argument!(
         STEPS,
@@ -335,29 +348,32 @@ const KERNEL_ARGUMENTS: [Argument; 3] = [
         "Lists in place of the text the steps that it was turned into, as cases\nhave them"
     ),
     EXPLAINING,
+    QUIETLY,
 ];
 
-const EMBED_ARGUMENTS: [Argument; 2] = [
+const EMBED_ARGUMENTS: [Argument; 3] = [
     argument!(
         POLICY,
         Takes::Word,
         "The policy file; a row of kernels may name a file by `text_file`, from its folder on"
     ),
     EXPLAINING,
+    QUIETLY,
 ];
 
-const BEGIN_ARGUMENTS: [Argument; 2] = [
+const BEGIN_ARGUMENTS: [Argument; 3] = [
     argument!(
         KERNEL_FILES,
         Takes::Some(MOST_FILES),
         "The files of kernels' texts, at most 64; - is standard input"
     ),
     EXPLAINING,
+    QUIETLY,
 ];
 
-const ASSEMBLE_ARGUMENTS: [Argument; 3] = [POLICY_FILE, SCRIPT_FILE, EXPLAINING];
+const ASSEMBLE_ARGUMENTS: [Argument; 4] = [POLICY_FILE, SCRIPT_FILE, EXPLAINING, QUIETLY];
 
-const EXPLAIN_ARGUMENTS: [Argument; 3] = [
+const EXPLAIN_ARGUMENTS: [Argument; 4] = [
     argument!(
         WORD,
         Takes::Word,
@@ -373,9 +389,10 @@ const EXPLAIN_ARGUMENTS: [Argument; 3] = [
         Takes::Value("FILE"),
         "Tells the journal in this file, - for standard input, over the policy\nin WORD: its entries, and why packets were denied or failed"
     ),
+    QUIETLY,
 ];
 
-const DECODE_ARGUMENTS: [Argument; 4] = [
+const DECODE_ARGUMENTS: [Argument; 5] = [
     argument!(
         DIGITS,
         Takes::Words(MOST_PARTS),
@@ -393,9 +410,10 @@ const DECODE_ARGUMENTS: [Argument; 4] = [
         "The policy file: what its kernels, signals and addresses are called is\ntold, too"
     ),
     EXPLAINING,
+    QUIETLY,
 ];
 
-const THREADS_ARGUMENTS: [Argument; 5] = [
+const THREADS_ARGUMENTS: [Argument; 6] = [
     POLICY_FILE,
     argument!(
         PRODUCERS,
@@ -413,6 +431,7 @@ const THREADS_ARGUMENTS: [Argument; 5] = [
         "Writes the history into this file as it goes, for `replay`"
     ),
     EXPLAINING,
+    QUIETLY,
 ];
 
 // An argument that takes a word, which must be given.

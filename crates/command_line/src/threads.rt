@@ -1,6 +1,7 @@
 //! The command that runs the load of threads over a policy.
 
 use crate::author::{fails, told};
+use crate::causes::Causes;
 use crate::explaining::{PolicyFile, tell};
 use crate::policies::{judge, name_blame};
 use access_core::Kernel;
@@ -44,8 +45,9 @@ pub struct AskedLoad {
     pub producers: u64,
     /// How many packets each publishes, if it is said; else 8.
     pub packets: Option<u64>,
-    /// Whether it is told beside a fault or the report why.
+    /// Whether it is told behind the report why it ended so, and how causes of faults are.
     pub explains: bool,
+    pub causes: Causes,
     /// Whether it is told now and then how far the load is.
     pub is_counted: bool,
 }
@@ -354,9 +356,9 @@ fn run_judged<R: Threads + Wait + Sync, C: Clock, J: io::Write, O: io::Write, E:
 }
 
 /// Runs the load of threads over the policy in a file, with so many producers a queue: its report goes to `out`. A fault
-/// of the policy or of a kernel is told on `err` as `run_policy` does. If it explains, it is told on `err` where a fault
-/// lies and what may stand there, and after the report why it ended so and, where a number of packets is asked for, how
-/// many were finished a second. Its history goes to the journal as it comes, if there is one. A journal that can't be
+/// of the policy or of a kernel is told on `err` as `run_policy` does. If causes are told, it is told on `err` where a
+/// fault lies and what may stand there; if it explains, after the report why it ended so and, where a number of packets is
+/// asked for, how many were finished a second. Its history goes to the journal as it comes, if there is one. A journal that can't be
 /// written ends the load, as a report that can't be does.
 pub fn run_threads<R: Threads + Wait + Sync, C: Clock, J: io::Write, O: io::Write, E: io::Write>(
     rt: &R,
@@ -368,7 +370,7 @@ pub fn run_threads<R: Threads + Wait + Sync, C: Clock, J: io::Write, O: io::Writ
     out: &mut O,
     err: &mut E,
 ) -> Status {
-    match judge(alloc, file, asked.explains) {
+    match judge(alloc, file, asked.causes) {
         Ok(judged) => run_judged(
             rt, clock, alloc, file.text, judged, asked, journal, out, err,
         ),

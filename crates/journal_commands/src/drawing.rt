@@ -79,14 +79,17 @@ fn page_told<R: io::Read>(
 }
 
 /// Draws a journal over its policies, without making its calls: on `out` stands the page of its entries, of which these are
-/// asked for; else on `err` why there is none, as the first line that can't be read.
+/// asked for; else on `err` why there is none, as the first line that can't be read, and its place in the
+/// journal's file, if that is named.
 pub fn draw_journal<R: io::Read, O: io::Write, E: io::Write>(
     alloc: Global,
     policies: JournalPolicies,
     span: Span,
+    named: Option<&str>,
     journal: &mut R,
     out: &mut O,
     err: &mut E,
 ) -> Status {
-    pass_on(alloc, page_told(alloc, policies, span, journal), out, err)
+    let told = page_told(alloc, policies, span, journal);
+    pass_on(alloc, told, named, out, err)
 }

@@ -78,11 +78,12 @@ fn replayed<R: io::Read>(
 
 /// Replays a journal over its policies. On `out` stands `legal N entries` where they are a whole legal history, and after it,
 /// if it is asked for, the state that they lead to; else on `err` why not: the first line that can't be read, or the first
-/// entry that isn't what it was owed.
+/// entry that isn't what it was owed, and behind that its place in the journal's file, if that is named.
 pub fn replay_journal<R: io::Read, O: io::Write, E: io::Write>(
     alloc: Global,
     policies: JournalPolicies,
     tells_state: bool,
+    named: Option<&str>,
     journal: &mut R,
     out: &mut O,
     err: &mut E,
@@ -90,26 +91,29 @@ pub fn replay_journal<R: io::Read, O: io::Write, E: io::Write>(
     pass_on(
         alloc,
         replayed(alloc, policies, tells_state, journal),
+        named,
         out,
         err,
     )
 }
 
-/// Writes what is told of a journal on `out`, or on `err` why it isn't let pass, and says how the command ends.
+/// Writes what is told of a journal on `out`, or on `err` why it isn't let pass, with the place in its file, if that is named,
+/// and says how the command ends.
 pub fn pass_on<O: io::Write, E: io::Write>(
     alloc: Global,
     told: Result<String, Fault>,
+    named: Option<&str>,
     out: &mut O,
     err: &mut E,
 ) -> Status {
     match told {
         Ok(text) => {
             if out.write_all(text.as_bytes()).is_err() || out.flush().is_err() {
-                tell_fault(alloc, Fault::Failure(Failure::Write), err)
+                tell_fault(alloc, Fault::Failure(Failure::Write), named, err)
             } else {
                 Status::Done
             }
         }
-        Err(fault) => tell_fault(alloc, fault, err),
+        Err(fault) => tell_fault(alloc, fault, named, err),
     }
 }

@@ -92,13 +92,20 @@ fn journal_told<R: io::Read>(
 
 /// Tells a journal over its policies, without making its calls: on `out` stands each entry as `audit` shows it, and after one
 /// that was denied, faulted or failed why, as a run that explains tells it; else on `err` why there is nothing to tell, as the
-/// first line that can't be read.
+/// first line that can't be read, and its place in the journal's file, if that is named.
 pub fn tell_journal<R: io::Read, O: io::Write, E: io::Write>(
     alloc: Global,
     policies: JournalPolicies,
+    named: Option<&str>,
     journal: &mut R,
     out: &mut O,
     err: &mut E,
 ) -> Status {
-    pass_on(alloc, journal_told(alloc, policies, journal), out, err)
+    pass_on(
+        alloc,
+        journal_told(alloc, policies, journal),
+        named,
+        out,
+        err,
+    )
 }
