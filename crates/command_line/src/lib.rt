@@ -16,6 +16,7 @@ mod further;
 mod help;
 mod listing;
 mod making;
+mod marks;
 mod meanings;
 mod naming;
 mod perform;
