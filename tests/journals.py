@@ -4,7 +4,8 @@
 The journal of each script, and of each case of a script (docs/cases.md), replays, and leads to the state that a second
 reading (examples/replay.py) derives from it. Of one, each byte is turned, and each line dropped, doubled, and exchanged with
 the next; of each case's, one of these is done: all are refused, with the line. With a changed outcome or change, and all
-digests made anew, they are refused by that entry. A journal is drawn as the run that wrote it, and told as its audit.
+digests made anew, they are refused by that entry. A journal is drawn as the run that wrote it, but for the marks of lines that were
+refused, and told as its audit.
 """
 import hashlib
 import os
@@ -15,6 +16,7 @@ import tempfile
 
 import against
 import commands
+import picture
 from trial import FILL, KERNEL, PRELUDE, SAMPLE, TOP, Ended, Trials, program_given, run, run_whole, text
 
 sys.path.insert(0, f"{TOP}/examples")
@@ -206,7 +208,7 @@ def case_replays(trials, program, room):
 
 
 def shown(trials, program, room):
-    """A journal is drawn as the run that wrote it, and told as its audit, with why of what failed."""
+    """A journal is drawn as the run that wrote it but for the marks of refused lines, and told as its audit, with why of what failed."""
     scripts = {"fill": [*PRELUDE, f"submit 1 1 {FILL}", "serve 1", "run 1 0", "finish 1 0"], "forms": commands.FORMS, "kernels": commands.KERNELS, "nothing": []}
 
     for name, script in scripts.items():
@@ -216,6 +218,7 @@ def shown(trials, program, room):
     def drawn(it):
         name, words = it
         wanted = run([program, "picture", SAMPLE, *words], text(scripts[name]))
+        wanted.out = picture.unmarked(wanted.out)
         came = run([program, "picture", SAMPLE, *words, "--journal", file_of(name)])
         return None if came == wanted and came.status == 0 else f"{came}, and not {wanted}"
 
@@ -237,7 +240,7 @@ def shown(trials, program, room):
             return f"{missing} missing, {failures} failures: {came}"
         return None
 
-    trials.every("a journal is drawn as the run that wrote it", drawn, [(name, words) for name in scripts for words in ([], ["--from", "3"], ["--to", "6"], ["--from", "2", "--to", "4"])])
+    trials.every("a journal is drawn as the run that wrote it, without marks of refused lines", drawn, [(name, words) for name in scripts for words in ([], ["--from", "3"], ["--to", "6"], ["--from", "2", "--to", "4"])])
     trials.every("a journal is told as its audit, with why of what failed", told, scripts)
     fill = file_of("fill")
     with open(fill, "rb") as it:

@@ -17,6 +17,7 @@ mod further;
 mod help;
 mod listing;
 mod making;
+mod marks;
 mod meanings;
 mod naming;
 mod perform;
