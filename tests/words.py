@@ -287,6 +287,10 @@ def walked(trials, program, room):
         ('< "$2"', b"", "read fault\n-:1:1: the script can't be read: a file or a pipe is asked for, and no directory\n"),
         ("> /dev/full", b"audit\n", "write fault\nstandard output:1:1: what is replied can't be written there\n"),
     ])
+    limited = lambda it: None if run_whole(["sh", "-c", f'ulimit -v 65536; exec "$0" run "$1" --audit {it[0]}', program, SAMPLE], b"audit\n") == it[1] else f"{it}"
+    trials.every("where memory is wanted, the option is named by which a run takes less", limited, [
+        (DEFAULT, Ended(0, b"audit 0\n", b"")), (MOST, Ended(3, b"", b"no memory\n-:1:1: with a smaller `--audit N` it takes less memory\n")),
+    ])
 
     def listed(it):
         word, count, named = it

@@ -4,7 +4,7 @@ use crate::causes::Causes;
 use crate::explaining::PolicyFile;
 use crate::marks::Marker;
 use crate::perform::{STANDARD_INPUT, failed, read_file, unmade_file, unread};
-use crate::policies::{Further, name_blame, open_run};
+use crate::policies::{Blame, Further, name_blame, open_run};
 use crate::request::Reads;
 use crate::session::GREETING;
 use crate::terminal::{Beside, TerminalReader};
@@ -26,6 +26,9 @@ use world::World;
 /// What is told where standard input has a policy, and a script is asked of it.
 const NO_SCRIPT: &str =
     "the policy is read from standard input, where no script is left: name the policy's file";
+
+/// What is told where a run wants memory.
+const LESS_MEMORY: &str = "with a smaller `--audit N` it takes less memory";
 
 /// How a script is run: with places for so many entries in the audit, up to the first line that isn't done, if it is
 /// strict, and with causes told beside its replies and behind faults, as is said; or with a picture of these entries in
@@ -170,10 +173,7 @@ fn stream_why<'a, F: Drop>(
             files.output.unwrap_or("standard output"),
             "what is replied can't be written there",
         )),
-        Err(RunFault::Script(ScriptFault::OutOfMemory)) => Some(Why::of_file(
-            script,
-            "with a smaller `--audit N` it takes less memory",
-        )),
+        Err(RunFault::Script(ScriptFault::OutOfMemory)) => Some(Why::of_file(script, LESS_MEMORY)),
         _ => None,
     }
 }
@@ -336,7 +336,22 @@ fn open(rt: &HostRuntime, file: PolicyFile<'_>, manner: Manner<'_>) -> Result<Op
     let further = manner.files.further;
     match open_run(rt.alloc(), file, further, manner.causes, manner.places) {
         Ok(opened) => Ok(opened),
-        Err(blame) => Err(name_blame(rt.alloc(), blame, &mut rt.stderr())),
+        Err(blame) => {
+            let why = memory_why(manner, &blame);
+            let status = name_blame(rt.alloc(), blame, &mut rt.stderr());
+            tell_stream(rt, why, manner.causes);
+            Err(status)
+        }
+    }
+}
+
+// Why no world was opened, where memory was wanted for it.
+fn memory_why<'a>(manner: Manner<'a>, blame: &Blame) -> Option<Why<'a>> {
+    if blame.wants_memory() {
+        let script = manner.files.script.unwrap_or(STANDARD_INPUT);
+        Some(Why::of_file(script, LESS_MEMORY))
+    } else {
+        None
     }
 }
 

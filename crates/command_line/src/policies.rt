@@ -51,6 +51,13 @@ pub struct Blame {
     told: Result<String, AllocError>,
 }
 
+impl Blame {
+    /// Whether memory was wanted and not to be had.
+    pub fn wants_memory(&self) -> bool {
+        self.failure == Failure::OutOfMemory
+    }
+}
+
 // What is told of the fault of the policy of a place.
 fn policy_told(
     alloc: Global,

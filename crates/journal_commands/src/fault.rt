@@ -31,7 +31,8 @@ impl Harm {
 
     // The line that tells it.
     fn said(&self, alloc: Global) -> Result<String, AllocError> {
-        let Harm { line, column, .. } = self;
+        let line = self.line;
+        let column = self.column;
         let cause = self.whole_cause(alloc)?;
         let cause = cause.as_str();
         match self.entry {
