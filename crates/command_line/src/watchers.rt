@@ -208,7 +208,8 @@ impl<'a, 'p, E: io::Write> Teller<'a, 'p, E> {
 
     // Puts what is told of a line of no form behind the rest, and this behind it, if there is memory for it.
     fn put_line(&mut self, number: u64, line: &[u8], wanted: &str, behind: &str) {
-        if let Ok(told) = self.telling.lines.form(number, line, wanted, behind) {
+        let telling = self.telling;
+        if let Ok(told) = telling.lines.form(number, line, wanted, behind) {
             let _ = self.told.push_str(told.as_str());
         }
     }
