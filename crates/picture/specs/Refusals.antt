@@ -29,14 +29,19 @@ text_of_key = KEY.now
 abbrev pub text_of_begin : List ℕ
 text_of_begin = codes "<g class=\"refused\"><title>"
 
+-- a cross, as high as a mark
+abbrev pub text_of_cross : ℕ → ℕ → ℕ → List ℕ
+text_of_cross x y width =
+    codes "<path d=\"M" ++ decimal x ++ codes " " ++ decimal y ++ codes "l" ++ decimal width ++ codes " 12m0 -12l-" ++ decimal width
+    ++ codes " 12\"/>"
+
 -- the mark behind the entry at a place: a cross right of it, up to the next one, in a box that isn't seen and that the pointer meets
 unfoldable pub text_of_mark : Frame → ℕ → List ℕ
 text_of_mark frame at =
     codes "</title>"
     ++ text_of_rectangle (left_of frame at + width_of_mark frame) (shift_of frame (band_of frame at) + (HOSTS + HEAD)) (width_of_mark frame) MARK
-    ++ codes "<path d=\"M" ++ decimal (left_of frame at + width_of_mark frame) ++ codes " "
-    ++ decimal (shift_of frame (band_of frame at) + (HOSTS + HEAD)) ++ codes "l" ++ decimal (width_of_mark frame) ++ codes " " ++ decimal MARK
-    ++ codes "m0 -" ++ decimal MARK ++ codes "l-" ++ decimal (width_of_mark frame) ++ codes " " ++ decimal MARK ++ codes "\"/></g>\n"
+    ++ text_of_cross (left_of frame at + width_of_mark frame) (shift_of frame (band_of frame at) + (HOSTS + HEAD)) (width_of_mark frame)
+    ++ codes "</g>\n"
 
 -- what stands before a line that is drawn at a place, behind those at another or at the same
 abbrev pub text_between : Frame → Option ℕ → ℕ → List ℕ

@@ -1,7 +1,7 @@
 //! The lines of a script that were refused, each behind the entry that it came behind.
 
 ghost use Rattle.std.specs.Prelude.{◌≡◌, ◌++◌, OnOk, None, string_bytes};
-ghost use Rattle.picture.specs.Refusals.{place_behind, later_place, text_of_key, text_of_begin, text_of_mark, text_between, text_of_told, text_at, text_of_end, text_of_refusals};
+ghost use Rattle.picture.specs.Refusals.{place_behind, later_place, text_of_key, text_of_begin, text_of_cross, text_of_mark, text_between, text_of_told, text_at, text_of_end, text_of_refusals};
 
 use crate::element::Frame;
 use crate::escape::write_escaped;
@@ -62,6 +62,13 @@ fn write_begin(out: &mut String) -> Result<(), AllocError>
     out.push_str("<g class=\"refused\"><title>")
 }
 
+// Writes a cross, as high as a mark.
+fn write_cross(out: &mut String, x: u64, y: u128, width: u64) -> Result<(), AllocError>
+    ensures { OnOk result (string_bytes out.new ≡ string_bytes out.old ++ text_of_cross x y width) }
+{
+    write!(out, "<path d=\"M{x} {y}l{width} 12m0 -12l-{width} 12\"/>")
+}
+
 // Writes the mark behind the entry at a place, where what is said under the pointer ends: the pointer meets all of its box.
 #[tactic(auto, unfolding(crate::specs::Refusals::text_of_mark))]
 fn write_mark(out: &mut String, frame: &Frame, at: u32) -> Result<(), AllocError>
@@ -72,10 +79,8 @@ fn write_mark(out: &mut String, frame: &Frame, at: u32) -> Result<(), AllocError
     let y = shift_of(frame, band_of(frame, at) as u64) + (HOSTS + HEAD) as u128;
     out.push_str("</title>")?;
     write_rectangle(out, x, y, width, MARK as u128)?;
-    writeln!(
-        out,
-        "<path d=\"M{x} {y}l{width} {MARK}m0 -{MARK}l-{width} {MARK}\"/></g>"
-    )
+    write_cross(out, x, y, width)?;
+    out.push_str("</g>\n")
 }
 
 // Writes what stands before a line that is drawn at a place, behind those at another or at the same.
@@ -153,5 +158,6 @@ pub(crate) fn write_refusals(
         write_at(out, frame, last, place, line)?;
         last = later_place(last, place);
     }
-    write_end(out, frame, last)
+    write_end(out, frame, last)?;
+    Ok(())
 }

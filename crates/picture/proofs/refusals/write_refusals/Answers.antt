@@ -10,4 +10,4 @@ lines-preserved c =
 
 pub returns : goal.returns
 returns c =
-    refusals_all c.args.frame.now c.args.count c.lines.last c.lines.index c.args.refused.now _ (omega arith) c.write_end.ensures c.lines.invariant
+    refusals_all c.args.frame.now c.args.count c.lines.last c.lines.index c.args.refused.now _ (omega arith) c.in_ok-write_end.ensures c.lines.invariant
