@@ -125,7 +125,8 @@ class TextTrial:
         if self.row.form == "strict" and "--journal" in self.row.words and ended.out.endswith(f"{WANT}\n".encode()) and (ended.status, ended.err) == (3, NO_MEMORY):
             # (a line was refused, and the journal's last line wanted memory, too)
             return self.is_refused(Ended(1, ended.out, b""))
-        is_over = self.row.form == "threads" and ended == self.whole
+        # (of a fault the line of its cause alone may want memory, which goes without)
+        is_over = ended == self.whole and (self.row.form == "threads" or self.whole.status == 1)
         return None if is_over or self.is_unsettled(ended) else starves(ended, self.whole)
 
     def note(self):
