@@ -66,7 +66,8 @@ fn write_begin(out: &mut String) -> Result<(), AllocError>
 fn write_cross(out: &mut String, x: u64, y: u128, width: u64) -> Result<(), AllocError>
     ensures { OnOk result (string_bytes out.new ≡ string_bytes out.old ++ text_of_cross x y width) }
 {
-    write!(out, "<path d=\"M{x} {y}l{width} 12m0 -12l-{width} 12\"/>")
+    write!(out, "<path d=\"M{x} {y}l{width}")?;
+    write!(out, " 12m0 -12l-{width} 12\"/>")
 }
 
 // Writes the mark behind the entry at a place, where what is said under the pointer ends: the pointer meets all of its box.
