@@ -306,6 +306,7 @@ KERNELS = [
     ("a missing bracket", "  ld_global_u32 $s0, $d0];", [":7:21: ", "; a `[` is missing here: the form is `ld_global_u32 d, [address]`\n"]),
     ("a missing end of brackets", "  st_global_u32 1, [$d0;", [":7:24: ", "; a `]` is missing here: the form is `st_global_u32 a, [address]`\n"]),
     ("what goes on behind a register", "  st_global_u32 1, [$d0 4];", [":7:25: ", "; a `]` or an offset such as `+4` is wanted here: the form is `st_global_u32 a, [address]`\n"]),
+    ("a missing comma before an argument", "  ld_kernarg_u32 $s0 [%a];", [":7:21: ", "; a comma is missing here: the form is `ld_kernarg_u32 d, [%p]`\n"]),
     ("a constant that is written", "  mov_b32 1, $s0;", [":7:11: ", "; a register is wanted here: the form is `mov_b32 d, a`\n"]),
     ("a label without its sign", "  br x;", [":7:6: ", "; a label such as `@x` is wanted here: the form is `br @x`\n"]),
     ("a label without its colon", "@x ret;", [":7:3: ", "; a `:` is missing here\n"]),

@@ -25,6 +25,9 @@ const OPERANDS: [Operands; 12] = [
     Operands("$s0,[0],$s0,$s0", " d, [address], a, b"),
 ];
 
+/// With what the words of loads begin that take an argument, and no other address.
+const KERNARG: &str = "ld_kernarg";
+
 /// What a piece of a word between its `_` is called, and which ones there are.
 #[derive(Clone, Copy)]
 struct Piece(&'static str, &'static [&'static str]);
@@ -80,7 +83,11 @@ pub fn put_form(alloc: Global, out: &mut String, statement: Part<'_>) -> Result<
         if cause_of(alloc, word, operands)?.is_none() {
             out.push_str(": the form is `")?;
             out.push_str(std::str::from_utf8(word).unwrap_or(""))?;
-            out.push_str(form)?;
+            out.push_str(if is_same(front(statement, KERNARG.len()).text, KERNARG.as_bytes()) {
+                " d, [%p]"
+            } else {
+                form
+            })?;
             return out.push_str("`");
         }
     }
