@@ -131,8 +131,8 @@ def try_faults(trials, program, room):
 
     named = ROW + 'text_file = "inc.hsail"\n'
     trials.every("a fault is told by its own file, line and column, and nothing is written", told, [
-        (named, BROKEN, 1, "{room}/inc.hsail:4:20: the kernel's text has a fault: Syntax"),
-        (named, LOST, 1, "{room}/inc.hsail:4:2: the kernel's text has a fault: UnknownLabel"),
+        (named, BROKEN, 1, "{room}/inc.hsail:4:19: the kernel's text has a fault: Syntax"),
+        (named, LOST, 1, "{room}/inc.hsail:4:5: the kernel's text has a fault: UnknownLabel"),
         (named, "", 1, "{room}/inc.hsail:1:1: the kernel's text has a fault: Syntax: no module goes on with this token; the text is empty"),
         (named, INC.encode() + b"//\xff\n", 1, f"{{room}}/inc.hsail:{len(INC.splitlines()) + 1}:3: this isn't UTF-8"),
         (named, INC + "//" + "a" * 65_536, 1, "{room}/inc.hsail:1:1: the kernel's text has a fault: TooLong"),
@@ -194,7 +194,7 @@ def try_policy(trials, program, room):
     trials.every("- is standard input", from_input, [f"{room}/inc.hsail"])
     refused = lambda it: None if (ended := run_whole([program, "policy", *(f"{room}/{file}" for file in it[0])])).status == it[1] and not ended.out and ended.err.decode().startswith(it[2].format(room=room)) else f"{ended}"
     trials.every("a fault is told by its file, line and column", refused, [
-        (["inc.hsail", "broken.hsail"], 1, "{room}/broken.hsail:4:20: the kernel's text has a fault: Syntax"),
+        (["inc.hsail", "broken.hsail"], 1, "{room}/broken.hsail:4:19: the kernel's text has a fault: Syntax"),
         (["none.hsail"], 1, "{room}/none.hsail:1:1: the text has no kernel\n"),
         (["nothing"], 3, "read fault\n{room}/nothing:1:1: there is no such file\n"), (["inc.hsail"] * 65, 2, "error: "), ([], 2, "error: "),
         (["two.hsail"] * 64, 1, "policy: 6 TooMany kernel 0\n"),

@@ -1,13 +1,14 @@
 //! What is wrong with a kernel's text: where that lies in its file, and what helps.
 
-use crate::classes::put_class;
+use crate::kernel_checks::put_check;
 use crate::kernel_texts::line_of;
-use crate::limits::put_limit;
+use crate::kernel_wants::{offset_of, put_wanted};
+use crate::kernel_words::put_lacking;
 use crate::positions::{File, Place, Position, begin, position_at, small};
+use crate::statements::{Part, behind};
 use crate::texts::put_word;
 use aql_packet::KernelObject;
-use hsail_reader::{ReadCause, ReadError, ReadFault, read_module};
-use kernel_check::CheckCause;
+use hsail_reader::{ReadCause, ReadFault};
 use kernel_listing::{TextFault, meaning_of};
 use policy::{Object, Policy};
 use std::alloc::{AllocError, Global};
@@ -68,21 +69,6 @@ fn position_in(text: &[u8], fault: TextFault) -> Position {
     }
 }
 
-// How many bytes stand before a place of a text.
-fn offset_of(text: &[u8], at: Position) -> usize {
-    let mut line = 1u32;
-    let mut start = 0usize;
-    for (index, byte) in text.iter().enumerate() {
-        if line < at.line && *byte == b'\n' {
-            line = line.saturating_add(1);
-            start = index.saturating_add(1);
-        }
-    }
-    start
-        .saturating_add(at.column.saturating_sub(1) as usize)
-        .min(text.len())
-}
-
 // Whether a byte goes on with a word or a number, a floating one too.
 fn goes_on(byte: u8) -> bool {
     matches!(byte, b'0'..=b'9' | b'A'..=b'Z' | b'a'..=b'z' | b'_' | b'.')
@@ -134,51 +120,42 @@ fn works_on_floating(word: &[u8]) -> bool {
     }
 }
 
-// How many bytes of a text stand before the blanks, and the remark to the line's end, at its end.
-fn trimmed(text: &[u8]) -> usize {
-    let mut end = 0usize;
-    let mut in_remark = false;
-    let mut last = 0u8;
-    for (index, byte) in text.iter().enumerate() {
-        if *byte == b'\n' {
-            in_remark = false;
-        } else if *byte == b'/' && last == b'/' && !in_remark {
-            in_remark = true;
-            end = end.min(index.saturating_sub(1));
-        } else if !in_remark && !matches!(*byte, b' ' | b'\t' | b'\r' | b'/') {
-            end = index.saturating_add(1);
-        }
-        last = *byte;
-    }
-    end
+// Adds what stands where no token begins to the output, as far as it is known.
+fn put_lexeme(out: &mut String, rest: &[u8]) -> Result<(), AllocError> {
+    out.push_str(match rest {
+        [b'/', b'*', ..] =>
+            "a remark that begins with `/*` ends with `*/`, and this one doesn't end\n",
+        [b'$', ..] => "a register is `$c`, `$s` or `$d` and a number from 0 to 63\n",
+        [b'0'..=b'9', ..] => "a number is 18446744073709551615 at the most\n",
+        [b'&' | b'%' | b'@', ..] => "a name begins behind this with a letter or `_`\n",
+        _ => "",
+    })
 }
 
-// Whether a text is read to its end, or past a place.
-fn is_read_on(alloc: Global, text: &[u8], at: Position) -> Result<bool, AllocError> {
-    match read_module(alloc, text) {
-        Ok(_) => Ok(true),
-        Err(ReadError::OutOfMemory) => Err(AllocError),
-        Err(ReadError::Fault(fault)) => {
-            let behind = at.column.saturating_add(1);
-            Ok(fault.line > at.line || (fault.line == at.line && fault.column > behind))
+// Adds what a text lacks that has a fault of a cause to the output, and tells where.
+fn put_lack(
+    alloc: Global,
+    out: &mut String,
+    text: &[u8],
+    fault: ReadFault,
+) -> Result<Option<Position>, AllocError> {
+    let at = Position {
+        line: fault.line,
+        column: fault.column,
+    };
+    let whole = Part { text, before: 0 };
+    let rest = behind(whole, offset_of(text, at));
+    match fault.cause {
+        ReadCause::Lexeme => {
+            put_lexeme(out, rest.text)?;
+            Ok(Some(at))
         }
-    }
-}
-
-// The place after the token before a fault, if the text is read on with a `;` there.
-fn missing_end(alloc: Global, text: &[u8], at: Position) -> Result<Option<Position>, AllocError> {
-    let (front, _) = text.split_at(offset_of(text, at).min(text.len()));
-    let before = trimmed(front).min(text.len());
-    let (front, rest) = text.split_at(before);
-    let mut mended = Vec::from_slice(alloc, front)?;
-    mended.push(b';')?;
-    for byte in rest {
-        mended.push(*byte)?;
-    }
-    if is_read_on(alloc, mended.as_slice(), at)? {
-        Ok(Some(position_at(text, before)))
-    } else {
-        Ok(None)
+        ReadCause::Syntax => put_wanted(alloc, out, text, at),
+        ReadCause::NotInProfile => match put_lacking(alloc, out, rest)? {
+            Some(place) => Ok(Some(position_at(text, place))),
+            None => Ok(None),
+        },
+        ReadCause::TooLong => Ok(None),
     }
 }
 
@@ -204,35 +181,7 @@ fn put_reading(
         out.push_str(" is a floating number, and the profile has none\n")?;
         return Ok(Some(position_at(text, front.len())));
     }
-    if fault.cause != ReadCause::Syntax {
-        return Ok(None);
-    }
-    let end = missing_end(alloc, text, at)?;
-    if end.is_some() {
-        out.push_str("a `;` is missing here\n")?;
-        return Ok(end);
-    }
-    put_end(out, text, at)
-}
-
-// Whether a text has nothing but blanks.
-fn is_blank(text: &[u8]) -> bool {
-    text.iter()
-        .all(|byte| matches!(*byte, b' ' | b'\t' | b'\r' | b'\n'))
-}
-
-// Adds that a text ends within its module to the output, if it does, and tells where that is.
-fn put_end(out: &mut String, text: &[u8], at: Position) -> Result<Option<Position>, AllocError> {
-    let (front, rest) = text.split_at(offset_of(text, at).min(text.len()));
-    if !is_blank(rest) {
-        return Ok(None);
-    }
-    out.push_str(if is_blank(front) {
-        "the text is empty: a module begins with `module &NAME:1:0:$base:$large:$default;`\n"
-    } else {
-        "the text ends here, and its module doesn't: a kernel ends with `};`\n"
-    })?;
-    Ok(Some(at))
+    put_lack(alloc, out, text, fault)
 }
 
 // Adds what helps with a fault of a text to the output, and tells where that lies; none where nothing is known to help.
@@ -244,15 +193,7 @@ fn put_help(
 ) -> Result<Option<Position>, AllocError> {
     match fault {
         TextFault::Read(fault) => put_reading(alloc, out, text, fault),
-        TextFault::Check(checked) if checked.cause == CheckCause::TooLarge => {
-            put_limit(alloc, out, text, checked.line)?;
-            Ok(Some(position_in(text, fault)))
-        }
-        TextFault::Check(checked) if checked.cause == CheckCause::WrongRegister => {
-            let shown = line_of(text, checked.line);
-            put_class(alloc, out, text, checked.line, shown)
-        }
-        TextFault::Check(_) => Ok(None),
+        TextFault::Check(fault) => put_check(alloc, out, text, fault),
     }
 }
 

@@ -1,11 +1,12 @@
 //! Which limit a kernel's text passes.
 
+use crate::statements::StatementKind;
 use hsail_reader::{
-    Address, Constant, DataType, Item, Kernel, Module, Operand, Operation, ReadError, Register,
-    RegisterClass, SegmentPlace, Source, read_module,
+    Address, Alignment, Constant, DataType, GroupVariable, Item, Kernel, Operand, Register,
+    RegisterClass, SegmentPlace, Source,
 };
 use kernel_check::{MAX_ARGUMENT_BYTES, MAX_GROUP_BYTES, MAX_INSTRUCTIONS, MAX_KERNELS};
-use std::alloc::{AllocError, Global};
+use std::alloc::AllocError;
 
 /// The greatest number of a register.
 const MOST_REGISTER: u64 = 63;
@@ -15,7 +16,7 @@ const MOST_DIMENSION: u64 = 2;
 
 /// A number in an instruction that is over its limit.
 #[derive(Clone, Copy)]
-enum Over {
+pub enum Over {
     Register(Register),
     Constant(DataType, Constant),
     Dimension(u64),
@@ -76,8 +77,8 @@ fn far_in(address: &Address) -> Option<Over> {
     }
 }
 
-// What is over a limit in an operand.
-fn over_in(operand: &Operand) -> Option<Over> {
+/// What is over a limit in an operand.
+pub fn over_in(operand: &Operand) -> Option<Over> {
     match operand {
         Operand::Target(target) => far(target.register),
         Operand::Source(source) => match source.source {
@@ -88,15 +89,6 @@ fn over_in(operand: &Operand) -> Option<Over> {
         Operand::Dimension(number) if *number > MOST_DIMENSION => Some(Over::Dimension(*number)),
         _ => None,
     }
-}
-
-// What is over a limit in the operands of an instruction: the first.
-fn over_of(operation: &Operation) -> Option<Over> {
-    let operands = operation.operands();
-    over_in(&operands.first)
-        .or(over_in(&operands.second))
-        .or(over_in(&operands.third))
-        .or(over_in(&operands.fourth))
 }
 
 // Adds the range of a type's bits to the output.
@@ -110,8 +102,16 @@ fn put_range(out: &mut String, kind: DataType) -> Result<(), AllocError> {
     writeln!(out, "a number of {bits} bits is -{depth} to {greatest}")
 }
 
-// Adds a number that is over its limit, and the limit, to the output.
-fn put_over(out: &mut String, over: Over) -> Result<(), AllocError> {
+/// The marks with which what is over a limit begins in its operand.
+pub fn marks_of(over: Over) -> &'static [u8] {
+    match over {
+        Over::Register(_) => b"$",
+        Over::Constant(_, _) | Over::Dimension(_) => b"0123456789+-",
+    }
+}
+
+/// Adds a number that is over its limit, and the limit, to the output.
+pub fn put_over(out: &mut String, over: Over) -> Result<(), AllocError> {
     match over {
         Over::Register(register) => {
             let number = register.number;
@@ -138,84 +138,93 @@ fn put_over(out: &mut String, over: Over) -> Result<(), AllocError> {
     }
 }
 
-// Adds which limit an item of a kernel passes to the output, if it stands in a line; whether it does.
-fn put_item(out: &mut String, item: &Item, line: u32) -> Result<bool, AllocError> {
-    match item {
-        Item::Instruction(instruction) if instruction.line == line => {
-            match over_of(&instruction.operation) {
-                Some(over) => put_over(out, over)?,
-                None => return Ok(false),
-            }
-        }
-        Item::Variable(variable) if variable.line == line => writeln!(
-            out,
-            "the group variables of a kernel take {MAX_GROUP_BYTES} bytes at the most"
-        )?,
-        _ => return Ok(false),
-    }
-    Ok(true)
+// Where what has a type, a count and an alignment ends behind so many bytes.
+fn end_behind(end: u64, kind: DataType, count: u64, align: Option<Alignment>) -> u64 {
+    let size = u64::from(kind.bits() / 8);
+    let wanted = match align {
+        Some(align) => u64::from(align.bytes()).max(size),
+        None => size,
+    };
+    let begin = end
+        .saturating_add(wanted.saturating_sub(1))
+        .checked_div(wanted)
+        .unwrap_or(0)
+        .saturating_mul(wanted);
+    begin.saturating_add(size.saturating_mul(count))
 }
 
-// Adds which limit the items of a kernel pass in a line to the output; whether one of them does.
-fn put_items(out: &mut String, items: &[Item], line: u32) -> Result<bool, AllocError> {
-    for item in items {
-        if put_item(out, item, line)? {
-            return Ok(true);
+/// The first argument of a kernel that ends behind the greatest argument block.
+pub fn argument_past(kernel: &Kernel) -> Option<usize> {
+    let mut end = 0u64;
+    for (index, argument) in kernel.arguments.as_slice().iter().enumerate() {
+        end = end_behind(end, argument.kind, 1, argument.align);
+        if end > u64::from(MAX_ARGUMENT_BYTES) {
+            return Some(index);
         }
     }
-    Ok(false)
+    None
 }
 
-// Whether a line is that of an argument of a kernel.
-fn has_argument(kernel: &Kernel, line: u32) -> bool {
-    kernel
-        .arguments
-        .as_slice()
-        .iter()
-        .any(|argument| argument.line == line)
-}
-
-// Adds which limit a kernel passes in a line to the output; whether one is known.
-fn put_kernel(out: &mut String, kernel: &Kernel, line: u32) -> Result<bool, AllocError> {
-    if put_items(out, kernel.items.as_slice(), line)? {
-        return Ok(true);
-    }
-    if has_argument(kernel, line) {
-        writeln!(
-            out,
-            "the arguments of a kernel take {MAX_ARGUMENT_BYTES} bytes at the most"
-        )?;
-        return Ok(true);
-    }
-    Ok(false)
-}
-
-// Adds which limit a module passes in a line to the output.
-fn put_module(out: &mut String, module: &Module, line: u32) -> Result<(), AllocError> {
-    for (index, kernel) in module.kernels.as_slice().iter().enumerate() {
-        if index >= MAX_KERNELS && kernel.line == line {
-            return writeln!(out, "a module has {MAX_KERNELS} kernels at the most");
-        }
-        if put_kernel(out, kernel, line)? {
-            return Ok(());
-        }
-    }
-    writeln!(
-        out,
-        "a kernel has {MAX_INSTRUCTIONS} instructions at the most"
+// Where a group variable ends behind others.
+fn end_of(end: u64, variable: &GroupVariable) -> u64 {
+    end_behind(
+        end,
+        variable.kind,
+        variable.length.unwrap_or(1),
+        variable.align,
     )
 }
 
-/// Adds which limit a line of a kernel's text passes, with its number, to the output.
+/// The first of some items that is a group variable and ends behind the greatest group memory.
+pub fn variable_past(items: &[Item]) -> Option<usize> {
+    let mut end = 0u64;
+    for (index, item) in items.iter().enumerate() {
+        if let Item::Variable(variable) = item {
+            end = end_of(end, variable);
+            if end > u64::from(MAX_GROUP_BYTES) {
+                return Some(index);
+            }
+        }
+    }
+    None
+}
+
+/// The first of some items that is an instruction too many.
+pub fn instruction_past(items: &[Item]) -> Option<usize> {
+    let mut count = 0usize;
+    for (index, item) in items.iter().enumerate() {
+        if let Item::Instruction(_) = item {
+            count = count.saturating_add(1);
+            if count > MAX_INSTRUCTIONS {
+                return Some(index);
+            }
+        }
+    }
+    None
+}
+
+/// Adds the limit that a whole item passes to the output, or that a part of a kernel's head does: its name, or an argument.
 pub fn put_limit(
-    alloc: Global,
     out: &mut String,
-    text: &[u8],
-    line: u32,
+    kind: StatementKind,
+    part: usize,
+    item: Option<&Item>,
 ) -> Result<(), AllocError> {
-    match read_module(alloc, text) {
-        Ok(module) => put_module(out, &module, line),
-        Err(ReadError::OutOfMemory) => Err(AllocError),
-        Err(ReadError::Fault(_)) => Ok(()),
+    if kind == StatementKind::Head && part == 0 {
+        return writeln!(out, "a module has {MAX_KERNELS} kernels at the most");
+    }
+    match item {
+        None => writeln!(
+            out,
+            "the arguments of a kernel take {MAX_ARGUMENT_BYTES} bytes at the most"
+        ),
+        Some(Item::Variable(_)) => writeln!(
+            out,
+            "the group variables of a kernel take {MAX_GROUP_BYTES} bytes at the most"
+        ),
+        Some(_) => writeln!(
+            out,
+            "a kernel has {MAX_INSTRUCTIONS} instructions at the most"
+        ),
     }
 }
