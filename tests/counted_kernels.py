@@ -1,4 +1,5 @@
 """The kernels whose steps, items and work-groups tests/instructions.py counts."""
+import itertools
 
 # kernels that count in registers, that load and store once in twelve steps at random places, and that meet at barriers,
 # with how many steps an item takes
@@ -49,6 +50,22 @@ MEETING = ("""
 
 # families of instructions, of which each stands fifty times in a row in one kernel; labels have the number of their line
 BOTH, NARROW = (("32", "$s"), ("64", "$d")), ("8", "16", "32")
+# what may stand at a place of so many bits: a register, or a constant, another at each place; and the regions' second at a number
+PLACES = {"1": (("$c1", "1"), ("$c2", "0"), ("$c3", "1")), "32": (("$s1", "100003"), ("$s2", "77"), ("$s3", "5")),
+          "64": (("$d1", "81985529216486895"), ("$d2", "1147797409030816545"), ("$d3", "9999999999"))}
+NUMBER = 2 << 32
+
+
+def mixed(line, *bits):
+    """Lines that have a register or a constant at each place of so many bits."""
+    return [line.format(*found) for found in itertools.product(*(PLACES[it][place] for place, it in enumerate(bits)))]
+
+
+def both_mixed(line, count):
+    """The same at 32 and at 64 bits, which the line names, with so many places of these."""
+    return [it for of, to in BOTH for it in mixed(line.replace("OF", of).replace("TO", to), *[of] * count)]
+
+
 FAMILIES = {
     "step of a sum, a difference, a product, bits or a shift": (
         *(f"{it}_u{of} {to}1, {to}1, {to}2;" for it in ("add", "sub", "mul") for of, to in BOTH),
@@ -108,6 +125,36 @@ FAMILIES = {
     "atomic without a result on global memory, each operation": (
         *(f"atomicnoret_{it}_global_rlx_wg_u{of} [$d0], {to}2;" for it in ("add", "sub", "min", "max") for of, to in BOTH),
         *(f"atomicnoret_{it}_global_rlx_wg_b{of} [$d0], {to}2;" for it in ("and", "or", "xor") for of, to in BOTH)),
+    "step of two sources or one, each mix of registers and constants": (
+        *both_mixed("add_uOF TO4, {}, {};", 2), *both_mixed("div_sOF TO4, {}, {};", 2), *both_mixed("cmp_lt_b1_sOF $c0, {}, {};", 2),
+        *mixed("shl_u32 $s4, {}, {};", "32", "32"), *mixed("shr_s64 $d4, {}, {};", "64", "32"), *both_mixed("mov_bOF TO4, {};", 1), *both_mixed("not_bOF TO4, {};", 1)),
+    "step of mad or cmov, each mix of registers and constants": (
+        *both_mixed("mad_uOF TO4, {}, {}, {};", 3), *(it for of, to in BOTH for it in mixed(f"cmov_b{of} {to}4, {{}}, {{}}, {{}};", "1", of, of))),
+    "step of one bit, each mix of registers and constants": (
+        *mixed("and_b1 $c0, {}, {};", "1", "1"), *mixed("cmp_eq_b1_b1 $c0, {}, {};", "1", "1"), *mixed("cmov_b1 $c0, {}, {}, {};", "1", "1", "1"),
+        *mixed("mov_b1 $c0, {};", "1"), *mixed("not_b1 $c0, {};", "1")),
+    "step of a conversion of a constant": (
+        *(f"cvt_{sign}{to}_{sign}{of} $s4, 77;" for sign in "us" for to in NARROW for of in NARROW), *(f"cvt_{sign}64_{sign}{of} $d4, 77;" for sign in "us" for of in (*NARROW, "64")),
+        *(f"cvt_{sign}{to}_{sign}64 $s4, 81985529216486895;" for sign in "us" for to in NARROW), "cvt_u32_b1 $s4, 1;", "cvt_s64_b1 $d4, 1;",
+        "cvt_b1_u32 $c0, 77;", "cvt_b1_s64 $c0, 77;"),
+    "step of a branch on a constant": ("cbr_b1 1, @l{n};\n@l{n}:", "cbr_b1 0, @l{n};\n@l{n}:"),
+    "store to group memory, each width and source": (
+        *(f"st_group_u{of} {it}, [%here];" for of in NARROW for it in ("$s1", "77")), *mixed("st_group_u64 {}, [%here];", "64")),
+    "store to global memory, each width and source": (
+        *(f"st_global_u{of} {it}, [$d0];" for of in NARROW for it in ("$s1", "77")), *mixed("st_global_u64 {}, [$d0];", "64")),
+    "load from global memory at a number": (
+        *(f"ld_global_u{of} $s1, [{NUMBER}];" for of in NARROW), f"ld_global_u64 $d1, [{NUMBER + 8}];"),
+    "store to global memory at a number": (
+        *(f"st_global_u{of} {it}, [{NUMBER}];" for of in NARROW for it in ("$s1", "77")), *mixed(f"st_global_u64 {{}}, [{NUMBER + 8}];", "64")),
+    "atomic on global memory at a number": (
+        *both_mixed(f"atomic_add_global_rlx_wg_uOF TO4, [{NUMBER}], {{}};", 1), *both_mixed(f"atomicnoret_add_global_rlx_wg_uOF [{NUMBER}], {{}};", 1)),
+    "cas on global memory at a number": (
+        *mixed(f"atomic_cas_global_rlx_wg_b32 $s4, [{NUMBER}], {{}}, {{}};", "32", "32"), *mixed(f"atomic_cas_global_rlx_wg_b64 $d4, [{NUMBER + 8}], {{}}, {{}};", "64", "64")),
+    "cas on global memory, each mix of registers and constants": (
+        *mixed("atomic_cas_global_rlx_wg_b32 $s4, [$d0], {}, {};", "32", "32"), *mixed("atomic_cas_global_rlx_wg_b64 $d4, [$d0+8], {}, {};", "64", "64")),
+    "cas on group memory, each mix of registers and constants": both_mixed("atomic_cas_group_rlx_wg_bOF TO4, [%here], {}, {};", 2),
+    "atomic of a constant on global memory": (*both_mixed("atomic_add_global_rlx_wg_uOF TO4, [$d0], {};", 1), *both_mixed("atomicnoret_add_global_rlx_wg_uOF [$d0], {};", 1)),
+    "atomic of a constant on group memory": (*both_mixed("atomic_add_group_rlx_wg_uOF TO4, [%here], {};", 1), *both_mixed("atomicnoret_add_group_rlx_wg_uOF [%here], {};", 1)),
     "barrier of a group": ("barrier;",),
 }
 

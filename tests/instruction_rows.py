@@ -1,5 +1,6 @@
 """The table of instructions, as crates/hsail_reader/src/rows.rt has it: the words of each row, and its operands."""
 import functools
+import itertools
 import re
 from dataclasses import dataclass
 
@@ -80,3 +81,30 @@ def word_of(instruction):
 def words_in(text):
     """The words of a kernel's instructions, in their order."""
     return [word for line in re.split(r"[;:{]", text) if (word := word_of(line))]
+
+
+# heads of stems whose instructions are laid flat alike
+ALIKE = {it: names[0] for names in (("add", "sub", "mul", "and", "or", "xor"), ("div", "rem", "min", "max"), ("shl", "shr")) for it in names}
+
+def family_of(stem):
+    """What stems have in common that are laid flat alike."""
+    head, *further = stem.split("_")
+    if head.startswith("atomic"):
+        return f"{head}{' cas' * ('cas' in further)} {further[-1]}"
+    return stem if head in ("ld", "st") else ALIKE.get(head, head)
+
+
+def shape(row, type, sources, has_base=True):
+    """The shape of an instruction: its family, the bits of its type, whether each source is a register, and whether its address has none."""
+    has_number = any(it.role == "address" and it.of == "global" for it in row.operands) and not has_base
+    return family_of(row.stem), type[1:], tuple(sources), "at a number" * has_number
+
+
+def shapes():
+    """All shapes that an instruction of the table may have, in its order."""
+    found = {}
+    for row in rows():
+        for type in row.types or [""]:
+            for sources in itertools.product((True, False), repeat=sum(it.role == "source" for it in row.operands)):
+                found |= {shape(row, type, sources, has_base): None for has_base in (True, False)}
+    return list(found)

@@ -4,7 +4,7 @@
 The reading is that of tests/model, in Python and from the rules alone. It is tried itself on the cases that run kernels, of which
 some hold what real tools left. Then it and the program run a thousand kernels made at random (tests/random_kernels.py), always
 the same: replies, memory and audits have to be alike, and so the rule, the item and the line of each fault. Readings that are
-wrong by one small thing have to differ. And the rows of tests/instructions.py have to count each kind of instruction.
+wrong by one small thing have to differ. And the rows of tests/instructions.py have to count each kind of instruction, and each shape: a register or a constant at each source.
 """
 import functools
 import itertools
@@ -16,8 +16,8 @@ import tempfile
 
 import random_kernels
 from against import Setting, cases_in, changed, difference, text_in
-from counted_kernels import counted_kernels
-from instruction_rows import FURTHER, kinds, kinds_of_words, rows, words_in
+from counted_kernels import ARGUMENTS, counted_kernels
+from instruction_rows import FURTHER, kinds, kinds_of_words, rows, shape, shapes, words_in
 from model.kernel_text import read_kernels
 from model.script import run_script
 from trial import HERE, TOP, Trials, program_given, run, text
@@ -127,7 +127,7 @@ class Batch:
         return text([*replies, *[fault] * bool(fault)])
 
 
-def shape(operand):
+def form(operand):
     """The form of an operand: registers and variables by their class, numbers as n."""
     return re.sub(r"\b(0x[0-9a-f]+|\d+)", "n", re.sub(r"(\$[csd])\d+|(%)\w+", r"\1\2", "".join(operand)))
 
@@ -138,9 +138,9 @@ def shapes_met(kernels):
     roles = {word: row.operands for row in rows() for word, _ in row.words()}
     for instruction in (it for made in kernels for it in read_kernels(made.text)[0].instructions):
         word = FURTHER.sub("", instruction.word)
-        forms = list(zip(roles[word], map(shape, instruction.operands)))
-        words.add((word, *("$" in form for role, form in forms if role.role == "source")))
-        places |= {(role.of, form) for role, form in forms if role.role == "address"}
+        forms = list(zip(roles[word], map(form, instruction.operands)))
+        words.add((word, *("$" in it for role, it in forms if role.role == "source")))
+        places |= {(role.of, it) for role, it in forms if role.role == "address"}
     return words, places
 
 
@@ -191,12 +191,27 @@ def counted():
     return {kinds_of_words()[word] for kernel in counted_kernels() for word in words_in(kernel)}
 
 
+@functools.lru_cache(maxsize=None)
+def counted_shapes():
+    """The shapes of instructions in these kernels."""
+    found, by_word = set(), {word: (row, type) for row in rows() for word, type in row.words()}
+    for body in counted_kernels():
+        kernel = f"module &m:1:0:$full:$large:$default;\nprog kernel &k({ARGUMENTS})\n{{{body}}};\n"
+        for instruction in read_kernels(kernel)[0].instructions:
+            row, type = by_word[FURTHER.sub("", instruction.word)]
+            forms = list(zip(row.operands, map(form, instruction.operands)))
+            sources, places = (["$" in it for operand, it in forms if operand.role == role] for role in ("source", "address"))
+            found.add(shape(row, type, sources, all(places)))
+    return found
+
+
 def main(program):
     trials = Trials("kernels")
     trials.every("the reading leaves what cases of kernels want", is_read_as_wanted, cases_that_run())
     with tempfile.TemporaryDirectory(prefix="kernels-") as room:
         try_kernels(trials, program, room)
     trials.every("each kind of instruction is counted in a row", lambda kind: None if kind in counted() else "in none", kinds())
+    trials.every("and each shape", lambda it: None if it in counted_shapes() else "in none", shapes())
     trials.end()
 
 
