@@ -12,9 +12,10 @@ use Rattle.executor.specs.Registers.{read32, read64}
 use Rattle.executor.specs.Written.{seen}
 use Rattle.executor.specs.declared.item.Item.{Item}
 use Rattle.executor.specs.declared.registers.Registers.{Registers}
-use Rattle.executor.specs.inner.Found.{number_found, Changes32, Changes64}
-use Rattle.kernel_check.specs.Flat.{changed}
+use Rattle.executor.specs.inner.Found.{number_found, Changes32, Changes64, Swaps32, Swaps64}
+use Rattle.kernel_check.specs.Flat.{changed, swapping}
 use Rattle.kernel_check.specs.declared.flat_parts.Change.{Change}
+use Rattle.kernel_check.specs.declared.step.AtomicChange.{AtomicChange}
 use Rattle.kernel_check.specs.declared.flat_parts.Change.TheVariants as change
 use Rattle.kernel_check.specs.declared.step.AtomicPointer.{AtomicPointer}
 use Rattle.kernel_check.specs.declared.step.AtomicStep.{AtomicStep}
@@ -59,56 +60,84 @@ replaced_by w read change.Or s old = refl
 replaced_by w read change.Xor s old = refl
 replaced_by w read change.Exchange s old = refl
 
--- one of 32 bits at a place
-module _ (view : List LentRegion) (m : Contents) (i : Item) (f : Change) (source : Source ℕ) (target : Option ℕ) (p : AtomicPointer) (x : SegmentAddress) (at : x ≡ place_of i.registers p) where
+-- one of 32 bits at a place, by what it leaves there
+module _ (view : List LentRegion) (m : Contents) (i : Item) (operation : AtomicChange (Source ℕ)) (target : Option ℕ) (p : AtomicPointer) (x : SegmentAddress) (at : x ≡ place_of i.registers p) where
   abbrev step32 : AtomicStep (Source ℕ)
-  step32 = record { target = target; pointer = p; operation = changed f source }
+  step32 = record { target = target; pointer = p; operation = operation }
 
-  pub changed_on32 : (after : Contents) (value old : ℕ) (told : Registers) → value ≡ read32 i.registers source → Changes32 view m after f x value old → told ≡ told32 i.registers target old
-      → after_atomic32 i m step32 (bytes_found view m (place_of i.registers p) 4) ≡ goes_on (onward i told) after
-  changed_on32 after value old told same did tells =
-      let left : replacing w32 (λ v. v) (changed f value) old ≡ replacing32 i.registers (changed f source) old =
-      ap (λ v. replacing w32 (λ u. u) (changed f v) old) same ∙ replaced_by w32 (read32 i.registers) f source old in
+  pub left_on32 : (after : Contents) (left : Option ℕ) (old : ℕ) (told : Registers) → left ≡ replacing32 i.registers operation old → number_found view m x 4 ≡ Ok old
+      → after ≡ left32 m x left → told ≡ told32 i.registers target old → after_atomic32 i m step32 (bytes_found view m (place_of i.registers p) 4) ≡ goes_on (onward i told) after
+  left_on32 after left old told is found leaves tells =
       went_on view m 4 (after_atomic32 i m step32)
-      (λ o. goes_on (onward i (told32 i.registers target o)) (left32 m (place_of i.registers p) (replacing32 i.registers (changed f source) o)))
+      (λ o. goes_on (onward i (told32 i.registers target o)) (left32 m (place_of i.registers p) (replacing32 i.registers operation o)))
       (λ rule. broke rule (Some (place_of i.registers p))) (λ bytes. refl) (λ rule. refl) (place_of i.registers p) old
-      (ap (λ y. number_found view m y 4) (sym at) ∙ did.0)
-      ∙ (ap (λ r. goes_on (onward i r) (left32 m (place_of i.registers p) (replacing32 i.registers (changed f source) old))) (sym tells)
-      ∙ (ap (λ o. goes_on (onward i told) (left32 m (place_of i.registers p) o)) (sym left)
-      ∙ (ap (λ y. goes_on (onward i told) (left32 m y (replacing w32 (λ v. v) (changed f value) old))) (sym at)
-      ∙ ap (λ n. goes_on (onward i told) n) (sym did.1))))
+      (ap (λ y. number_found view m y 4) (sym at) ∙ found)
+      ∙ (ap (λ r. goes_on (onward i r) (left32 m (place_of i.registers p) (replacing32 i.registers operation old))) (sym tells)
+      ∙ (ap (λ o. goes_on (onward i told) (left32 m (place_of i.registers p) o)) (sym is)
+      ∙ (ap (λ y. goes_on (onward i told) (left32 m y left)) (sym at)
+      ∙ ap (λ n. goes_on (onward i told) n) (sym leaves))))
 
-  pub changed_off32 : (rule : Rule) → number_found view m x 4 ≡ Err rule → after_atomic32 i m step32 (bytes_found view m (place_of i.registers p) 4) ≡ broke rule (Some x)
-  changed_off32 rule is =
+  pub left_off32 : (rule : Rule) → number_found view m x 4 ≡ Err rule → after_atomic32 i m step32 (bytes_found view m (place_of i.registers p) 4) ≡ broke rule (Some x)
+  left_off32 rule is =
       broke_off view m 4 (after_atomic32 i m step32)
-      (λ o. goes_on (onward i (told32 i.registers target o)) (left32 m (place_of i.registers p) (replacing32 i.registers (changed f source) o)))
+      (λ o. goes_on (onward i (told32 i.registers target o)) (left32 m (place_of i.registers p) (replacing32 i.registers operation o)))
       (λ other. broke other (Some (place_of i.registers p))) (λ bytes. refl) (λ other. refl) (place_of i.registers p) rule
       (ap (λ y. number_found view m y 4) (sym at) ∙ is)
       ∙ ap (λ y. broke rule (Some y)) (sym at)
 
--- one of 64 bits at a place
-module _ (view : List LentRegion) (m : Contents) (i : Item) (f : Change) (source : Source ℕ) (target : Option ℕ) (p : AtomicPointer) (x : SegmentAddress) (at : x ≡ place_of i.registers p) where
+-- of one source
+pub changed_on32 : (view : List LentRegion) (m : Contents) (i : Item) (f : Change) (source : Source ℕ) (target : Option ℕ) (p : AtomicPointer) (x : SegmentAddress) → x ≡ place_of i.registers p
+    → (after : Contents) (value old : ℕ) (told : Registers) → value ≡ read32 i.registers source → Changes32 view m after f x value old → told ≡ told32 i.registers target old
+    → after_atomic32 i m (record { target = target; pointer = p; operation = changed f source }) (bytes_found view m (place_of i.registers p) 4) ≡ goes_on (onward i told) after
+changed_on32 view m i f source target p x at after value old told same did tells =
+    left_on32 view m i (changed f source) target p x at after (replacing w32 (λ v. v) (changed f value) old) old told
+    (ap (λ v. replacing w32 (λ u. u) (changed f v) old) same ∙ replaced_by w32 (read32 i.registers) f source old) did.0 did.1 tells
+
+-- of two, as cas
+pub swapped_on32 : (view : List LentRegion) (m : Contents) (i : Item) (expected replacement : Source ℕ) (target : Option ℕ) (p : AtomicPointer) (x : SegmentAddress) → x ≡ place_of i.registers p
+    → (after : Contents) (e n old : ℕ) (told : Registers) → e ≡ read32 i.registers expected → n ≡ read32 i.registers replacement → Swaps32 view m after x e n old → told ≡ told32 i.registers target old
+    → after_atomic32 i m (record { target = target; pointer = p; operation = swapping expected replacement }) (bytes_found view m (place_of i.registers p) 4) ≡ goes_on (onward i told) after
+swapped_on32 view m i expected replacement target p x at after e n old told one other did tells =
+    left_on32 view m i (swapping expected replacement) target p x at after (replacing w32 (λ v. v) (swapping e n) old) old told
+    (ap (λ v. replacing w32 (λ u. u) (swapping v n) old) one ∙ ap (λ v. replacing w32 (λ u. u) (swapping (read32 i.registers expected) v) old) other) did.0 did.1 tells
+
+-- one of 64 bits at a place, by what it leaves there
+module _ (view : List LentRegion) (m : Contents) (i : Item) (operation : AtomicChange (Source ℕ)) (target : Option ℕ) (p : AtomicPointer) (x : SegmentAddress) (at : x ≡ place_of i.registers p) where
   abbrev step64 : AtomicStep (Source ℕ)
-  step64 = record { target = target; pointer = p; operation = changed f source }
+  step64 = record { target = target; pointer = p; operation = operation }
 
-  pub changed_on64 : (after : Contents) (value old : ℕ) (told : Registers) → value ≡ read64 i.registers source → Changes64 view m after f x value old → told ≡ told64 i.registers target old
-      → after_atomic64 i m step64 (bytes_found view m (place_of i.registers p) 8) ≡ goes_on (onward i told) after
-  changed_on64 after value old told same did tells =
-      let left : replacing w64 (λ v. v) (changed f value) old ≡ replacing64 i.registers (changed f source) old =
-      ap (λ v. replacing w64 (λ u. u) (changed f v) old) same ∙ replaced_by w64 (read64 i.registers) f source old in
+  pub left_on64 : (after : Contents) (left : Option ℕ) (old : ℕ) (told : Registers) → left ≡ replacing64 i.registers operation old → number_found view m x 8 ≡ Ok old
+      → after ≡ left64 m x left → told ≡ told64 i.registers target old → after_atomic64 i m step64 (bytes_found view m (place_of i.registers p) 8) ≡ goes_on (onward i told) after
+  left_on64 after left old told is found leaves tells =
       went_on view m 8 (after_atomic64 i m step64)
-      (λ o. goes_on (onward i (told64 i.registers target o)) (left64 m (place_of i.registers p) (replacing64 i.registers (changed f source) o)))
+      (λ o. goes_on (onward i (told64 i.registers target o)) (left64 m (place_of i.registers p) (replacing64 i.registers operation o)))
       (λ rule. broke rule (Some (place_of i.registers p))) (λ bytes. refl) (λ rule. refl) (place_of i.registers p) old
-      (ap (λ y. number_found view m y 8) (sym at) ∙ did.0)
-      ∙ (ap (λ r. goes_on (onward i r) (left64 m (place_of i.registers p) (replacing64 i.registers (changed f source) old))) (sym tells)
-      ∙ (ap (λ o. goes_on (onward i told) (left64 m (place_of i.registers p) o)) (sym left)
-      ∙ (ap (λ y. goes_on (onward i told) (left64 m y (replacing w64 (λ v. v) (changed f value) old))) (sym at)
-      ∙ ap (λ n. goes_on (onward i told) n) (sym did.1))))
+      (ap (λ y. number_found view m y 8) (sym at) ∙ found)
+      ∙ (ap (λ r. goes_on (onward i r) (left64 m (place_of i.registers p) (replacing64 i.registers operation old))) (sym tells)
+      ∙ (ap (λ o. goes_on (onward i told) (left64 m (place_of i.registers p) o)) (sym is)
+      ∙ (ap (λ y. goes_on (onward i told) (left64 m y left)) (sym at)
+      ∙ ap (λ n. goes_on (onward i told) n) (sym leaves))))
 
-  pub changed_off64 : (rule : Rule) → number_found view m x 8 ≡ Err rule → after_atomic64 i m step64 (bytes_found view m (place_of i.registers p) 8) ≡ broke rule (Some x)
-  changed_off64 rule is =
+  pub left_off64 : (rule : Rule) → number_found view m x 8 ≡ Err rule → after_atomic64 i m step64 (bytes_found view m (place_of i.registers p) 8) ≡ broke rule (Some x)
+  left_off64 rule is =
       broke_off view m 8 (after_atomic64 i m step64)
-      (λ o. goes_on (onward i (told64 i.registers target o)) (left64 m (place_of i.registers p) (replacing64 i.registers (changed f source) o)))
+      (λ o. goes_on (onward i (told64 i.registers target o)) (left64 m (place_of i.registers p) (replacing64 i.registers operation o)))
       (λ other. broke other (Some (place_of i.registers p))) (λ bytes. refl) (λ other. refl) (place_of i.registers p) rule
       (ap (λ y. number_found view m y 8) (sym at) ∙ is)
       ∙ ap (λ y. broke rule (Some y)) (sym at)
+
+-- of one source
+pub changed_on64 : (view : List LentRegion) (m : Contents) (i : Item) (f : Change) (source : Source ℕ) (target : Option ℕ) (p : AtomicPointer) (x : SegmentAddress) → x ≡ place_of i.registers p
+    → (after : Contents) (value old : ℕ) (told : Registers) → value ≡ read64 i.registers source → Changes64 view m after f x value old → told ≡ told64 i.registers target old
+    → after_atomic64 i m (record { target = target; pointer = p; operation = changed f source }) (bytes_found view m (place_of i.registers p) 8) ≡ goes_on (onward i told) after
+changed_on64 view m i f source target p x at after value old told same did tells =
+    left_on64 view m i (changed f source) target p x at after (replacing w64 (λ v. v) (changed f value) old) old told
+    (ap (λ v. replacing w64 (λ u. u) (changed f v) old) same ∙ replaced_by w64 (read64 i.registers) f source old) did.0 did.1 tells
+
+-- of two, as cas
+pub swapped_on64 : (view : List LentRegion) (m : Contents) (i : Item) (expected replacement : Source ℕ) (target : Option ℕ) (p : AtomicPointer) (x : SegmentAddress) → x ≡ place_of i.registers p
+    → (after : Contents) (e n old : ℕ) (told : Registers) → e ≡ read64 i.registers expected → n ≡ read64 i.registers replacement → Swaps64 view m after x e n old → told ≡ told64 i.registers target old
+    → after_atomic64 i m (record { target = target; pointer = p; operation = swapping expected replacement }) (bytes_found view m (place_of i.registers p) 8) ≡ goes_on (onward i told) after
+swapped_on64 view m i expected replacement target p x at after e n old told one other did tells =
+    left_on64 view m i (swapping expected replacement) target p x at after (replacing w64 (λ v. v) (swapping e n) old) old told
+    (ap (λ v. replacing w64 (λ u. u) (swapping v n) old) one ∙ ap (λ v. replacing w64 (λ u. u) (swapping (read64 i.registers expected) v) old) other) did.0 did.1 tells

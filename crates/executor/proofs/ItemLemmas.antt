@@ -1,17 +1,24 @@
 -- An item that runs until it stops, by how many instructions it has left.
-use Rattle.std.proofs.Common.{◌≡◌, Option, ℕ, ◌+◌, ◌-◌, ◌<◌, ◌≤◌, List, ◌∷◌, ◌++◌, length, min, slice_index, subst, arith}
+use Rattle.std.proofs.Common.{◌≡◌, Option, Some, ℕ, ◌+◌, ◌-◌, ◌<◌, ◌≤◌, Bool, List, ◌∷◌, ◌++◌, length, min, slice_index, subst, arith}
 use Rattle.executor.specs.Group.{Standing, ready, waiting, ended, running, context_of_item, Leads}
 use Rattle.executor.specs.Items.{Contents, Surroundings}
 use Rattle.executor.specs.Meaning.{Act, goes_on, arrives, ends, broke, turn}
+use Rattle.executor.specs.declared.act.Outcome.{Outcome}
+use Rattle.executor.specs.declared.act.Outcome.TheVariants as outcome
+use Rattle.executor.specs.declared.fault.RunFault.{RunFault}
 use Rattle.executor.specs.declared.fault.RunFault.TheVariants as fault
 use Rattle.executor.specs.declared.item.Item.{Item}
 use Rattle.executor.specs.declared.registers.Registers.{Registers}
-use Rattle.executor.specs.inner.ItemRuns.{ItemRuns, ItemFails}
-use Rattle.executor.specs.inner.Stops.{AreStopped}
+use Rattle.executor.specs.declared.item.StoppedItem.{StoppedItem}
+use Rattle.executor.specs.inner.Few.{SetFew, RestIsZero, LeavesRest}
+use Rattle.executor.specs.inner.ItemRuns.{ItemComes, ItemRuns, ItemFails, LeftBy}
+use Rattle.executor.specs.inner.Stops.{AreStopped, standing}
+use Rattle.executor.specs.inner.Turns.{Acts}
 use Rattle.kernel_check.specs.Programs.{Program}
 use Rattle.kernel_check.specs.declared.step.Step.{Step}
 use Rattle.queue_error.specs.declared.error.SegmentAddress.{SegmentAddress}
 use Rattle.queue_error.specs.declared.rule.Rule.{Rule}
+use Rattle.executor.proofs.FewLemmas.{cleared_rest, kept_there}
 use Rattle.executor.proofs.GroupLemmas.{goes_more, arrives_now, ends_now, breaks_now, leads_none}
 
 -- an item of a group, which began as one and has so many instructions left
@@ -59,3 +66,35 @@ turn_alike a b steps before r next executed m n x around same still is =
     subst (λ (c : Contents). turn b steps (record { registers = r; next = next }) executed c ≡ x) still
     (subst (λ (q : Registers). turn b steps (record { registers = q; next = next }) executed m ≡ x) same
     (subst (λ (s : Surroundings). turn s steps (record { registers = before; next = next }) executed m ≡ x) around is))
+
+-- the same of what the code answers of one
+pub acts_alike : (a b : Surroundings) (steps : List Step) (before r : Registers) (next executed : ℕ) (m n : Contents) (o : Outcome) (now : Item) (after : Contents) → a ≡ b → before ≡ r → m ≡ n
+    → Acts (turn a steps (record { registers = before; next = next }) executed m) o now after → Acts (turn b steps (record { registers = r; next = next }) executed n) o now after
+acts_alike a b steps before r next executed m n o now after around same still is =
+    subst (λ (c : Contents). Acts (turn b steps (record { registers = r; next = next }) executed c) o now after) still
+    (subst (λ (q : Registers). Acts (turn b steps (record { registers = q; next = next }) executed m) o now after) same
+    (subst (λ (s : Surroundings). Acts (turn s steps (record { registers = before; next = next }) executed m) o now after) around is))
+
+-- an item that a turn took where it doesn't go on comes as it is left there, and leaves the other registers zero
+module _ (a : Surroundings) (p : Program) (n : ℕ) (begun : Standing) (before : Contents) (i : Item) (left : ℕ) (m : Contents) (few : left ≤ 65536) (some : 0 < left) where
+  pub comes_left : (o : Outcome) (stopped now : StoppedItem) (after : Contents) (ran : Bool) (f : RunFault) → Reached a p n begun before i left m
+      → Acts (turn (context_of_item a n) p.steps i (65536 - left) m) o stopped.item after → LeftBy o p n i.next (left - 1) stopped ran now f
+      → ItemComes a p n begun before ran (standing now) after f
+  comes_left outcome.Arrived stopped now after ran f so_far is leaves =
+      rw leaves.0 (rw leaves.1 (reached_arrives a p n begun before i left m so_far stopped.item after few some is))
+  comes_left outcome.Ended stopped now after ran f so_far is leaves =
+      rw leaves.0 (rw leaves.1 (reached_ends a p n begun before i left m so_far after is))
+  comes_left (outcome.Broke rule address) stopped now after ran f so_far is leaves =
+      rw leaves.0 (rw leaves.1 (reached_breaks a p n begun before i left m so_far rule (Some address) is))
+  comes_left outcome.GoesOn stopped now after ran f so_far is leaves = rw leaves.0 (rw leaves.1 tt)
+  comes_left outcome.OutOfMemory stopped now after ran f so_far is leaves = rw leaves.0 (rw leaves.1 tt)
+
+  pub rest_left : (o : Outcome) (stopped now : StoppedItem) (after : Contents) (ran : Bool) (f : RunFault) (r : Registers) → (SetFew p.steps → RestIsZero r → RestIsZero i.registers)
+      → Acts (turn (context_of_item a n) p.steps i (65536 - left) m) o stopped.item after → LeftBy o p n i.next (left - 1) stopped ran now f
+      → LeavesRest p.steps ran r now.item.registers
+  rest_left outcome.Arrived stopped now after ran f r zero is leaves =
+      rw leaves.0 (rw leaves.1 (λ few rest. kept_there (context_of_item a n) i m (zero few rest) p.steps few (65536 - left) stopped.item after is))
+  rest_left outcome.Ended stopped now after ran f r zero is leaves = rw leaves.0 (rw leaves.1 (λ few rest. cleared_rest))
+  rest_left (outcome.Broke rule address) stopped now after ran f r zero is leaves = rw leaves.0 tt
+  rest_left outcome.GoesOn stopped now after ran f r zero is leaves = rw leaves.0 tt
+  rest_left outcome.OutOfMemory stopped now after ran f r zero is leaves = rw leaves.0 tt

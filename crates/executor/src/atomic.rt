@@ -17,25 +17,8 @@ use kernel_check::{AtomicChange, AtomicStep, RegisterNumber, Source32, Source64}
 use queue_error::SegmentAddress;
 use std::alloc::{AllocError, Global};
 
-/// What an operation of 32 bits leaves in place of an old value, if it stores: `cas`, which has no flat form, is
-/// looked at first.
-#[inline(always)]
+/// What an operation of 32 bits leaves in place of an old value, if it stores.
 fn replacing32(r: &Registers, operation: &AtomicChange<Source32>, old: u32) -> Option<u32>
-    ensures { result ≡ replacing32 r.now operation.now old }
-{
-    let AtomicChange::CompareAndSwap(swap) = operation else {
-        return replaced32(r, operation, old);
-    };
-    if old != r.read32(swap.expected) {
-        return None;
-    }
-    Some(r.read32(swap.replacement))
-}
-
-/// The same of any operation.
-#[cold]
-#[inline(never)]
-fn replaced32(r: &Registers, operation: &AtomicChange<Source32>, old: u32) -> Option<u32>
     ensures { result ≡ replacing32 r.now operation.now old }
 {
     Some(match operation {
@@ -58,25 +41,8 @@ fn replaced32(r: &Registers, operation: &AtomicChange<Source32>, old: u32) -> Op
     })
 }
 
-/// What an operation of 64 bits leaves in place of an old value, if it stores: `cas`, which has no flat form, is
-/// looked at first.
-#[inline(always)]
+/// What an operation of 64 bits leaves in place of an old value, if it stores.
 fn replacing64(r: &Registers, operation: &AtomicChange<Source64>, old: u64) -> Option<u64>
-    ensures { result ≡ replacing64 r.now operation.now old }
-{
-    let AtomicChange::CompareAndSwap(swap) = operation else {
-        return replaced64(r, operation, old);
-    };
-    if old != r.read64(swap.expected) {
-        return None;
-    }
-    Some(r.read64(swap.replacement))
-}
-
-/// The same of any operation.
-#[cold]
-#[inline(never)]
-fn replaced64(r: &Registers, operation: &AtomicChange<Source64>, old: u64) -> Option<u64>
     ensures { result ≡ replacing64 r.now operation.now old }
 {
     Some(match operation {

@@ -12,6 +12,7 @@ use crate::flat_doubles::*;
 use crate::flat_global::*;
 use crate::flat_group::*;
 use crate::flat_questions::*;
+use crate::flat_rare::go_rare;
 use crate::flat_singles::*;
 use crate::flat_values::{branch, choose32, choose64, mad32_of, mad64_of, widen};
 use crate::item::ItemContext;
@@ -36,7 +37,7 @@ pub enum Gone {
     /// It broke a rule by an access to an address of group memory.
     BrokeGroup(Rule, u32),
     OutOfMemory,
-    /// Nothing: the step has no flat form.
+    /// Nothing: the step has no flat form, as none has that a text can have.
     Other,
 }
 
@@ -133,7 +134,7 @@ pub fn go(
         ),
         FlatStep::MultiplyAdd64Of { .. } => mad64_of(context, r, next, memory, flat),
         FlatStep::Choose64 { .. } => choose64(context, r, next, memory, flat),
-        FlatStep::Choose64Constants(p) => choose64_constants(context, r, next, memory, p),
+        FlatStep::Choose64Constants { .. } => choose64_constants(context, r, next, memory, flat),
         FlatStep::CompareUnsigned32(p) => compare_unsigned32(context, r, next, memory, p),
         FlatStep::CompareUnsigned32Constant(p) => compare_unsigned32_constant(
             context, r, next, memory, p,
@@ -221,6 +222,7 @@ pub fn go(
             condition,
             next: other,
         } => Gone::Next(branch(r, next, *condition, *other)),
+        FlatStep::Rare(step) => go_rare(alloc, context, r, next, memory, step),
         FlatStep::Barrier => Gone::Arrived,
         FlatStep::Return => Gone::Ended,
         FlatStep::Other => Gone::Other,

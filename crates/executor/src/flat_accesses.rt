@@ -1,7 +1,7 @@
 //! Flat steps that read what surrounds an item, or access memory.
 ghost use Rattle.std.specs.Prelude.{◌≡◌, ◌<◌, ◌^◌, Some};
 ghost use Rattle.hsail_reader.specs.declared.types.WorkItemQuery.TheVariants as query_arm;
-ghost use Rattle.kernel_check.specs.Flat.{group_load_step, group_pointer, group_store_step, load_step};
+ghost use Rattle.kernel_check.specs.Flat.{group_load_step, group_pointer, group_store_step};
 ghost use Rattle.kernel_check.specs.declared.step.AnyRegister.TheVariants as register_arm;
 ghost use Rattle.kernel_check.specs.declared.step.AnySource.TheVariants as any;
 ghost use Rattle.kernel_check.specs.declared.step.Source.TheVariants as source_arm;
@@ -14,7 +14,7 @@ use crate::act::argument;
 use crate::address::{address_of, group_address_of};
 use crate::conversion::{bytes_of, convert};
 use crate::flat::Gone;
-use crate::flat_sources::{group_pointer, register_and};
+use crate::flat_sources::group_pointer;
 use crate::group_access;
 use crate::item::ItemContext;
 use crate::memory::Memory;
@@ -22,7 +22,7 @@ use crate::registers::Registers;
 use hsail_reader::WorkItemQuery;
 use kernel_check::{
     AnyRegister, AnySource, ArgumentStep, Dimension, GroupLoadStep, GroupStoreStep, LoadStep,
-    MaybeRegister, NumberType, RegisterNumber, Source, StoreStep,
+    MaybeRegister, NumberType, Pointer, RegisterNumber, Source, StoreStep,
 };
 use std::alloc::Global;
 
@@ -231,16 +231,15 @@ pub fn load_single(
     memory: &Memory,
     kind: NumberType,
     to: RegisterNumber,
-    base: RegisterNumber,
-    offset: u64,
+    pointer: Pointer,
 ) -> Gone
     requires { next < 2 ^ 32 }
-    ensures { Goes (load_step kind (register_arm.Single to) base offset) (surroundings context.now) r.old next (contents memory.now) result r.new (contents memory.now) }
+    ensures { Goes (Some (step_arm.Load (record { kind = kind; target = register_arm.Single to; pointer = pointer }))) (surroundings context.now) r.old next (contents memory.now) result r.new (contents memory.now) }
 {
     let step = LoadStep {
         kind,
         target: AnyRegister::Single(to),
-        pointer: register_and(base, offset),
+        pointer,
     };
     load(context, r, next, memory, &step)
 }
@@ -277,16 +276,15 @@ pub fn load_double(
     memory: &Memory,
     kind: NumberType,
     to: RegisterNumber,
-    base: RegisterNumber,
-    offset: u64,
+    pointer: Pointer,
 ) -> Gone
     requires { next < 2 ^ 32 }
-    ensures { Goes (load_step kind (register_arm.Double to) base offset) (surroundings context.now) r.old next (contents memory.now) result r.new (contents memory.now) }
+    ensures { Goes (Some (step_arm.Load (record { kind = kind; target = register_arm.Double to; pointer = pointer }))) (surroundings context.now) r.old next (contents memory.now) result r.new (contents memory.now) }
 {
     let step = LoadStep {
         kind,
         target: AnyRegister::Double(to),
-        pointer: register_and(base, offset),
+        pointer,
     };
     load(context, r, next, memory, &step)
 }

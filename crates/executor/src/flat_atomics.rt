@@ -1,7 +1,8 @@
-//! Flat steps of atomic operations (PRM, Atomic Memory Operations). Those of `cas` go by the table of instructions.
+//! Flat steps of atomic operations of one source (PRM, Atomic Memory Operations).
 ghost use Rattle.std.specs.Prelude.{◌≡◌, ◌<◌, ◌^◌, Some, IfErr, IfNone, IfOk, IfSome, map};
 ghost use Rattle.std.specs.Int.{w32, w64};
-ghost use Rattle.kernel_check.specs.Flat.{changed, maybe, plain};
+ghost use Rattle.kernel_check.specs.Flat.{atomic32_step, atomic64_step, changed, maybe, plain, plain_rare};
+ghost use Rattle.kernel_check.specs.declared.step.AtomicPointer.TheVariants as pointer_arm;
 ghost use Rattle.queue_error.specs.declared.error.SegmentAddress.TheVariants as segment;
 ghost use Rattle.executor.specs.Atomics.{replacing, told32, told64};
 ghost use Rattle.executor.specs.Items.{lent_region};
@@ -15,13 +16,13 @@ use crate::address::{address_of, group_address_of};
 use crate::atomic::{leave32, leave64};
 use crate::atomic_place::{find32, find64, known_number};
 use crate::flat::Gone;
-use crate::flat_sources::{group_pointer, register_and, source_of};
+use crate::flat_sources::{at_number, group_pointer, register_and, source_of};
 use crate::item::ItemContext;
 use crate::memory::Memory;
 use crate::number::Number;
 use crate::registers::Registers;
 use crate::view::View;
-use kernel_check::{Change, FlatStep, MaybeRegister};
+use kernel_check::{Change, FlatStep, MaybeRegister, Pointer, RareStep, Source32, Source64};
 use queue_error::SegmentAddress;
 use std::alloc::Global;
 
@@ -65,7 +66,7 @@ fn changed64(change: Change, old: u64, value: u64) -> u64
 
 /// The old value in the target of 32 bits, if there is one.
 #[inline(always)]
-fn tell32(r: &mut Registers, target: MaybeRegister, old: u32)
+pub fn tell32(r: &mut Registers, target: MaybeRegister, old: u32)
     ensures { r.new ≡ told32 r.old (maybe target) old }
 {
     if target.is_register {
@@ -75,7 +76,7 @@ fn tell32(r: &mut Registers, target: MaybeRegister, old: u32)
 
 /// The old value in the target of 64 bits, if there is one.
 #[inline(always)]
-fn tell64(r: &mut Registers, target: MaybeRegister, old: u64)
+pub fn tell64(r: &mut Registers, target: MaybeRegister, old: u64)
     ensures { r.new ≡ told64 r.old (maybe target) old }
 {
     if target.is_register {
@@ -235,6 +236,40 @@ fn change_anew64(
     )
 }
 
+/// An operation of 32 bits and one source on global memory at a pointer.
+#[inline(always)]
+fn atomic_pointed32(
+    alloc: Global,
+    context: &ItemContext<'_>,
+    r: &mut Registers,
+    next: usize,
+    memory: &mut Memory,
+    change: Change,
+    target: MaybeRegister,
+    pointer: Pointer,
+    source: Source32,
+) -> Gone
+    requires { next < 2 ^ 32 }
+    ensures { Goes (atomic32_step (maybe target) (pointer_arm.Global pointer) (changed change source)) (surroundings context.now) r.old next (contents memory.old) result r.new (contents memory.new) }
+{
+    let address = address_of(r, pointer);
+    let value = r.read32(source);
+    match change_known32(context.view, memory, change, address, value) {
+        Some(old) => {
+            tell32(r, target, old);
+            Gone::Onward
+        }
+        None => match change_anew32(alloc, context.view, memory, change, address, value) {
+            Ok(old) => {
+                tell32(r, target, old);
+                Gone::Onward
+            }
+            Err(StoreError::Broke(rule)) => Gone::BrokeGlobal(rule, address),
+            Err(StoreError::OutOfMemory) => Gone::OutOfMemory,
+        },
+    }
+}
+
 /// An operation of 32 bits and one source on global memory.
 #[inline]
 pub fn atomic_global32(
@@ -259,16 +294,81 @@ pub fn atomic_global32(
     else {
         return Gone::Other;
     };
-    let address = address_of(r, register_and(base, offset as u64));
-    let value = r.read32(source_of(source, constant));
-    match change_known32(context.view, memory, change, address, value) {
+    atomic_pointed32(
+        alloc,
+        context,
+        r,
+        next,
+        memory,
+        change,
+        target,
+        register_and(base, offset),
+        source_of(source, constant),
+    )
+}
+
+/// One at a number.
+#[inline(always)]
+pub fn atomic_at32(
+    alloc: Global,
+    context: &ItemContext<'_>,
+    r: &mut Registers,
+    next: usize,
+    memory: &mut Memory,
+    step: &RareStep,
+) -> Gone
+    requires { next < 2 ^ 32 }
+    ensures { Goes (plain_rare step.now) (surroundings context.now) r.old next (contents memory.old) result r.new (contents memory.new) }
+{
+    let RareStep::AtomicAt32 {
+        change,
+        target,
+        source,
+        address,
+        constant,
+    } = *step
+    else {
+        return Gone::Other;
+    };
+    atomic_pointed32(
+        alloc,
+        context,
+        r,
+        next,
+        memory,
+        change,
+        target,
+        at_number(address),
+        source_of(source, constant),
+    )
+}
+
+/// An operation of 64 bits and one source on global memory at a pointer.
+#[inline(always)]
+fn atomic_pointed64(
+    alloc: Global,
+    context: &ItemContext<'_>,
+    r: &mut Registers,
+    next: usize,
+    memory: &mut Memory,
+    change: Change,
+    target: MaybeRegister,
+    pointer: Pointer,
+    source: Source64,
+) -> Gone
+    requires { next < 2 ^ 32 }
+    ensures { Goes (atomic64_step (maybe target) (pointer_arm.Global pointer) (changed change source)) (surroundings context.now) r.old next (contents memory.old) result r.new (contents memory.new) }
+{
+    let address = address_of(r, pointer);
+    let value = r.read64(source);
+    match change_known64(context.view, memory, change, address, value) {
         Some(old) => {
-            tell32(r, target, old);
+            tell64(r, target, old);
             Gone::Onward
         }
-        None => match change_anew32(alloc, context.view, memory, change, address, value) {
+        None => match change_anew64(alloc, context.view, memory, change, address, value) {
             Ok(old) => {
-                tell32(r, target, old);
+                tell64(r, target, old);
                 Gone::Onward
             }
             Err(StoreError::Broke(rule)) => Gone::BrokeGlobal(rule, address),
@@ -301,22 +401,53 @@ pub fn atomic_global64(
     else {
         return Gone::Other;
     };
-    let address = address_of(r, register_and(base, offset as u64));
-    let value = r.read64(source_of(source, constant as u64));
-    match change_known64(context.view, memory, change, address, value) {
-        Some(old) => {
-            tell64(r, target, old);
-            Gone::Onward
-        }
-        None => match change_anew64(alloc, context.view, memory, change, address, value) {
-            Ok(old) => {
-                tell64(r, target, old);
-                Gone::Onward
-            }
-            Err(StoreError::Broke(rule)) => Gone::BrokeGlobal(rule, address),
-            Err(StoreError::OutOfMemory) => Gone::OutOfMemory,
-        },
-    }
+    atomic_pointed64(
+        alloc,
+        context,
+        r,
+        next,
+        memory,
+        change,
+        target,
+        register_and(base, offset),
+        source_of(source, constant),
+    )
+}
+
+/// One at a number.
+#[inline(always)]
+pub fn atomic_at64(
+    alloc: Global,
+    context: &ItemContext<'_>,
+    r: &mut Registers,
+    next: usize,
+    memory: &mut Memory,
+    step: &RareStep,
+) -> Gone
+    requires { next < 2 ^ 32 }
+    ensures { Goes (plain_rare step.now) (surroundings context.now) r.old next (contents memory.old) result r.new (contents memory.new) }
+{
+    let RareStep::AtomicAt64 {
+        change,
+        target,
+        source,
+        address,
+        constant,
+    } = *step
+    else {
+        return Gone::Other;
+    };
+    atomic_pointed64(
+        alloc,
+        context,
+        r,
+        next,
+        memory,
+        change,
+        target,
+        at_number(address),
+        source_of(source, constant),
+    )
 }
 
 /// An operation of 32 bits and one source on group memory.
@@ -382,7 +513,7 @@ pub fn atomic_group64(
     };
     let address = group_address_of(r, group_pointer(base, offset));
     let place = SegmentAddress::Group(address);
-    let value = r.read64(source_of(source, constant as u64));
+    let value = r.read64(source_of(source, constant));
     match change64(alloc, context.view, memory, change, place, value) {
         Ok(old) => {
             tell64(r, target, old);

@@ -15,8 +15,7 @@ use crate::item::ItemContext;
 use crate::memory::Memory;
 use crate::registers::Registers;
 use kernel_check::{
-    Calculation, ChosenConstants, ConstantBehind, DoubleOperation, FlatStep, FromOne, FromThree,
-    FromTwo, Source,
+    Calculation, ConstantBehind, DoubleOperation, FlatStep, FromOne, FromThree, FromTwo, Source,
 };
 
 /// A flat step of 64 bits with two registers, by what puts them together.
@@ -597,28 +596,33 @@ pub fn multiply_add64_constant(
     double_mad!(context, r, next, memory, to => Source::Register(first), Source::Constant(second), Source::Register(third))
 }
 
-/// `cmov_b64` of two constants of 32 bits.
+/// `cmov_b64` of two constants.
 #[inline]
 pub fn choose64_constants(
     context: &ItemContext<'_>,
     r: &mut Registers,
     next: usize,
     memory: &Memory,
-    p: &ChosenConstants,
+    step: &FlatStep,
 ) -> Gone
     requires { next < 2 ^ 32 }
-    ensures { Goes (plain (flat.Choose64Constants p.now)) (surroundings context.now) r.old next (contents memory.now) result r.new (contents memory.now) }
+    ensures { Goes (plain step.now) (surroundings context.now) r.old next (contents memory.now) result r.new (contents memory.now) }
 {
+    let FlatStep::Choose64Constants {
+        to,
+        condition,
+        one,
+        zero,
+    } = *step
+    else {
+        return Gone::Other;
+    };
     run64(
         context,
         r,
         next,
         memory,
-        p.to,
-        DoubleOperation::Choose(choice(
-            p.condition,
-            Source::Constant(p.one as u64),
-            Source::Constant(p.zero as u64),
-        )),
+        to,
+        DoubleOperation::Choose(choice(condition, Source::Constant(one), Source::Constant(zero))),
     )
 }

@@ -1,21 +1,21 @@
 //! Flat steps that load from global memory or store to it.
 ghost use Rattle.std.specs.Prelude.{◌<◌, ◌^◌};
-ghost use Rattle.kernel_check.specs.Flat.{plain};
+ghost use Rattle.kernel_check.specs.Flat.{plain, plain_rare};
 ghost use Rattle.executor.specs.inner.Flat.{Goes};
 ghost use Rattle.executor.specs.inner.Held.{contents, surroundings};
 
 use crate::flat::Gone;
 use crate::flat_accesses::{load_double, load_single, store};
-use crate::flat_sources::{kind8, kind16, kind32, kind64, register_and};
+use crate::flat_sources::{at_number, kind8, kind16, kind32, kind64, register_and, source_of};
 use crate::item::ItemContext;
 use crate::memory::Memory;
 use crate::registers::Registers;
-use kernel_check::{AnySource, FlatStep, Source, StoreStep};
+use kernel_check::{AnySource, FlatStep, RareStep, Source, StoreStep};
 use std::alloc::Global;
 
-/// A store to global memory, by its type and its source.
+/// A store to global memory, by its type, its source and its place.
 macro_rules! store {
-    ($alloc:ident, $context:ident, $r:ident, $next:ident, $memory:ident => $kind:expr, $source:expr, $base:ident, $offset:expr) => {
+    ($alloc:ident, $context:ident, $r:ident, $next:ident, $memory:ident => $kind:expr, $source:expr, $pointer:expr) => {
         store(
             $alloc,
             $context,
@@ -25,7 +25,7 @@ macro_rules! store {
             &StoreStep {
                 kind: $kind,
                 source: $source,
-                pointer: register_and($base, $offset),
+                pointer: $pointer,
             },
         )
     };
@@ -52,7 +52,15 @@ pub fn load8(
     else {
         return Gone::Other;
     };
-    load_single(context, r, next, memory, kind8(sign), to, base, offset)
+    load_single(
+        context,
+        r,
+        next,
+        memory,
+        kind8(sign),
+        to,
+        register_and(base, offset),
+    )
 }
 
 /// `ld_global` of 16 bits from a register's address and an offset.
@@ -76,7 +84,15 @@ pub fn load16(
     else {
         return Gone::Other;
     };
-    load_single(context, r, next, memory, kind16(sign), to, base, offset)
+    load_single(
+        context,
+        r,
+        next,
+        memory,
+        kind16(sign),
+        to,
+        register_and(base, offset),
+    )
 }
 
 /// `ld_global` of 32 bits from a register's address and an offset.
@@ -100,7 +116,15 @@ pub fn load32(
     else {
         return Gone::Other;
     };
-    load_single(context, r, next, memory, kind32(sign), to, base, offset)
+    load_single(
+        context,
+        r,
+        next,
+        memory,
+        kind32(sign),
+        to,
+        register_and(base, offset),
+    )
 }
 
 /// `ld_global` of 64 bits from a register's address and an offset.
@@ -124,7 +148,15 @@ pub fn load64(
     else {
         return Gone::Other;
     };
-    load_double(context, r, next, memory, kind64(sign), to, base, offset)
+    load_double(
+        context,
+        r,
+        next,
+        memory,
+        kind64(sign),
+        to,
+        register_and(base, offset),
+    )
 }
 
 /// `st_global` of 8 bits of a register to a register's address and an offset.
@@ -149,7 +181,7 @@ pub fn store8(
     else {
         return Gone::Other;
     };
-    store!(alloc, context, r, next, memory => kind8(sign), AnySource::Single(Source::Register(source)), base, offset)
+    store!(alloc, context, r, next, memory => kind8(sign), AnySource::Single(Source::Register(source)), register_and(base, offset))
 }
 
 /// `st_global` of 16 bits of a register to a register's address and an offset.
@@ -174,7 +206,7 @@ pub fn store16(
     else {
         return Gone::Other;
     };
-    store!(alloc, context, r, next, memory => kind16(sign), AnySource::Single(Source::Register(source)), base, offset)
+    store!(alloc, context, r, next, memory => kind16(sign), AnySource::Single(Source::Register(source)), register_and(base, offset))
 }
 
 /// `st_global` of 32 bits of a register to a register's address and an offset.
@@ -199,7 +231,7 @@ pub fn store32(
     else {
         return Gone::Other;
     };
-    store!(alloc, context, r, next, memory => kind32(sign), AnySource::Single(Source::Register(source)), base, offset)
+    store!(alloc, context, r, next, memory => kind32(sign), AnySource::Single(Source::Register(source)), register_and(base, offset))
 }
 
 /// `st_global` of 64 bits of a register to a register's address and an offset.
@@ -224,7 +256,7 @@ pub fn store64(
     else {
         return Gone::Other;
     };
-    store!(alloc, context, r, next, memory => kind64(sign), AnySource::Double(Source::Register(source)), base, offset)
+    store!(alloc, context, r, next, memory => kind64(sign), AnySource::Double(Source::Register(source)), register_and(base, offset))
 }
 
 /// `st_global` of 8 bits of a constant.
@@ -249,7 +281,7 @@ pub fn store_constant8(
     else {
         return Gone::Other;
     };
-    store!(alloc, context, r, next, memory => kind8(sign), AnySource::Single(Source::Constant(constant)), base, offset)
+    store!(alloc, context, r, next, memory => kind8(sign), AnySource::Single(Source::Constant(constant)), register_and(base, offset))
 }
 
 /// `st_global` of 16 bits of a constant.
@@ -274,7 +306,7 @@ pub fn store_constant16(
     else {
         return Gone::Other;
     };
-    store!(alloc, context, r, next, memory => kind16(sign), AnySource::Single(Source::Constant(constant)), base, offset)
+    store!(alloc, context, r, next, memory => kind16(sign), AnySource::Single(Source::Constant(constant)), register_and(base, offset))
 }
 
 /// `st_global` of 32 bits of a constant.
@@ -299,7 +331,7 @@ pub fn store_constant32(
     else {
         return Gone::Other;
     };
-    store!(alloc, context, r, next, memory => kind32(sign), AnySource::Single(Source::Constant(constant)), base, offset)
+    store!(alloc, context, r, next, memory => kind32(sign), AnySource::Single(Source::Constant(constant)), register_and(base, offset))
 }
 
 /// `st_global` of 64 bits of a constant.
@@ -324,5 +356,209 @@ pub fn store_constant64(
     else {
         return Gone::Other;
     };
-    store!(alloc, context, r, next, memory => kind64(sign), AnySource::Double(Source::Constant(constant)), base, offset as u64)
+    store!(alloc, context, r, next, memory => kind64(sign), AnySource::Double(Source::Constant(constant)), register_and(base, offset))
+}
+
+/// `ld_global` of 8 bits at a number.
+#[inline(always)]
+pub fn load_at8(
+    context: &ItemContext<'_>,
+    r: &mut Registers,
+    next: usize,
+    memory: &Memory,
+    step: &RareStep,
+) -> Gone
+    requires { next < 2 ^ 32 }
+    ensures { Goes (plain_rare step.now) (surroundings context.now) r.old next (contents memory.now) result r.new (contents memory.now) }
+{
+    let RareStep::LoadAt8 { sign, to, address } = *step else {
+        return Gone::Other;
+    };
+    load_single(
+        context,
+        r,
+        next,
+        memory,
+        kind8(sign),
+        to,
+        at_number(address),
+    )
+}
+
+/// `ld_global` of 16 bits at a number.
+#[inline(always)]
+pub fn load_at16(
+    context: &ItemContext<'_>,
+    r: &mut Registers,
+    next: usize,
+    memory: &Memory,
+    step: &RareStep,
+) -> Gone
+    requires { next < 2 ^ 32 }
+    ensures { Goes (plain_rare step.now) (surroundings context.now) r.old next (contents memory.now) result r.new (contents memory.now) }
+{
+    let RareStep::LoadAt16 { sign, to, address } = *step else {
+        return Gone::Other;
+    };
+    load_single(
+        context,
+        r,
+        next,
+        memory,
+        kind16(sign),
+        to,
+        at_number(address),
+    )
+}
+
+/// `ld_global` of 32 bits at a number.
+#[inline(always)]
+pub fn load_at32(
+    context: &ItemContext<'_>,
+    r: &mut Registers,
+    next: usize,
+    memory: &Memory,
+    step: &RareStep,
+) -> Gone
+    requires { next < 2 ^ 32 }
+    ensures { Goes (plain_rare step.now) (surroundings context.now) r.old next (contents memory.now) result r.new (contents memory.now) }
+{
+    let RareStep::LoadAt32 { sign, to, address } = *step else {
+        return Gone::Other;
+    };
+    load_single(
+        context,
+        r,
+        next,
+        memory,
+        kind32(sign),
+        to,
+        at_number(address),
+    )
+}
+
+/// `ld_global` of 64 bits at a number.
+#[inline(always)]
+pub fn load_at64(
+    context: &ItemContext<'_>,
+    r: &mut Registers,
+    next: usize,
+    memory: &Memory,
+    step: &RareStep,
+) -> Gone
+    requires { next < 2 ^ 32 }
+    ensures { Goes (plain_rare step.now) (surroundings context.now) r.old next (contents memory.now) result r.new (contents memory.now) }
+{
+    let RareStep::LoadAt64 { sign, to, address } = *step else {
+        return Gone::Other;
+    };
+    load_double(
+        context,
+        r,
+        next,
+        memory,
+        kind64(sign),
+        to,
+        at_number(address),
+    )
+}
+
+/// `st_global` of 8 bits at a number.
+#[inline(always)]
+pub fn store_at8(
+    alloc: Global,
+    context: &ItemContext<'_>,
+    r: &Registers,
+    next: usize,
+    memory: &mut Memory,
+    step: &RareStep,
+) -> Gone
+    requires { next < 2 ^ 32 }
+    ensures { Goes (plain_rare step.now) (surroundings context.now) r.now next (contents memory.old) result r.now (contents memory.new) }
+{
+    let RareStep::StoreAt8 {
+        sign,
+        source,
+        constant,
+        address,
+    } = *step
+    else {
+        return Gone::Other;
+    };
+    store!(alloc, context, r, next, memory => kind8(sign), AnySource::Single(source_of(source, constant)), at_number(address))
+}
+
+/// `st_global` of 16 bits at a number.
+#[inline(always)]
+pub fn store_at16(
+    alloc: Global,
+    context: &ItemContext<'_>,
+    r: &Registers,
+    next: usize,
+    memory: &mut Memory,
+    step: &RareStep,
+) -> Gone
+    requires { next < 2 ^ 32 }
+    ensures { Goes (plain_rare step.now) (surroundings context.now) r.now next (contents memory.old) result r.now (contents memory.new) }
+{
+    let RareStep::StoreAt16 {
+        sign,
+        source,
+        constant,
+        address,
+    } = *step
+    else {
+        return Gone::Other;
+    };
+    store!(alloc, context, r, next, memory => kind16(sign), AnySource::Single(source_of(source, constant)), at_number(address))
+}
+
+/// `st_global` of 32 bits at a number.
+#[inline(always)]
+pub fn store_at32(
+    alloc: Global,
+    context: &ItemContext<'_>,
+    r: &Registers,
+    next: usize,
+    memory: &mut Memory,
+    step: &RareStep,
+) -> Gone
+    requires { next < 2 ^ 32 }
+    ensures { Goes (plain_rare step.now) (surroundings context.now) r.now next (contents memory.old) result r.now (contents memory.new) }
+{
+    let RareStep::StoreAt32 {
+        sign,
+        source,
+        constant,
+        address,
+    } = *step
+    else {
+        return Gone::Other;
+    };
+    store!(alloc, context, r, next, memory => kind32(sign), AnySource::Single(source_of(source, constant)), at_number(address))
+}
+
+/// `st_global` of 64 bits at a number.
+#[inline(always)]
+pub fn store_at64(
+    alloc: Global,
+    context: &ItemContext<'_>,
+    r: &Registers,
+    next: usize,
+    memory: &mut Memory,
+    step: &RareStep,
+) -> Gone
+    requires { next < 2 ^ 32 }
+    ensures { Goes (plain_rare step.now) (surroundings context.now) r.now next (contents memory.old) result r.now (contents memory.new) }
+{
+    let RareStep::StoreAt64 {
+        sign,
+        source,
+        constant,
+        address,
+    } = *step
+    else {
+        return Gone::Other;
+    };
+    store!(alloc, context, r, next, memory => kind64(sign), AnySource::Double(source_of(source, constant)), at_number(address))
 }

@@ -247,7 +247,7 @@ pub fn store_group_constant32(
     group_store_constant(context, r, next, memory, kind, base, offset, constant)
 }
 
-/// `st_group` of 64 bits of a constant that has 32.
+/// `st_group` of 64 bits of a constant.
 #[inline]
 pub fn store_group_constant64(
     context: &ItemContext<'_>,
@@ -268,5 +268,5 @@ pub fn store_group_constant64(
     else {
         return Gone::Other;
     };
-    group_store!(context, r, next, memory => kind64(sign), AnySource::Double(Source::Constant(constant as u64)), base, offset)
+    group_store!(context, r, next, memory => kind64(sign), AnySource::Double(Source::Constant(constant)), base, offset)
 }

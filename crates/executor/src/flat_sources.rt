@@ -1,6 +1,6 @@
 //! The sources of flat steps, and the types that they name.
 ghost use Rattle.std.specs.Prelude.{◌≡◌};
-ghost use Rattle.kernel_check.specs.Flat.{both, both_compared, both_shift, choice, compared_with_constant, constant_and, constant_compared, constant_shift, group_pointer, kind8, kind16, kind32, kind64, maybe, register_and, shift_with_constant, source_of, with_constant};
+ghost use Rattle.kernel_check.specs.Flat.{at_number, both, both_compared, both_shift, choice, compared_constants, compared_with_constant, constant_and, constant_compared, constant_shift, group_pointer, kind8, kind16, kind32, kind64, known_choice, maybe, register_and, shift_with_constant, shifted_constants, source_of, two_constants, with_constant};
 
 use hsail_reader::Comparison;
 use kernel_check::{
@@ -41,6 +41,17 @@ pub fn constant_and<N>(constant: N, right: RegisterNumber) -> Pair<Source<N>>
     }
 }
 
+/// Two constants as sources.
+#[inline(always)]
+pub fn two_constants<N>(left: N, right: N) -> Pair<Source<N>>
+    ensures { result ≡ two_constants left right }
+{
+    Pair {
+        left: Source::Constant(left),
+        right: Source::Constant(right),
+    }
+}
+
 /// Two registers as the sources of a shift of 64 bits.
 #[inline(always)]
 pub fn both_shift(left: RegisterNumber, right: RegisterNumber) -> Shift64
@@ -71,6 +82,17 @@ pub fn constant_shift(constant: u64, right: RegisterNumber) -> Shift64
     Shift64 {
         value: Source::Constant(constant),
         count: Source::Register(right),
+    }
+}
+
+/// A constant that a shift of 64 bits moves by a constant.
+#[inline(always)]
+pub fn shifted_constants(value: u64, count: u32) -> Shift64
+    ensures { result ≡ shifted_constants value count }
+{
+    Shift64 {
+        value: Source::Constant(value),
+        count: Source::Constant(count),
     }
 }
 
@@ -122,6 +144,18 @@ pub fn constant_compared<N>(
     }
 }
 
+/// Two constants that are compared.
+#[inline(always)]
+pub fn compared_constants<N>(comparison: Comparison, left: N, right: N) -> Compare<Source<N>>
+    ensures { result ≡ compared_constants comparison left right }
+{
+    Compare {
+        comparison,
+        left: Source::Constant(left),
+        right: Source::Constant(right),
+    }
+}
+
 /// The three sources of `mad`.
 #[inline(always)]
 pub fn triple<N>(first: Source<N>, second: Source<N>, third: Source<N>) -> Triple<Source<N>>
@@ -134,7 +168,7 @@ pub fn triple<N>(first: Source<N>, second: Source<N>, third: Source<N>) -> Tripl
     }
 }
 
-/// The source that an operand is, beside the step's constant.
+/// The source that an operand is, beside its constant.
 #[inline(always)]
 pub fn source_of<N: Copy>(operand: Operand, constant: N) -> Source<N>
     ensures { result ≡ source_of operand constant }
@@ -153,6 +187,18 @@ pub fn choice<N>(condition: RegisterNumber, one: Source<N>, zero: Source<N>) -> 
 {
     Choice {
         condition: Source::Register(condition),
+        one,
+        zero,
+    }
+}
+
+/// The sources of `cmov` on a constant.
+#[inline(always)]
+pub fn known_choice<N>(condition: bool, one: Source<N>, zero: Source<N>) -> Choice<Source<N>>
+    ensures { result ≡ known_choice condition one zero }
+{
+    Choice {
+        condition: Source::Constant(condition),
         one,
         zero,
     }
@@ -178,6 +224,17 @@ pub fn register_and(base: RegisterNumber, offset: u64) -> Pointer
     Pointer {
         base: Some(base),
         offset,
+    }
+}
+
+/// That of one at a number.
+#[inline(always)]
+pub fn at_number(address: u64) -> Pointer
+    ensures { result ≡ at_number address }
+{
+    Pointer {
+        base: None,
+        offset: address,
     }
 }
 

@@ -416,12 +416,20 @@ fn operand32(r: &Registers, operand: Operand, constant: u32) -> u32
 
 /// What `mad` of operands of 32 bits comes to.
 #[inline(always)]
-fn product32(r: &Registers, first: Operand, second: Operand, third: Operand, constant: u32) -> u32
-    ensures { result ≡ value32 r.now (single.MultiplyAdd (triple_of first second third constant)) }
+fn product32(
+    r: &Registers,
+    first: Operand,
+    second: Operand,
+    third: Operand,
+    one: u32,
+    two: u32,
+    three: u32,
+) -> u32
+    ensures { result ≡ value32 r.now (single.MultiplyAdd (triple_of first second third one two three)) }
 {
-    let one = operand32(r, first, constant);
-    let two = operand32(r, second, constant);
-    let three = operand32(r, third, constant);
+    let one = operand32(r, first, one);
+    let two = operand32(r, second, two);
+    let three = operand32(r, third, three);
     Number::multiply_add(one, two, three)
 }
 
@@ -442,12 +450,14 @@ pub fn mad32_of(
         first,
         second,
         third,
-        constant,
+        one,
+        two,
+        three,
     } = *step
     else {
         return Gone::Other;
     };
-    let bits = product32(r, first, second, third, constant);
+    let bits = product32(r, first, second, third, one, two, three);
     r.set32(to, bits);
     Gone::Onward
 }
@@ -463,12 +473,20 @@ fn operand64(r: &Registers, operand: Operand, constant: u64) -> u64
 
 /// What `mad` of operands of 64 bits comes to.
 #[inline(always)]
-fn product64(r: &Registers, first: Operand, second: Operand, third: Operand, constant: u64) -> u64
-    ensures { result ≡ value64 r.now (double.MultiplyAdd (triple_of first second third constant)) }
+fn product64(
+    r: &Registers,
+    first: Operand,
+    second: Operand,
+    third: Operand,
+    one: u64,
+    two: u64,
+    three: u64,
+) -> u64
+    ensures { result ≡ value64 r.now (double.MultiplyAdd (triple_of first second third one two three)) }
 {
-    let one = operand64(r, first, constant);
-    let two = operand64(r, second, constant);
-    let three = operand64(r, third, constant);
+    let one = operand64(r, first, one);
+    let two = operand64(r, second, two);
+    let three = operand64(r, third, three);
     Number::multiply_add(one, two, three)
 }
 
@@ -489,12 +507,14 @@ pub fn mad64_of(
         first,
         second,
         third,
-        constant,
+        one,
+        two,
+        three,
     } = *step
     else {
         return Gone::Other;
     };
-    let bits = product64(r, first, second, third, constant);
+    let bits = product64(r, first, second, third, one, two, three);
     r.set64(to, bits);
     Gone::Onward
 }

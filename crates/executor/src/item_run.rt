@@ -1,6 +1,7 @@
 //! A work-item run until it waits at a barrier or ends.
-ghost use Rattle.std.specs.Prelude.{◌≡◌, ◌+◌, ◌<◌, ◌≤◌, ◌^◌, ℕ, Some, None, length, slice_index};
+ghost use Rattle.std.specs.Prelude.{◌≡◌, ◌+◌, ◌<◌, ◌≤◌, ◌^◌, ℕ, Some, None, true, false, length, slice_index};
 ghost use Rattle.executor.specs.declared.fault.RunFault.TheVariants as fault_arm;
+ghost use Rattle.executor.specs.declared.item.Stop.TheVariants as stop_arm;
 ghost use Rattle.queue_error.specs.declared.error.SegmentAddress.TheVariants as segment;
 ghost use Rattle.queue_error.specs.declared.rule.Rule.TheVariants.{A5};
 ghost use Rattle.executor.specs.Group.{ready};
@@ -8,7 +9,7 @@ ghost use Rattle.executor.specs.inner.Held.{contents, surroundings};
 ghost use Rattle.executor.specs.Locations.{id_of};
 ghost use Rattle.executor.specs.Meaning.{turn};
 ghost use Rattle.executor.specs.inner.Few.{LeavesRest};
-ghost use Rattle.executor.specs.inner.ItemRuns.{ItemComes};
+ghost use Rattle.executor.specs.inner.ItemRuns.{ItemComes, LeftBy};
 ghost use Rattle.executor.specs.inner.Stops.{executed_by, standing};
 ghost use Rattle.executor.specs.inner.Turns.{Acts};
 ghost use Rattle.executor.specs.declared.limits.TheConstants.{BUDGET};
@@ -75,8 +76,9 @@ fn line_of(program: &Program, step: usize) -> u32
     }
 }
 
-/// One turn of an item that has not used up its budget.
-#[inline(always)]
+/// One turn of an item that has not used up its budget, by the table of instructions.
+#[cold]
+#[inline(never)]
 fn turn(
     alloc: Global,
     context: &ItemContext<'_>,
@@ -119,91 +121,85 @@ pub fn run_item(
             return true;
         };
         left -= 1;
-        match go(
-            alloc,
-            context,
-            &mut stopped.item.registers,
-            next,
-            memory,
-            flat,
-        ) {
+        let r = &mut stopped.item.registers;
+        match go(alloc, context, r, next, memory, flat) {
             Gone::Onward => next += 1,
             Gone::Next(after) => next = after,
-            Gone::Arrived => {
-                stopped.item.next = next + 1;
-                stopped.left = left;
-                stopped.stop = Stop::Barrier;
-                return true;
-            }
+            Gone::Arrived => return wait(stopped, next + 1, left),
             Gone::Ended => {
                 stopped.stop = Stop::End;
                 return true;
             }
-            Gone::BrokeGlobal(rule, address) => {
-                tell_global(broken, program, number, next, rule, address);
-                return false;
-            }
-            Gone::BrokeGroup(rule, address) => {
-                tell_group(broken, program, number, next, rule, address);
-                return false;
-            }
-            Gone::OutOfMemory => {
-                tell_want(broken);
-                return false;
-            }
+            Gone::BrokeGlobal(rule, x) => return tell_global(
+                broken, program, number, next, rule, x,
+            ),
+            Gone::BrokeGroup(rule, x) => return tell_group(broken, program, number, next, rule, x),
+            Gone::OutOfMemory => return tell_want(broken),
             Gone::Other => {
                 stopped.item.next = next;
                 match turn(alloc, context, program, &mut stopped.item, memory) {
                     Outcome::GoesOn => next = stopped.item.next,
-                    Outcome::Arrived => {
-                        stopped.left = left;
-                        stopped.stop = Stop::Barrier;
-                        return true;
-                    }
-                    Outcome::Ended => {
-                        stopped.item.registers = Registers::cleared();
-                        stopped.stop = Stop::End;
-                        return true;
-                    }
-                    Outcome::Broke(rule, address) => {
-                        tell(broken, program, number, next, rule, address);
-                        return false;
-                    }
-                    Outcome::OutOfMemory => {
-                        tell_want(broken);
-                        return false;
-                    }
+                    outcome => return leave(outcome, stopped, left, broken, program, number, next),
                 }
             }
         }
     }
     if next < program.steps().len() {
-        tell_spent(broken, program, number, next);
-        return false;
+        return tell_spent(broken, program, number, next);
     }
     stopped.stop = Stop::End;
     true
 }
 
-/// Tells the fault of an item that broke a rule at a step by an access to an address.
+/// Leaves an item waiting at a barrier, behind which a step stands.
 #[inline(always)]
-fn tell(
+fn wait(stopped: &mut StoppedItem, next: usize, left: u32) -> bool
+    ensures value { result ≡ true }
+    ensures item { stopped.new ≡ record { item = record { registers = stopped.old.item.registers; next = next }; left = left; stop = stop_arm.Barrier } }
+{
+    stopped.item.next = next;
+    stopped.left = left;
+    stopped.stop = Stop::Barrier;
+    true
+}
+
+/// Leaves an item where a turn by the table of instructions took it that it doesn't go on from.
+#[cold]
+#[inline(never)]
+fn leave(
+    outcome: Outcome,
+    stopped: &mut StoppedItem,
+    left: u32,
     broken: &mut RunFault,
     program: &Program,
     item: u32,
     step: usize,
-    rule: Rule,
-    address: SegmentAddress,
-)
-    ensures { broken.new ≡ fault_arm.Fault (record { item = item; line = slice_index program.now.lines step; rule = rule; address = Some address }) }
+) -> bool
+    ensures { LeftBy outcome program.now item step left stopped.old result stopped.new broken.new }
 {
-    match address {
-        SegmentAddress::Global(address) => tell_global(broken, program, item, step, rule, address),
-        SegmentAddress::Group(address) => tell_group(broken, program, item, step, rule, address),
+    match outcome {
+        Outcome::Arrived => {
+            stopped.left = left;
+            stopped.stop = Stop::Barrier;
+            true
+        }
+        Outcome::Ended => {
+            stopped.item.registers = Registers::cleared();
+            stopped.stop = Stop::End;
+            true
+        }
+        Outcome::Broke(rule, SegmentAddress::Global(address)) => tell_global(
+            broken, program, item, step, rule, address,
+        ),
+        Outcome::Broke(rule, SegmentAddress::Group(address)) => tell_group(
+            broken, program, item, step, rule, address,
+        ),
+        Outcome::GoesOn | Outcome::OutOfMemory => tell_want(broken),
     }
 }
 
-/// Tells that of an access to global memory. What runs items makes no value for it, and so has no room to clear.
+/// Tells the fault of an item that broke a rule at a step by an access to global memory. What runs items makes no
+/// value for it, and so has no room to clear.
 #[cold]
 #[inline(never)]
 fn tell_global(
@@ -213,14 +209,16 @@ fn tell_global(
     step: usize,
     rule: Rule,
     address: u64,
-)
-    ensures { broken.new ≡ fault_arm.Fault (record { item = item; line = slice_index program.now.lines step; rule = rule; address = Some (segment.Global address) }) }
+) -> bool
+    ensures value { result ≡ false }
+    ensures fault { broken.new ≡ fault_arm.Fault (record { item = item; line = slice_index program.now.lines step; rule = rule; address = Some (segment.Global address) }) }
 {
     let address = SegmentAddress::Global(address);
     *broken = fault(program, item, step, rule, Some(address));
+    false
 }
 
-/// Tells that of an access to group memory.
+/// Tells that of one by an access to group memory.
 #[cold]
 #[inline(never)]
 fn tell_group(
@@ -230,29 +228,35 @@ fn tell_group(
     step: usize,
     rule: Rule,
     address: u32,
-)
-    ensures { broken.new ≡ fault_arm.Fault (record { item = item; line = slice_index program.now.lines step; rule = rule; address = Some (segment.Group address) }) }
+) -> bool
+    ensures value { result ≡ false }
+    ensures fault { broken.new ≡ fault_arm.Fault (record { item = item; line = slice_index program.now.lines step; rule = rule; address = Some (segment.Group address) }) }
 {
     let address = SegmentAddress::Group(address);
     *broken = fault(program, item, step, rule, Some(address));
+    false
 }
 
 /// Tells that an item has spent its budget at a step.
 #[cold]
 #[inline(never)]
-fn tell_spent(broken: &mut RunFault, program: &Program, item: u32, step: usize)
-    ensures { broken.new ≡ fault_arm.Fault (record { item = item; line = slice_index program.now.lines step; rule = A5; address = None }) }
+fn tell_spent(broken: &mut RunFault, program: &Program, item: u32, step: usize) -> bool
+    ensures value { result ≡ false }
+    ensures fault { broken.new ≡ fault_arm.Fault (record { item = item; line = slice_index program.now.lines step; rule = A5; address = None }) }
 {
     *broken = fault(program, item, step, Rule::A5, None);
+    false
 }
 
 /// Tells want of memory.
 #[cold]
 #[inline(never)]
-fn tell_want(broken: &mut RunFault)
-    ensures { broken.new ≡ fault_arm.OutOfMemory }
+fn tell_want(broken: &mut RunFault) -> bool
+    ensures value { result ≡ false }
+    ensures fault { broken.new ≡ fault_arm.OutOfMemory }
 {
     *broken = RunFault::OutOfMemory;
+    false
 }
 
 /// The fault of an item at a step, by an access to an address or by none.

@@ -3,6 +3,8 @@ use Rattle.std.specs.Prelude.{◌≡◌, if◌then◌else◌, Bool, ℕ, List, [
 use Rattle.hsail_reader.specs.declared.types.Comparison.{Comparison}
 use Rattle.kernel_check.specs.declared.flat.FlatStep.{FlatStep}
 use Rattle.kernel_check.specs.declared.flat.FlatStep.TheVariants as flat
+use Rattle.kernel_check.specs.declared.flat_rare.RareStep.{RareStep}
+use Rattle.kernel_check.specs.declared.flat_rare.RareStep.TheVariants as rare
 use Rattle.kernel_check.specs.declared.step.AnyRegister.{AnyRegister}
 use Rattle.kernel_check.specs.declared.step.AnyRegister.TheVariants as register
 use Rattle.kernel_check.specs.declared.step.AnySource.{AnySource}
@@ -77,11 +79,21 @@ double_step target operation = Some (step.Double (record { target = target; oper
 abbrev pub register_and : ℕ → ℕ → Pointer
 register_and base offset = record { base = Some base; offset = offset }
 
+-- one that is a number
+abbrev pub at_number : ℕ → Pointer
+at_number address = record { base = None; offset = address }
+
 abbrev pub load_step : NumberType → AnyRegister → ℕ → ℕ → Option Step
 load_step kind target base offset = Some (step.Load (record { kind = kind; target = target; pointer = register_and base offset }))
 
 abbrev pub store_step : NumberType → AnySource → ℕ → ℕ → Option Step
 store_step kind source base offset = Some (step.Store (record { kind = kind; source = source; pointer = register_and base offset }))
+
+abbrev pub load_at_step : NumberType → AnyRegister → ℕ → Option Step
+load_at_step kind target address = Some (step.Load (record { kind = kind; target = target; pointer = at_number address }))
+
+abbrev pub store_at_step : NumberType → AnySource → ℕ → Option Step
+store_at_step kind source address = Some (step.Store (record { kind = kind; source = source; pointer = at_number address }))
 
 -- a constant in front of a register, in pairs, shifts of 64 bits and comparisons
 abbrev pub constant_and : {N : Type 0} → N → ℕ → Pair (Source N)
@@ -93,12 +105,22 @@ constant_shift constant right = record { value = source.Constant constant; count
 abbrev pub constant_compared : {N : Type 0} → Comparison → N → ℕ → Compare (Source N)
 constant_compared comparison constant right = record { comparison = comparison; left = source.Constant constant; right = source.Register right }
 
--- the source that an operand is, beside the step's constant
+-- two constants, in the same
+abbrev pub two_constants : {N : Type 0} → N → N → Pair (Source N)
+two_constants left right = record { left = source.Constant left; right = source.Constant right }
+
+abbrev pub shifted_constants : ℕ → ℕ → Shift64
+shifted_constants value count = record { value = source.Constant value; count = source.Constant count }
+
+abbrev pub compared_constants : {N : Type 0} → Comparison → N → N → Compare (Source N)
+compared_constants comparison left right = record { comparison = comparison; left = source.Constant left; right = source.Constant right }
+
+-- the source that an operand is, beside its constant
 abbrev pub source_of : {N : Type 0} → Operand → N → Source N
 source_of o constant = if o.is_register then source.Register o.number else source.Constant constant
 
-abbrev pub triple_of : {N : Type 0} → Operand → Operand → Operand → N → Triple (Source N)
-triple_of first second third constant = record { first = source_of first constant; second = source_of second constant; third = source_of third constant }
+abbrev pub triple_of : {N : Type 0} → Operand → Operand → Operand → N → N → N → Triple (Source N)
+triple_of first second third one two three = record { first = source_of first one; second = source_of second two; third = source_of third three }
 
 abbrev pub bit_source : Bit → Source Bool
 bit_source b = if b.is_register then source.Register b.number else source.Constant b.constant
@@ -116,6 +138,10 @@ group_pointer base offset = record { base = maybe base; offset = offset }
 -- the sources of `cmov` on a register
 abbrev pub choice : {N : Type 0} → ℕ → Source N → Source N → Choice (Source N)
 choice condition one zero = record { condition = source.Register condition; one = one; zero = zero }
+
+-- those of `cmov` on a constant
+abbrev pub known_choice : {N : Type 0} → Bool → Source N → Source N → Choice (Source N)
+known_choice condition one zero = record { condition = source.Constant condition; one = one; zero = zero }
 
 -- operations, shifts and comparisons of two sources
 abbrev pub calculated32 : Operation → Pair (Source ℕ) → SingleOperation
@@ -207,11 +233,48 @@ changed change.Or source = atomic.Or source
 changed change.Xor source = atomic.Xor source
 changed change.Exchange source = atomic.Exchange source
 
+-- `cas` of two sources
+abbrev pub swapping : {S : Type 0} → S → S → AtomicChange S
+swapping expected replacement = atomic.CompareAndSwap (record { expected = expected; replacement = replacement })
+
 abbrev pub atomic32_step : Option ℕ → AtomicPointer → AtomicChange (Source ℕ) → Option Step
 atomic32_step target pointer operation = Some (step.Atomic32 (record { target = target; pointer = pointer; operation = operation }))
 
 abbrev pub atomic64_step : Option ℕ → AtomicPointer → AtomicChange (Source ℕ) → Option Step
 atomic64_step target pointer operation = Some (step.Atomic64 (record { target = target; pointer = pointer; operation = operation }))
+
+-- the step that one stands for which texts seldom have
+abbrev pub plain_rare : RareStep → Option Step
+plain_rare (rare.NotConstant32 t c) = single_step t (single.Not (source.Constant c))
+plain_rare (rare.CalculateConstants32 o t l r) = single_step t (calculated32 o (two_constants l r))
+plain_rare (rare.ShiftConstants32 o t n v) = single_step t (shifted32 o (two_constants v n))
+plain_rare (rare.ChooseKnown32 t b x y c d) = single_step t (single.Choose (known_choice b (source_of x c) (source_of y d)))
+plain_rare (rare.NotConstant64 t c) = double_step t (double.Not (source.Constant c))
+plain_rare (rare.CalculateConstants64 o t l r) = double_step t (calculated64 o (two_constants l r))
+plain_rare (rare.ShiftConstants64 o t n v) = double_step t (shifted64 o (shifted_constants v n))
+plain_rare (rare.ChooseKnown64 t b x y c d) = double_step t (double.Choose (known_choice b (source_of x c) (source_of y d)))
+plain_rare (rare.CompareConstants32 g f t l r) = control_step t (compared32 g (compared_constants f l r))
+plain_rare (rare.CompareConstants64 g f t l r) = control_step t (compared64 g (compared_constants f l r))
+plain_rare (rare.ConvertConstant1 from kind t c) = convert_step from kind t (any.Control (source.Constant c))
+plain_rare (rare.ConvertConstant32 from kind t c) = convert_step from kind t (any.Single (source.Constant c))
+plain_rare (rare.ConvertConstant64 from kind t c) = convert_step from kind t (any.Double (source.Constant c))
+plain_rare (rare.LoadAt8 g t x) = load_at_step (kind8 g) (register.Single t) x
+plain_rare (rare.LoadAt16 g t x) = load_at_step (kind16 g) (register.Single t) x
+plain_rare (rare.LoadAt32 g t x) = load_at_step (kind32 g) (register.Single t) x
+plain_rare (rare.LoadAt64 g t x) = load_at_step (kind64 g) (register.Double t) x
+plain_rare (rare.StoreAt8 g s c x) = store_at_step (kind8 g) (any.Single (source_of s c)) x
+plain_rare (rare.StoreAt16 g s c x) = store_at_step (kind16 g) (any.Single (source_of s c)) x
+plain_rare (rare.StoreAt32 g s c x) = store_at_step (kind32 g) (any.Single (source_of s c)) x
+plain_rare (rare.StoreAt64 g s c x) = store_at_step (kind64 g) (any.Double (source_of s c)) x
+plain_rare (rare.AtomicAt32 f t s x c) = atomic32_step (maybe t) (atomic_at.Global (at_number x)) (changed f (source_of s c))
+plain_rare (rare.SwapGlobal32 t b e n o c d) = atomic32_step (maybe t) (atomic_at.Global (register_and b o)) (swapping (source_of e c) (source_of n d))
+plain_rare (rare.SwapAt32 t e n x c d) = atomic32_step (maybe t) (atomic_at.Global (at_number x)) (swapping (source_of e c) (source_of n d))
+plain_rare (rare.SwapGroup32 t b e n o c d) = atomic32_step (maybe t) (atomic_at.Group (group_pointer b o)) (swapping (source_of e c) (source_of n d))
+plain_rare (rare.AtomicAt64 f t s x c) = atomic64_step (maybe t) (atomic_at.Global (at_number x)) (changed f (source_of s c))
+plain_rare (rare.SwapGlobal64 t b e n o c d) = atomic64_step (maybe t) (atomic_at.Global (register_and b o)) (swapping (source_of e c) (source_of n d))
+plain_rare (rare.SwapAt64 t e n x c d) = atomic64_step (maybe t) (atomic_at.Global (at_number x)) (swapping (source_of e c) (source_of n d))
+plain_rare (rare.SwapGroup64 t b e n o c d) = atomic64_step (maybe t) (atomic_at.Group (group_pointer b o)) (swapping (source_of e c) (source_of n d))
+plain_rare (rare.BranchIf condition next) = Some (step.ConditionalBranch (record { condition = source.Constant condition; next = next }))
 
 -- the step that a flat one stands for
 abbrev pub plain : FlatStep → Option Step
@@ -245,7 +308,7 @@ plain (flat.MultiplyAdd32 p) =
     single_step p.to (single.MultiplyAdd (record { first = source.Register p.first; second = source.Register p.second; third = source.Register p.third }))
 plain (flat.MultiplyAdd32Constants t x y z) =
     single_step t (single.MultiplyAdd (record { first = source.Register x; second = source.Constant y; third = source.Constant z }))
-plain (flat.MultiplyAdd32Of t x y z c) = single_step t (single.MultiplyAdd (triple_of x y z c))
+plain (flat.MultiplyAdd32Of t x y z a b c) = single_step t (single.MultiplyAdd (triple_of x y z a b c))
 plain (flat.Choose32 t b x y c) = single_step t (single.Choose (choice b (source_of x c) (source_of y c)))
 plain (flat.Choose32Constants p) = single_step p.to (single.Choose (choice p.condition (source.Constant p.one) (source.Constant p.zero)))
 plain (flat.Move64 p) = double_step p.to (double.Move (source.Register p.source))
@@ -277,9 +340,9 @@ plain (flat.MultiplyAdd64 p) =
     double_step p.to (double.MultiplyAdd (record { first = source.Register p.first; second = source.Register p.second; third = source.Register p.third }))
 plain (flat.MultiplyAdd64Constant t x z y) =
     double_step t (double.MultiplyAdd (record { first = source.Register x; second = source.Constant y; third = source.Register z }))
-plain (flat.MultiplyAdd64Of t x y z c) = double_step t (double.MultiplyAdd (triple_of x y z c))
+plain (flat.MultiplyAdd64Of t x y z a b c) = double_step t (double.MultiplyAdd (triple_of x y z a b c))
 plain (flat.Choose64 t b x y c) = double_step t (double.Choose (choice b (source_of x c) (source_of y c)))
-plain (flat.Choose64Constants p) = double_step p.to (double.Choose (choice p.condition (source.Constant p.one) (source.Constant p.zero)))
+plain (flat.Choose64Constants t b x y) = double_step t (double.Choose (choice b (source.Constant x) (source.Constant y)))
 plain (flat.CompareUnsigned32 p) = control_step p.to (control.CompareUnsigned32 (both_compared p.comparison p.left p.right))
 plain (flat.CompareUnsigned32Constant p) = control_step p.to (control.CompareUnsigned32 (compared_with_constant p.comparison p.left p.constant))
 plain (flat.CompareSigned32 p) = control_step p.to (control.CompareSigned32 (both_compared p.comparison p.left p.right))
@@ -346,6 +409,7 @@ plain (flat.AtomicGlobal64 f t b s o c) = atomic64_step (maybe t) (atomic_at.Glo
 plain (flat.AtomicGroup64 f t b s o c) = atomic64_step (maybe t) (atomic_at.Group (group_pointer b o)) (changed f (source_of s c))
 plain (flat.Branch next) = Some (step.Branch next)
 plain (flat.ConditionalBranch s next) = Some (step.ConditionalBranch (record { condition = source.Register s; next = next }))
+plain (flat.Rare s) = plain_rare s
 plain flat.Barrier = Some step.Barrier
 plain flat.Return = Some step.Return
 

@@ -6,11 +6,12 @@ use crate::flat_parts::{
     ConstantBehind, Conversion, FromOne, FromThree, FromTwo, MaybeRegister, Operand, Operation,
     PlaceIn, Question, ShiftOperation, Signedness,
 };
+use crate::flat_rare::RareStep;
 use crate::step::{NumberType, RegisterNumber};
 use hsail_reader::Comparison;
 use std::mem::size_of;
 
-/// A step laid flat, or the mark that a step has no flat form. Names with 32 set an `$s` register, those with
+/// A step laid flat, or the mark that a step has no flat form, as none has that a text can have. Names with 32 set an `$s` register, those with
 /// 64 a `$d` register, and comparisons a `$c` register.
 #[derive(Clone, Copy)]
 pub enum FlatStep {
@@ -99,9 +100,11 @@ pub enum FlatStep {
         first: Operand,
         second: Operand,
         third: Operand,
-        constant: u32,
+        one: u32,
+        two: u32,
+        three: u32,
     },
-    /// `cmov_b32`
+    /// `cmov_b32` on a register
     Choose32 {
         to: RegisterNumber,
         condition: RegisterNumber,
@@ -218,9 +221,11 @@ pub enum FlatStep {
         first: Operand,
         second: Operand,
         third: Operand,
-        constant: u64,
+        one: u64,
+        two: u64,
+        three: u64,
     },
-    /// `cmov_b64`
+    /// `cmov_b64` on a register
     Choose64 {
         to: RegisterNumber,
         condition: RegisterNumber,
@@ -228,8 +233,13 @@ pub enum FlatStep {
         zero: Operand,
         constant: u64,
     },
-    /// `cmov_b64` of two constants of 32 bits
-    Choose64Constants(ChosenConstants),
+    /// `cmov_b64` of two constants
+    Choose64Constants {
+        to: RegisterNumber,
+        condition: RegisterNumber,
+        one: u64,
+        zero: u64,
+    },
     /// `cmp_OP_b1_u32` of two registers
     CompareUnsigned32(Compared),
     /// `cmp_OP_b1_u32` with a constant behind
@@ -433,7 +443,7 @@ pub enum FlatStep {
     StoreConstant64 {
         sign: Signedness,
         base: RegisterNumber,
-        offset: u32,
+        offset: u64,
         constant: u64,
     },
     /// `ld_group` of 8 bits
@@ -499,12 +509,12 @@ pub enum FlatStep {
         offset: u32,
         constant: u32,
     },
-    /// `st_group` of 64 bits of a constant that has 32
+    /// `st_group` of 64 bits of a constant
     StoreGroupConstant64 {
         sign: Signedness,
         base: MaybeRegister,
         offset: u32,
-        constant: u32,
+        constant: u64,
     },
     /// An atomic operation of 32 bits and one source on global memory
     AtomicGlobal32 {
@@ -512,7 +522,7 @@ pub enum FlatStep {
         target: MaybeRegister,
         base: RegisterNumber,
         source: Operand,
-        offset: u32,
+        offset: u64,
         constant: u32,
     },
     /// One on group memory
@@ -530,8 +540,8 @@ pub enum FlatStep {
         target: MaybeRegister,
         base: RegisterNumber,
         source: Operand,
-        offset: u32,
-        constant: u32,
+        offset: u64,
+        constant: u64,
     },
     /// One on group memory
     AtomicGroup64 {
@@ -540,7 +550,7 @@ pub enum FlatStep {
         base: MaybeRegister,
         source: Operand,
         offset: u32,
-        constant: u32,
+        constant: u64,
     },
     /// `br`, as in `Step`
     Branch {
@@ -551,10 +561,12 @@ pub enum FlatStep {
         condition: RegisterNumber,
         next: usize,
     },
+    /// A step that texts seldom have
+    Rare(RareStep),
     /// `barrier`
     Barrier,
     /// `ret`
     Return,
 }
 
-const _: () = prove!(size_of::<FlatStep>() <= 16);
+const _: () = prove!(size_of::<FlatStep>() <= 40);

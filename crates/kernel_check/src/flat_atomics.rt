@@ -1,13 +1,15 @@
-//! Atomic operations of one source laid flat.
+//! Atomic operations laid flat.
 
-ghost use Rattle.kernel_check.specs.Flat.{Stands, changed, source_of};
+ghost use Rattle.kernel_check.specs.Flat.{Stands, changed};
+ghost use Rattle.kernel_check.specs.declared.step.AtomicChange.TheVariants as atomic;
 ghost use Rattle.kernel_check.specs.declared.step.Step.TheVariants as step_arm;
 
 use crate::flat::FlatStep;
-use crate::flat_operands::{constant_operand, maybe_register, register_operand, short};
-use crate::flat_parts::{Change, Operand};
+use crate::flat_operands::{maybe_register, parts32, parts64};
+use crate::flat_parts::Change;
+use crate::flat_rare::RareStep;
 use crate::step::{
-    AtomicChange, AtomicPointer, AtomicStep, RegisterNumber, Source, Source32, Source64,
+    AtomicChange, AtomicPointer, AtomicStep, RegisterNumber, Source32, Source64, Swap,
 };
 
 /// An atomic operation of 32 bits laid flat.
@@ -42,7 +44,7 @@ pub(crate) fn flat_atomic32(step: &AtomicStep<Source32>) -> FlatStep
         AtomicChange::Or(source) => flat_change32(to, at, Change::Or, *source),
         AtomicChange::Xor(source) => flat_change32(to, at, Change::Xor, *source),
         AtomicChange::Exchange(source) => flat_change32(to, at, Change::Exchange, *source),
-        AtomicChange::CompareAndSwap(_) => FlatStep::Other,
+        AtomicChange::CompareAndSwap(swap) => flat_swap32(to, at, swap),
     }
 }
 
@@ -55,23 +57,8 @@ fn flat_change32(
 ) -> FlatStep
     ensures { Stands result (step_arm.Atomic32 (record { target = to; pointer = at; operation = changed change source })) }
 {
-    match source {
-        Source::Register(number) => flat_operand32(to, at, change, register_operand(number), 0),
-        Source::Constant(constant) => flat_operand32(to, at, change, constant_operand(), constant),
-    }
-}
-
-/// One whose source is an operand.
-fn flat_operand32(
-    to: Option<RegisterNumber>,
-    at: AtomicPointer,
-    change: Change,
-    source: Operand,
-    constant: u32,
-) -> FlatStep
-    ensures { Stands result (step_arm.Atomic32 (record { target = to; pointer = at; operation = changed change (source_of source constant) })) }
-{
     let target = maybe_register(to);
+    let (source, constant) = parts32(source);
     match at {
         AtomicPointer::Group(pointer) => FlatStep::AtomicGroup32 {
             change,
@@ -81,22 +68,62 @@ fn flat_operand32(
             offset: pointer.offset,
             constant,
         },
-        AtomicPointer::Global(pointer) => {
-            let Some(base) = pointer.base else {
-                return FlatStep::Other;
-            };
-            let Some(offset) = short(pointer.offset) else {
-                return FlatStep::Other;
-            };
-            FlatStep::AtomicGlobal32 {
+        AtomicPointer::Global(pointer) => match pointer.base {
+            Some(base) => FlatStep::AtomicGlobal32 {
                 change,
                 target,
                 base,
                 source,
-                offset,
+                offset: pointer.offset,
                 constant,
-            }
-        }
+            },
+            None => FlatStep::Rare(RareStep::AtomicAt32 {
+                change,
+                target,
+                source,
+                address: pointer.offset,
+                constant,
+            }),
+        },
+    }
+}
+
+/// `cas` of 32 bits laid flat.
+fn flat_swap32(to: Option<RegisterNumber>, at: AtomicPointer, swap: &Swap<Source32>) -> FlatStep
+    ensures { Stands result (step_arm.Atomic32 (record { target = to; pointer = at; operation = atomic.CompareAndSwap swap.now })) }
+{
+    let target = maybe_register(to);
+    let (expected, expected_constant) = parts32(swap.expected);
+    let (replacement, replacement_constant) = parts32(swap.replacement);
+    match at {
+        AtomicPointer::Group(pointer) => FlatStep::Rare(RareStep::SwapGroup32 {
+            target,
+            base: maybe_register(pointer.base),
+            expected,
+            replacement,
+            offset: pointer.offset,
+            expected_constant,
+            replacement_constant,
+        }),
+        AtomicPointer::Global(pointer) => match pointer.base {
+            Some(base) => FlatStep::Rare(RareStep::SwapGlobal32 {
+                target,
+                base,
+                expected,
+                replacement,
+                offset: pointer.offset,
+                expected_constant,
+                replacement_constant,
+            }),
+            None => FlatStep::Rare(RareStep::SwapAt32 {
+                target,
+                expected,
+                replacement,
+                address: pointer.offset,
+                expected_constant,
+                replacement_constant,
+            }),
+        },
     }
 }
 
@@ -132,7 +159,7 @@ pub(crate) fn flat_atomic64(step: &AtomicStep<Source64>) -> FlatStep
         AtomicChange::Or(source) => flat_change64(to, at, Change::Or, *source),
         AtomicChange::Xor(source) => flat_change64(to, at, Change::Xor, *source),
         AtomicChange::Exchange(source) => flat_change64(to, at, Change::Exchange, *source),
-        AtomicChange::CompareAndSwap(_) => FlatStep::Other,
+        AtomicChange::CompareAndSwap(swap) => flat_swap64(to, at, swap),
     }
 }
 
@@ -145,26 +172,8 @@ fn flat_change64(
 ) -> FlatStep
     ensures { Stands result (step_arm.Atomic64 (record { target = to; pointer = at; operation = changed change source })) }
 {
-    match source {
-        Source::Register(number) => flat_operand64(to, at, change, register_operand(number), 0),
-        Source::Constant(constant) => match short(constant) {
-            Some(constant) => flat_operand64(to, at, change, constant_operand(), constant),
-            None => FlatStep::Other,
-        },
-    }
-}
-
-/// One whose source is an operand.
-fn flat_operand64(
-    to: Option<RegisterNumber>,
-    at: AtomicPointer,
-    change: Change,
-    source: Operand,
-    constant: u32,
-) -> FlatStep
-    ensures { Stands result (step_arm.Atomic64 (record { target = to; pointer = at; operation = changed change (source_of source constant) })) }
-{
     let target = maybe_register(to);
+    let (source, constant) = parts64(source);
     match at {
         AtomicPointer::Group(pointer) => FlatStep::AtomicGroup64 {
             change,
@@ -174,21 +183,61 @@ fn flat_operand64(
             offset: pointer.offset,
             constant,
         },
-        AtomicPointer::Global(pointer) => {
-            let Some(base) = pointer.base else {
-                return FlatStep::Other;
-            };
-            let Some(offset) = short(pointer.offset) else {
-                return FlatStep::Other;
-            };
-            FlatStep::AtomicGlobal64 {
+        AtomicPointer::Global(pointer) => match pointer.base {
+            Some(base) => FlatStep::AtomicGlobal64 {
                 change,
                 target,
                 base,
                 source,
-                offset,
+                offset: pointer.offset,
                 constant,
-            }
-        }
+            },
+            None => FlatStep::Rare(RareStep::AtomicAt64 {
+                change,
+                target,
+                source,
+                address: pointer.offset,
+                constant,
+            }),
+        },
+    }
+}
+
+/// `cas` of 64 bits laid flat.
+fn flat_swap64(to: Option<RegisterNumber>, at: AtomicPointer, swap: &Swap<Source64>) -> FlatStep
+    ensures { Stands result (step_arm.Atomic64 (record { target = to; pointer = at; operation = atomic.CompareAndSwap swap.now })) }
+{
+    let target = maybe_register(to);
+    let (expected, expected_constant) = parts64(swap.expected);
+    let (replacement, replacement_constant) = parts64(swap.replacement);
+    match at {
+        AtomicPointer::Group(pointer) => FlatStep::Rare(RareStep::SwapGroup64 {
+            target,
+            base: maybe_register(pointer.base),
+            expected,
+            replacement,
+            offset: pointer.offset,
+            expected_constant,
+            replacement_constant,
+        }),
+        AtomicPointer::Global(pointer) => match pointer.base {
+            Some(base) => FlatStep::Rare(RareStep::SwapGlobal64 {
+                target,
+                base,
+                expected,
+                replacement,
+                offset: pointer.offset,
+                expected_constant,
+                replacement_constant,
+            }),
+            None => FlatStep::Rare(RareStep::SwapAt64 {
+                target,
+                expected,
+                replacement,
+                address: pointer.offset,
+                expected_constant,
+                replacement_constant,
+            }),
+        },
     }
 }

@@ -10,12 +10,13 @@ ghost use Rattle.kernel_check.specs.declared.step.Step.TheVariants as step_arm;
 use crate::flat::FlatStep;
 use crate::flat_operands::bit;
 use crate::flat_parts::{Compared, ComparedBehind, Conversion, FromOne, Signedness};
+use crate::flat_rare::RareStep;
 use crate::step::{
     AnyRegister, AnySource, ControlOperation, ControlStep, ConvertStep, NumberType, RegisterNumber,
     Source,
 };
 
-/// A comparison of 32 bits laid flat, of whose sources one is a register.
+/// A comparison of 32 bits laid flat.
 macro_rules! flat_compare32 {
     ($to:expr, $compare:expr => $sign:ident, $registers:ident, $behind:ident) => {
         match $compare.left {
@@ -27,7 +28,13 @@ macro_rules! flat_compare32 {
                     right,
                     constant,
                 },
-                Source::Constant(_) => FlatStep::Other,
+                Source::Constant(right) => FlatStep::Rare(RareStep::CompareConstants32 {
+                    sign: Signedness::$sign,
+                    comparison: $compare.comparison,
+                    to: $to,
+                    left: constant,
+                    right,
+                }),
             },
             Source::Register(left) => match $compare.right {
                 Source::Register(right) => FlatStep::$registers(Compared {
@@ -47,7 +54,7 @@ macro_rules! flat_compare32 {
     };
 }
 
-/// A comparison of 64 bits laid flat, of whose sources one is a register.
+/// A comparison of 64 bits laid flat.
 macro_rules! flat_compare64 {
     ($to:expr, $compare:expr => $sign:ident, $registers:ident, $behind:ident) => {
         match $compare.left {
@@ -59,7 +66,13 @@ macro_rules! flat_compare64 {
                     right,
                     constant,
                 },
-                Source::Constant(_) => FlatStep::Other,
+                Source::Constant(right) => FlatStep::Rare(RareStep::CompareConstants64 {
+                    sign: Signedness::$sign,
+                    comparison: $compare.comparison,
+                    to: $to,
+                    left: constant,
+                    right,
+                }),
             },
             Source::Register(left) => match $compare.right {
                 Source::Register(right) => FlatStep::$registers(Compared {
@@ -131,7 +144,7 @@ pub(crate) fn flat1(set: &ControlStep) -> FlatStep
     }
 }
 
-/// `cvt` of a register laid flat.
+/// `cvt` laid flat.
 pub(crate) fn flat_convert(step: &ConvertStep) -> FlatStep
     ensures { Stands result (step_arm.Convert step.now) }
 {
@@ -142,7 +155,30 @@ pub(crate) fn flat_convert(step: &ConvertStep) -> FlatStep
         AnySource::Control(Source::Register(source)) => flat_bit(from, kind, target, source),
         AnySource::Single(Source::Register(source)) => flat_single(from, kind, target, source),
         AnySource::Double(Source::Register(source)) => flat_double(from, kind, target, source),
-        _ => FlatStep::Other,
+        AnySource::Control(Source::Constant(constant)) => {
+            FlatStep::Rare(RareStep::ConvertConstant1 {
+                from,
+                kind,
+                target,
+                constant,
+            })
+        }
+        AnySource::Single(Source::Constant(constant)) => {
+            FlatStep::Rare(RareStep::ConvertConstant32 {
+                from,
+                kind,
+                target,
+                constant,
+            })
+        }
+        AnySource::Double(Source::Constant(constant)) => {
+            FlatStep::Rare(RareStep::ConvertConstant64 {
+                from,
+                kind,
+                target,
+                constant,
+            })
+        }
     }
 }
 

@@ -6,7 +6,7 @@ ghost use Rattle.kernel_check.specs.declared.step.Source.TheVariants as source_a
 ghost use Rattle.kernel_check.specs.declared.step.Step.TheVariants as step_arm;
 
 use crate::flat::FlatStep;
-use crate::flat_operands::{maybe_register, short};
+use crate::flat_operands::maybe_register;
 use crate::flat_parts::{MaybeRegister, Signedness};
 use crate::step::{
     AnyRegister, AnySource, GroupLoadStep, GroupStoreStep, NumberType, RegisterNumber, Source,
@@ -124,13 +124,10 @@ fn flat_double_store(
     }
 }
 
-/// A store of a constant of 64 bits laid flat that has 32.
+/// A store of a constant of 64 bits laid flat.
 fn flat_wide_store(kind: NumberType, base: MaybeRegister, offset: u32, constant: u64) -> FlatStep
     ensures { Stands result (step_arm.StoreGroup (record { kind = kind; source = any.Double (source_arm.Constant constant); pointer = group_pointer base offset })) }
 {
-    let Some(constant) = short(constant) else {
-        return FlatStep::Other;
-    };
     match kind {
         NumberType::U64 => FlatStep::StoreGroupConstant64 {
             sign: Signedness::Unsigned,

@@ -1,13 +1,14 @@
 //! Arguments, queries, and loads and stores of global memory laid flat.
 
-ghost use Rattle.kernel_check.specs.Flat.{Stands, register_and};
+ghost use Rattle.kernel_check.specs.Flat.{Stands, at_number, register_and};
 ghost use Rattle.kernel_check.specs.declared.step.AnySource.TheVariants as any;
 ghost use Rattle.kernel_check.specs.declared.step.Source.TheVariants as source_arm;
 ghost use Rattle.kernel_check.specs.declared.step.Step.TheVariants as step_arm;
 
 use crate::flat::FlatStep;
-use crate::flat_operands::short;
+use crate::flat_operands::{parts32, parts64};
 use crate::flat_parts::{ArgumentAt, PlaceIn, Question, Signedness};
+use crate::flat_rare::RareStep;
 use crate::step::{
     AnyRegister, AnySource, ArgumentStep, LoadStep, NumberType, RegisterNumber, Source, StoreStep,
     WorkItemQueryStep,
@@ -37,6 +38,17 @@ macro_rules! load {
     };
 }
 
+/// One at a number.
+macro_rules! load_at {
+    ($to:expr, $address:expr => $size:ident, $sign:ident) => {
+        FlatStep::Rare(RareStep::$size {
+            sign: Signedness::$sign,
+            to: $to,
+            address: $address,
+        })
+    };
+}
+
 /// A store of a register laid flat.
 macro_rules! store {
     ($source:expr, $base:expr, $offset:expr => $size:ident, $sign:ident) => {
@@ -58,6 +70,18 @@ macro_rules! store_constant {
             constant: $constant,
             offset: $offset,
         }
+    };
+}
+
+/// A store at a number laid flat.
+macro_rules! store_at {
+    ($parts:expr, $address:expr => $size:ident, $sign:ident) => {
+        FlatStep::Rare(RareStep::$size {
+            sign: Signedness::$sign,
+            source: $parts.0,
+            constant: $parts.1,
+            address: $address,
+        })
     };
 }
 
@@ -112,14 +136,14 @@ pub(crate) fn flat_query(step: &WorkItemQueryStep) -> FlatStep
     }
 }
 
-/// A load from global memory laid flat, whose address has a register.
+/// A load from global memory laid flat.
 pub(crate) fn flat_load(step: &LoadStep) -> FlatStep
     ensures { Stands result (step_arm.Load step.now) }
 {
-    let Some(base) = step.pointer.base else {
-        return FlatStep::Other;
-    };
     let offset = step.pointer.offset;
+    let Some(base) = step.pointer.base else {
+        return flat_load_at(step.kind, step.target, offset);
+    };
     match step.target {
         AnyRegister::Control(_) => FlatStep::Other,
         AnyRegister::Single(to) => match step.kind {
@@ -139,15 +163,38 @@ pub(crate) fn flat_load(step: &LoadStep) -> FlatStep
     }
 }
 
-/// A store to global memory laid flat, whose address has a register.
+/// A load from global memory at a number laid flat.
+fn flat_load_at(kind: NumberType, target: AnyRegister, address: u64) -> FlatStep
+    ensures { Stands result (step_arm.Load (record { kind = kind; target = target; pointer = at_number address })) }
+{
+    match target {
+        AnyRegister::Control(_) => FlatStep::Other,
+        AnyRegister::Single(to) => match kind {
+            NumberType::U8 => load_at!(to, address => LoadAt8, Unsigned),
+            NumberType::S8 => load_at!(to, address => LoadAt8, Signed),
+            NumberType::U16 => load_at!(to, address => LoadAt16, Unsigned),
+            NumberType::S16 => load_at!(to, address => LoadAt16, Signed),
+            NumberType::U32 => load_at!(to, address => LoadAt32, Unsigned),
+            NumberType::S32 => load_at!(to, address => LoadAt32, Signed),
+            _ => FlatStep::Other,
+        },
+        AnyRegister::Double(to) => match kind {
+            NumberType::U64 => load_at!(to, address => LoadAt64, Unsigned),
+            NumberType::S64 => load_at!(to, address => LoadAt64, Signed),
+            _ => FlatStep::Other,
+        },
+    }
+}
+
+/// A store to global memory laid flat.
 pub(crate) fn flat_store(step: &StoreStep) -> FlatStep
     ensures { Stands result (step_arm.Store step.now) }
 {
-    let Some(base) = step.pointer.base else {
-        return FlatStep::Other;
-    };
     let kind = step.kind;
     let offset = step.pointer.offset;
+    let Some(base) = step.pointer.base else {
+        return flat_store_at(kind, step.source, offset);
+    };
     match step.source {
         AnySource::Control(_) => FlatStep::Other,
         AnySource::Single(Source::Register(source)) => flat_single_store(
@@ -158,6 +205,35 @@ pub(crate) fn flat_store(step: &StoreStep) -> FlatStep
         ),
         AnySource::Single(Source::Constant(bits)) => flat_constant_store(kind, base, offset, bits),
         AnySource::Double(Source::Constant(bits)) => flat_wide_store(kind, base, offset, bits),
+    }
+}
+
+/// A store to global memory at a number laid flat.
+fn flat_store_at(kind: NumberType, source: AnySource, address: u64) -> FlatStep
+    ensures { Stands result (step_arm.Store (record { kind = kind; source = source; pointer = at_number address })) }
+{
+    match source {
+        AnySource::Control(_) => FlatStep::Other,
+        AnySource::Single(source) => {
+            let parts = parts32(source);
+            match kind {
+                NumberType::U8 => store_at!(parts, address => StoreAt8, Unsigned),
+                NumberType::S8 => store_at!(parts, address => StoreAt8, Signed),
+                NumberType::U16 => store_at!(parts, address => StoreAt16, Unsigned),
+                NumberType::S16 => store_at!(parts, address => StoreAt16, Signed),
+                NumberType::U32 => store_at!(parts, address => StoreAt32, Unsigned),
+                NumberType::S32 => store_at!(parts, address => StoreAt32, Signed),
+                _ => FlatStep::Other,
+            }
+        }
+        AnySource::Double(source) => {
+            let parts = parts64(source);
+            match kind {
+                NumberType::U64 => store_at!(parts, address => StoreAt64, Unsigned),
+                NumberType::S64 => store_at!(parts, address => StoreAt64, Signed),
+                _ => FlatStep::Other,
+            }
+        }
     }
 }
 
@@ -217,13 +293,10 @@ fn flat_constant_store(
     }
 }
 
-/// A store of a constant of 64 bits laid flat, where its offset has 32.
+/// A store of a constant of 64 bits laid flat.
 fn flat_wide_store(kind: NumberType, base: RegisterNumber, offset: u64, constant: u64) -> FlatStep
     ensures { Stands result (step_arm.Store (record { kind = kind; source = any.Double (source_arm.Constant constant); pointer = register_and base offset })) }
 {
-    let Some(offset) = short(offset) else {
-        return FlatStep::Other;
-    };
     match kind {
         NumberType::U64 => store_constant!(constant, base, offset => StoreConstant64, Unsigned),
         NumberType::S64 => store_constant!(constant, base, offset => StoreConstant64, Signed),

@@ -1,6 +1,6 @@
 //! Sources as operands of flat steps.
 
-ghost use Rattle.std.specs.Prelude.{◌≡◌, IfSome, true, false};
+ghost use Rattle.std.specs.Prelude.{◌≡◌, true, false};
 ghost use Rattle.kernel_check.specs.Flat.{bit_source, maybe, source_of};
 
 use crate::flat_parts::{Bit, MaybeRegister, Operand};
@@ -60,82 +60,22 @@ pub(crate) fn bit(source: Source1) -> Bit
     }
 }
 
-/// The first constant among three sources, or 0.
-pub(crate) fn constant32(first: Source32, second: Source32, third: Source32) -> u32 {
-    if let Source::Constant(constant) = first {
-        return constant;
-    }
-    if let Source::Constant(constant) = second {
-        return constant;
-    }
-    match third {
-        Source::Constant(constant) => constant,
-        Source::Register(_) => 0,
-    }
-}
-
-/// A source as an operand beside a constant, if it is no other constant.
-pub(crate) fn operand32(source: Source32, constant: u32) -> Option<Operand>
-    ensures { IfSome result (λ operand. source_of operand constant ≡ source) }
+/// A source of 32 bits as an operand, and the constant beside it.
+pub(crate) fn parts32(source: Source32) -> (Operand, u32)
+    ensures { source_of result.0 result.1 ≡ source }
 {
     match source {
-        Source::Register(number) => Some(register_operand(number)),
-        Source::Constant(own) => if own == constant {
-            Some(constant_operand())
-        } else {
-            None
-        },
+        Source::Register(number) => (register_operand(number), 0),
+        Source::Constant(constant) => (constant_operand(), constant),
     }
 }
 
-/// The first constant among three sources, or 0.
-pub(crate) fn constant64(first: Source64, second: Source64, third: Source64) -> u64 {
-    if let Source::Constant(constant) = first {
-        return constant;
-    }
-    if let Source::Constant(constant) = second {
-        return constant;
-    }
-    match third {
-        Source::Constant(constant) => constant,
-        Source::Register(_) => 0,
-    }
-}
-
-/// A source as an operand beside a constant, if it is no other constant.
-pub(crate) fn operand64(source: Source64, constant: u64) -> Option<Operand>
-    ensures { IfSome result (λ operand. source_of operand constant ≡ source) }
+/// A source of 64 bits as an operand, and the constant beside it.
+pub(crate) fn parts64(source: Source64) -> (Operand, u64)
+    ensures { source_of result.0 result.1 ≡ source }
 {
     match source {
-        Source::Register(number) => Some(register_operand(number)),
-        Source::Constant(own) => if own == constant {
-            Some(constant_operand())
-        } else {
-            None
-        },
-    }
-}
-
-/// A number of 64 bits that has 32.
-pub(crate) fn short(number: u64) -> Option<u32>
-    ensures { IfSome result (λ few. few ≡ number) }
-{
-    if number < 1 << 32 {
-        Some(number as u32)
-    } else {
-        None
-    }
-}
-
-/// A source of 64 bits as one of 32, if it is a register or has no more.
-pub(crate) fn short_source(source: Source64) -> Option<Source32>
-    ensures { IfSome result (λ few. few ≡ source) }
-{
-    match source {
-        Source::Register(number) => Some(Source::Register(number)),
-        Source::Constant(constant) => match short(constant) {
-            Some(constant) => Some(Source::Constant(constant)),
-            None => None,
-        },
+        Source::Register(number) => (register_operand(number), 0),
+        Source::Constant(constant) => (constant_operand(), constant),
     }
 }

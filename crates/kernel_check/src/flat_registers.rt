@@ -1,6 +1,5 @@
 //! Operations of 32 and of 64 bits laid flat.
 
-ghost use Rattle.std.specs.Prelude.{◌≡◌};
 ghost use Rattle.kernel_check.specs.Flat.{Stands, calculated32, calculated64};
 ghost use Rattle.kernel_check.specs.declared.step.DoubleOperation.TheVariants as double;
 ghost use Rattle.kernel_check.specs.declared.step.SingleOperation.TheVariants as single;
@@ -8,17 +7,18 @@ ghost use Rattle.kernel_check.specs.declared.step.Source.TheVariants as source;
 ghost use Rattle.kernel_check.specs.declared.step.Step.TheVariants as step_arm;
 
 use crate::flat::FlatStep;
-use crate::flat_operands::{constant32, constant64, operand32, operand64, short};
+use crate::flat_operands::{constant_operand, parts32, parts64, register_operand};
 use crate::flat_parts::{
     Calculation, ChosenConstants, ConstantBehind, FromOne, FromThree, FromTwo, Operation,
     ShiftOperation,
 };
+use crate::flat_rare::RareStep;
 use crate::step::{
     Choice, DoubleOperation, DoubleStep, Pair, RegisterNumber, SingleOperation, SingleStep, Source,
     Source32, Source64, Triple,
 };
 
-/// An operation of 32 bits and two sources laid flat, of which one is a register.
+/// An operation of 32 bits and two sources laid flat.
 macro_rules! flat_pair32 {
     ($to:expr, $pair:expr => $operation:ident, $registers:ident, $behind:ident) => {
         match $pair.left {
@@ -29,7 +29,12 @@ macro_rules! flat_pair32 {
                     right,
                     constant,
                 },
-                Source::Constant(_) => FlatStep::Other,
+                Source::Constant(right) => FlatStep::Rare(RareStep::CalculateConstants32 {
+                    operation: Operation::$operation,
+                    to: $to,
+                    left: constant,
+                    right,
+                }),
             },
             Source::Register(left) => match $pair.right {
                 Source::Register(right) => FlatStep::$registers(FromTwo {
@@ -58,7 +63,12 @@ macro_rules! flat_shift32 {
                     right,
                     constant,
                 },
-                Source::Constant(_) => FlatStep::Other,
+                Source::Constant(count) => FlatStep::Rare(RareStep::ShiftConstants32 {
+                    operation: ShiftOperation::$operation,
+                    to: $to,
+                    count,
+                    value: constant,
+                }),
             },
             Source::Register(left) => match $pair.right {
                 Source::Register(right) => FlatStep::$registers(FromTwo {
@@ -87,7 +97,12 @@ macro_rules! flat_pair64 {
                     right,
                     constant,
                 },
-                Source::Constant(_) => FlatStep::Other,
+                Source::Constant(right) => FlatStep::Rare(RareStep::CalculateConstants64 {
+                    operation: Operation::$operation,
+                    to: $to,
+                    left: constant,
+                    right,
+                }),
             },
             Source::Register(left) => match $pair.right {
                 Source::Register(right) => FlatStep::$registers(FromTwo {
@@ -116,7 +131,12 @@ macro_rules! flat_shift64 {
                     right,
                     constant,
                 },
-                Source::Constant(_) => FlatStep::Other,
+                Source::Constant(count) => FlatStep::Rare(RareStep::ShiftConstants64 {
+                    operation: ShiftOperation::$operation,
+                    to: $to,
+                    count,
+                    value: constant,
+                }),
             },
             Source::Register(left) => match $pair.count {
                 Source::Register(right) => FlatStep::$registers(FromTwo {
@@ -146,7 +166,7 @@ pub(crate) fn flat32(set: &SingleStep) -> FlatStep
         },
         SingleOperation::Not(source) => match *source {
             Source::Register(source) => FlatStep::Not32(FromOne { to, source }),
-            Source::Constant(_) => FlatStep::Other,
+            Source::Constant(constant) => FlatStep::Rare(RareStep::NotConstant32 { to, constant }),
         },
         SingleOperation::Add(p) => flat_pair32!(to, p => Add, Add32, Add32Constant),
         SingleOperation::Subtract(p) =>
@@ -199,7 +219,7 @@ pub(crate) fn flat64(set: &DoubleStep) -> FlatStep
         },
         DoubleOperation::Not(source) => match *source {
             Source::Register(source) => FlatStep::Not64(FromOne { to, source }),
-            Source::Constant(_) => FlatStep::Other,
+            Source::Constant(constant) => FlatStep::Rare(RareStep::NotConstant64 { to, constant }),
         },
         DoubleOperation::Add(p) => flat_pair64!(to, p => Add, Add64, Add64Constant),
         DoubleOperation::Subtract(p) =>
@@ -240,7 +260,7 @@ pub(crate) fn flat64(set: &DoubleStep) -> FlatStep
     }
 }
 
-/// An operation of 32 bits laid flat that has no form of its own, of whose sources one is a register.
+/// An operation of 32 bits laid flat that has no form of its own.
 fn flat_calculation32(to: RegisterNumber, operation: Operation, pair: &Pair<Source32>) -> FlatStep
     ensures { Stands result (step_arm.Single (record { target = to; operation = calculated32 operation pair.now })) }
 {
@@ -252,7 +272,12 @@ fn flat_calculation32(to: RegisterNumber, operation: Operation, pair: &Pair<Sour
                 right,
                 constant,
             },
-            Source::Constant(_) => FlatStep::Other,
+            Source::Constant(right) => FlatStep::Rare(RareStep::CalculateConstants32 {
+                operation,
+                to,
+                left: constant,
+                right,
+            }),
         },
         Source::Register(left) => match pair.right {
             Source::Register(right) => FlatStep::Calculate32(Calculation {
@@ -271,7 +296,7 @@ fn flat_calculation32(to: RegisterNumber, operation: Operation, pair: &Pair<Sour
     }
 }
 
-/// An operation of 64 bits laid flat that has no form of its own, of whose sources one is a register.
+/// An operation of 64 bits laid flat that has no form of its own.
 fn flat_calculation64(to: RegisterNumber, operation: Operation, pair: &Pair<Source64>) -> FlatStep
     ensures { Stands result (step_arm.Double (record { target = to; operation = calculated64 operation pair.now })) }
 {
@@ -283,7 +308,12 @@ fn flat_calculation64(to: RegisterNumber, operation: Operation, pair: &Pair<Sour
                 right,
                 constant,
             },
-            Source::Constant(_) => FlatStep::Other,
+            Source::Constant(right) => FlatStep::Rare(RareStep::CalculateConstants64 {
+                operation,
+                to,
+                left: constant,
+                right,
+            }),
         },
         Source::Register(left) => match pair.right {
             Source::Register(right) => FlatStep::Calculate64(Calculation {
@@ -357,65 +387,73 @@ fn flat_mad64(to: RegisterNumber, t: &Triple<Source64>) -> FlatStep
     }
 }
 
-/// `mad` of 32 bits laid flat, whose sources are no two constants.
+/// `mad` of 32 bits laid flat, by the operand and the constant of each source.
 fn flat_mad32_of(to: RegisterNumber, t: &Triple<Source32>) -> FlatStep
     ensures { Stands result (step_arm.Single (record { target = to; operation = single.MultiplyAdd t.now })) }
 {
-    let constant = constant32(t.first, t.second, t.third);
-    let Some(first) = operand32(t.first, constant) else {
-        return FlatStep::Other;
-    };
-    let Some(second) = operand32(t.second, constant) else {
-        return FlatStep::Other;
-    };
-    let Some(third) = operand32(t.third, constant) else {
-        return FlatStep::Other;
-    };
+    let (first, one) = parts32(t.first);
+    let (second, two) = parts32(t.second);
+    let (third, three) = parts32(t.third);
     FlatStep::MultiplyAdd32Of {
         to,
         first,
         second,
         third,
-        constant,
+        one,
+        two,
+        three,
     }
 }
 
-/// `cmov` of 32 bits laid flat, whose condition is a register.
+/// `cmov` of 32 bits laid flat.
 fn flat_choice32(to: RegisterNumber, choice: &Choice<Source32>) -> FlatStep
     ensures { Stands result (step_arm.Single (record { target = to; operation = single.Choose choice.now })) }
 {
-    let Source::Register(condition) = choice.condition else {
-        return FlatStep::Other;
-    };
-    let constant = constant32(choice.one, choice.zero, choice.zero);
-    let Some(one) = operand32(choice.one, constant) else {
-        return FlatStep::Other;
-    };
-    let Some(zero) = operand32(choice.zero, constant) else {
-        return two_constants32(to, condition, choice);
-    };
-    FlatStep::Choose32 {
-        to,
-        condition,
-        one,
-        zero,
-        constant,
+    match choice.condition {
+        Source::Register(condition) => flat_choice_on32(to, condition, choice.one, choice.zero),
+        Source::Constant(condition) => {
+            let (one, one_constant) = parts32(choice.one);
+            let (zero, zero_constant) = parts32(choice.zero);
+            FlatStep::Rare(RareStep::ChooseKnown32 {
+                to,
+                condition,
+                one,
+                zero,
+                one_constant,
+                zero_constant,
+            })
+        }
     }
 }
 
-/// `cmov` of 32 bits and two constants laid flat.
-fn two_constants32(
+/// `cmov` of 32 bits on a register laid flat.
+fn flat_choice_on32(
     to: RegisterNumber,
     condition: RegisterNumber,
-    choice: &Choice<Source32>,
+    one: Source32,
+    zero: Source32,
 ) -> FlatStep
-    requires { choice.now.condition ≡ source.Register condition }
-    ensures { Stands result (step_arm.Single (record { target = to; operation = single.Choose choice.now })) }
+    ensures { Stands result (step_arm.Single (record { target = to; operation = single.Choose (record { condition = source.Register condition; one = one; zero = zero }) })) }
 {
-    match choice.one {
-        Source::Register(_) => FlatStep::Other,
-        Source::Constant(one) => match choice.zero {
-            Source::Register(_) => FlatStep::Other,
+    match one {
+        Source::Register(number) => {
+            let (zero, constant) = parts32(zero);
+            FlatStep::Choose32 {
+                to,
+                condition,
+                one: register_operand(number),
+                zero,
+                constant,
+            }
+        }
+        Source::Constant(one) => match zero {
+            Source::Register(number) => FlatStep::Choose32 {
+                to,
+                condition,
+                one: constant_operand(),
+                zero: register_operand(number),
+                constant: one,
+            },
             Source::Constant(zero) => FlatStep::Choose32Constants(ChosenConstants {
                 to,
                 condition,
@@ -426,77 +464,79 @@ fn two_constants32(
     }
 }
 
-/// `mad` of 64 bits laid flat, whose sources are no two constants.
+/// `mad` of 64 bits laid flat, by the operand and the constant of each source.
 fn flat_mad64_of(to: RegisterNumber, t: &Triple<Source64>) -> FlatStep
     ensures { Stands result (step_arm.Double (record { target = to; operation = double.MultiplyAdd t.now })) }
 {
-    let constant = constant64(t.first, t.second, t.third);
-    let Some(first) = operand64(t.first, constant) else {
-        return FlatStep::Other;
-    };
-    let Some(second) = operand64(t.second, constant) else {
-        return FlatStep::Other;
-    };
-    let Some(third) = operand64(t.third, constant) else {
-        return FlatStep::Other;
-    };
+    let (first, one) = parts64(t.first);
+    let (second, two) = parts64(t.second);
+    let (third, three) = parts64(t.third);
     FlatStep::MultiplyAdd64Of {
         to,
         first,
         second,
         third,
-        constant,
+        one,
+        two,
+        three,
     }
 }
 
-/// `cmov` of 64 bits laid flat, whose condition is a register.
+/// `cmov` of 64 bits laid flat.
 fn flat_choice64(to: RegisterNumber, choice: &Choice<Source64>) -> FlatStep
     ensures { Stands result (step_arm.Double (record { target = to; operation = double.Choose choice.now })) }
 {
-    let Source::Register(condition) = choice.condition else {
-        return FlatStep::Other;
-    };
-    let constant = constant64(choice.one, choice.zero, choice.zero);
-    let Some(one) = operand64(choice.one, constant) else {
-        return FlatStep::Other;
-    };
-    let Some(zero) = operand64(choice.zero, constant) else {
-        return two_constants64(to, condition, choice);
-    };
-    FlatStep::Choose64 {
-        to,
-        condition,
-        one,
-        zero,
-        constant,
+    match choice.condition {
+        Source::Register(condition) => flat_choice_on64(to, condition, choice.one, choice.zero),
+        Source::Constant(condition) => {
+            let (one, one_constant) = parts64(choice.one);
+            let (zero, zero_constant) = parts64(choice.zero);
+            FlatStep::Rare(RareStep::ChooseKnown64 {
+                to,
+                condition,
+                one,
+                zero,
+                one_constant,
+                zero_constant,
+            })
+        }
     }
 }
 
-/// `cmov` of 64 bits and two constants laid flat.
-fn two_constants64(
+/// `cmov` of 64 bits on a register laid flat.
+fn flat_choice_on64(
     to: RegisterNumber,
     condition: RegisterNumber,
-    choice: &Choice<Source64>,
+    one: Source64,
+    zero: Source64,
 ) -> FlatStep
-    requires { choice.now.condition ≡ source.Register condition }
-    ensures { Stands result (step_arm.Double (record { target = to; operation = double.Choose choice.now })) }
+    ensures { Stands result (step_arm.Double (record { target = to; operation = double.Choose (record { condition = source.Register condition; one = one; zero = zero }) })) }
 {
-    let Source::Constant(one) = choice.one else {
-        return FlatStep::Other;
-    };
-    let Source::Constant(zero) = choice.zero else {
-        return FlatStep::Other;
-    };
-    let Some(one) = short(one) else {
-        return FlatStep::Other;
-    };
-    let Some(zero) = short(zero) else {
-        return FlatStep::Other;
-    };
-    FlatStep::Choose64Constants(ChosenConstants {
-        to,
-        condition,
-        one,
-        zero,
-    })
+    match one {
+        Source::Register(number) => {
+            let (zero, constant) = parts64(zero);
+            FlatStep::Choose64 {
+                to,
+                condition,
+                one: register_operand(number),
+                zero,
+                constant,
+            }
+        }
+        Source::Constant(one) => match zero {
+            Source::Register(number) => FlatStep::Choose64 {
+                to,
+                condition,
+                one: constant_operand(),
+                zero: register_operand(number),
+                constant: one,
+            },
+            Source::Constant(zero) => FlatStep::Choose64Constants {
+                to,
+                condition,
+                one,
+                zero,
+            },
+        },
+    }
 }

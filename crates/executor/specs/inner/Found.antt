@@ -6,7 +6,7 @@ use Rattle.executor.specs.Accesses.{atomic_broken, group_atomic_broken, lent, un
 use Rattle.executor.specs.Atomics.{left32, left64, replacing}
 use Rattle.executor.specs.Items.{Contents, LentRegion}
 use Rattle.executor.specs.Written.{seen}
-use Rattle.kernel_check.specs.Flat.{changed}
+use Rattle.kernel_check.specs.Flat.{changed, swapping}
 use Rattle.kernel_check.specs.declared.flat_parts.Change.{Change}
 use Rattle.queue_error.specs.declared.error.SegmentAddress.{SegmentAddress}
 use Rattle.queue_error.specs.declared.error.SegmentAddress.TheVariants as segment
@@ -34,3 +34,13 @@ Changes32 view before after f x value old =
 abbrev pub Changes64 : List LentRegion → Contents → Contents → Change → SegmentAddress → ℕ → ℕ → Type 0
 Changes64 view before after f x value old =
     (number_found view before x 8 ≡ Ok old) × (after ≡ left64 before x (replacing w64 (λ v. v) (changed f value) old))
+
+-- that a cas of 32 bits at a place found an old number, and left what it makes of this, of the expected one and of its replacement
+abbrev pub Swaps32 : List LentRegion → Contents → Contents → SegmentAddress → ℕ → ℕ → ℕ → Type 0
+Swaps32 view before after x expected replacement old =
+    (number_found view before x 4 ≡ Ok old) × (after ≡ left32 before x (replacing w32 (λ v. v) (swapping expected replacement) old))
+
+-- one of 64 bits
+abbrev pub Swaps64 : List LentRegion → Contents → Contents → SegmentAddress → ℕ → ℕ → ℕ → Type 0
+Swaps64 view before after x expected replacement old =
+    (number_found view before x 8 ≡ Ok old) × (after ≡ left64 before x (replacing w64 (λ v. v) (swapping expected replacement) old))

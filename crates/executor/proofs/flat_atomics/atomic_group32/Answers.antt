@@ -10,13 +10,13 @@ use Rattle.executor.specs.inner.Outcomes.{StoreFails}
 use Rattle.executor.specs.declared.access.StoreError.{StoreError}
 use Rattle.executor.specs.declared.access.StoreError.TheVariants as error
 use Rattle.std.specs.Prelude.{Err}
-use Rattle.kernel_check.specs.Flat.{group_pointer, maybe, source_of}
+use Rattle.kernel_check.specs.Flat.{changed, group_pointer, maybe, source_of}
 use Rattle.kernel_check.specs.declared.step.AtomicPointer.{AtomicPointer}
 use Rattle.kernel_check.specs.declared.step.AtomicPointer.TheVariants as pointer
 use Rattle.kernel_check.specs.declared.step.Source.{Source}
 use Rattle.queue_error.specs.declared.error.SegmentAddress.TheVariants as segment
 use Rattle.kernel_check.specs.declared.flat.FlatStep.TheVariants as flat
-use Rattle.executor.proofs.AtomicLemmas.{changed_on32, changed_off32}
+use Rattle.executor.proofs.AtomicLemmas.{changed_on32, left_off32}
 use Rattle.executor.proofs.flat_atomics.atomic_group32.Goals as goal
 
 pub returns-in-Ok : goal.returns-in-Ok
@@ -48,4 +48,4 @@ returns-in-Err-Broke c =
     let is : c.args.step.now ≡ flat.AtomicGroup32 c.in-AtomicGroup32.change c.in-AtomicGroup32.target c.in-AtomicGroup32.base c.in-AtomicGroup32.source c.in-AtomicGroup32.offset c.in-AtomicGroup32.constant = search rules in
     rw is
     (rw broken
-    (changed_off32 a.view m i c.in-AtomicGroup32.change source (maybe c.in-AtomicGroup32.target) p (segment.Group c.group_address_of-address.result) at c.in-Err-Broke.rule fails))
+    (left_off32 a.view m i (changed c.in-AtomicGroup32.change source) (maybe c.in-AtomicGroup32.target) p (segment.Group c.group_address_of-address.result) at c.in-Err-Broke.rule fails))

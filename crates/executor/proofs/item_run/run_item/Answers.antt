@@ -8,12 +8,13 @@ use Rattle.executor.specs.inner.Few.{RestIsZero}
 use Rattle.executor.specs.inner.Held.{contents, surroundings}
 use Rattle.executor.specs.inner.ItemRuns.{ItemFails}
 use Rattle.executor.specs.inner.Stops.{executed_by}
+use Rattle.executor.specs.inner.Turns.{Acts}
 use Rattle.queue_error.specs.declared.error.SegmentAddress.TheVariants as segment
 use Rattle.queue_error.specs.declared.rule.Rule.TheVariants.{A5}
 use Rattle.executor.proofs.FlatLemmas.{flat_turn}
 use Rattle.executor.proofs.GroupLemmas.{spent, stops}
-use Rattle.executor.proofs.ItemLemmas.{reached_first, reached_more, reached_arrives, reached_ends, reached_breaks, turn_alike}
-use Rattle.executor.proofs.FewLemmas.{cleared_rest, kept_on, kept_there}
+use Rattle.executor.proofs.ItemLemmas.{reached_first, reached_more, reached_arrives, reached_ends, reached_breaks, turn_alike, acts_alike, comes_left, rest_left}
+use Rattle.executor.proofs.FewLemmas.{kept_on, kept_there}
 use Rattle.executor.proofs.Maps.{get_read}
 use Rattle.executor.proofs.PlaceLemmas.{in_place}
 use Rattle.executor.proofs.item_run.run_item.Goals as goal
@@ -86,11 +87,12 @@ returns-in-BrokeGlobal-clause-comes c =
     let spent_less : 65536 - left < 65536 = omega (arith, few, some) in
     let flats = c.flat_steps-flat_steps.result.now in
     let found : slice_get flats next ≡ Some c.in-Some.flat.now = get_read flats next c.in-Some.flat.now c.in-Some.ensures.lookup.1 c.in-Some.ensures.lookup.3.0 in
-    let is : turn (context_of_item a n) p.steps (record { registers = r; next = next }) (65536 - left) m ≡ broke c.in-BrokeGlobal.rule (Some (segment.Global c.in-BrokeGlobal.address)) =
-    flat_turn a (context_of_item a n) flats p.steps r next m c.in-Some.flat.now (broke c.in-BrokeGlobal.rule (Some (segment.Global c.in-BrokeGlobal.address)))
+    let is : turn (context_of_item a n) p.steps (record { registers = r; next = next }) (65536 - left) m ≡ broke c.in-BrokeGlobal.rule (Some (segment.Global c.in-BrokeGlobal.x)) =
+    flat_turn a (context_of_item a n) flats p.steps r next m c.in-Some.flat.now (broke c.in-BrokeGlobal.rule (Some (segment.Global c.in-BrokeGlobal.x)))
     (in_place a n c.requires.item) c.flat_steps-flat_steps.ensures.value found c.in-BrokeGlobal.ensures (65536 - left) spent_less in
-    subst (λ (f : RunFault). ItemFails a p n first before f) (sym c.tell_global.ensures)
-    (reached_breaks a p n first before (record { registers = r; next = next }) left m c.turns.invariant.1.0 c.in-BrokeGlobal.rule (Some (segment.Global c.in-BrokeGlobal.address)) is)
+    rw c.tell_global.ensures.value
+    (subst (λ (f : RunFault). ItemFails a p n first before f) (sym c.tell_global.ensures.fault)
+    (reached_breaks a p n first before (record { registers = r; next = next }) left m c.turns.invariant.1.0 c.in-BrokeGlobal.rule (Some (segment.Global c.in-BrokeGlobal.x)) is))
 
 pub returns-in-BrokeGroup-clause-comes : goal.returns-in-BrokeGroup-clause-comes
 returns-in-BrokeGroup-clause-comes c =
@@ -108,11 +110,12 @@ returns-in-BrokeGroup-clause-comes c =
     let spent_less : 65536 - left < 65536 = omega (arith, few, some) in
     let flats = c.flat_steps-flat_steps.result.now in
     let found : slice_get flats next ≡ Some c.in-Some.flat.now = get_read flats next c.in-Some.flat.now c.in-Some.ensures.lookup.1 c.in-Some.ensures.lookup.3.0 in
-    let is : turn (context_of_item a n) p.steps (record { registers = r; next = next }) (65536 - left) m ≡ broke c.in-BrokeGroup.rule (Some (segment.Group c.in-BrokeGroup.address)) =
-    flat_turn a (context_of_item a n) flats p.steps r next m c.in-Some.flat.now (broke c.in-BrokeGroup.rule (Some (segment.Group c.in-BrokeGroup.address)))
+    let is : turn (context_of_item a n) p.steps (record { registers = r; next = next }) (65536 - left) m ≡ broke c.in-BrokeGroup.rule (Some (segment.Group c.in-BrokeGroup.x)) =
+    flat_turn a (context_of_item a n) flats p.steps r next m c.in-Some.flat.now (broke c.in-BrokeGroup.rule (Some (segment.Group c.in-BrokeGroup.x)))
     (in_place a n c.requires.item) c.flat_steps-flat_steps.ensures.value found c.in-BrokeGroup.ensures (65536 - left) spent_less in
-    subst (λ (f : RunFault). ItemFails a p n first before f) (sym c.tell_group.ensures)
-    (reached_breaks a p n first before (record { registers = r; next = next }) left m c.turns.invariant.1.0 c.in-BrokeGroup.rule (Some (segment.Group c.in-BrokeGroup.address)) is)
+    rw c.tell_group.ensures.value
+    (subst (λ (f : RunFault). ItemFails a p n first before f) (sym c.tell_group.ensures.fault)
+    (reached_breaks a p n first before (record { registers = r; next = next }) left m c.turns.invariant.1.0 c.in-BrokeGroup.rule (Some (segment.Group c.in-BrokeGroup.x)) is))
 
 pub turns-preserved-in-Onward : goal.turns-preserved-in-Onward
 turns-preserved-in-Onward c =
@@ -158,7 +161,7 @@ returns-in-Arrived-clause-comes c =
     let is : turn (context_of_item a n) p.steps (record { registers = r; next = next }) (65536 - left) m ≡ arrives there (contents c.go.new.memory) =
     flat_turn a (context_of_item a n) flats p.steps r next m c.in-Some.flat.now (arrives there (contents c.go.new.memory))
     (in_place a n c.requires.item) c.flat_steps-flat_steps.ensures.value found c.in-Arrived.ensures (65536 - left) spent_less in
-    reached_arrives a p n first before (record { registers = r; next = next }) left m c.turns.invariant.1.0 there (contents c.go.new.memory) few some is
+    rw c.wait.ensures.value (rw c.wait.ensures.item (reached_arrives a p n first before (record { registers = r; next = next }) left m c.turns.invariant.1.0 there (contents c.go.new.memory) few some is))
 
 pub returns-in-Ended-clause-comes : goal.returns-in-Ended-clause-comes
 returns-in-Ended-clause-comes c =
@@ -201,67 +204,6 @@ turns-preserved c =
     (c.in-GoesOn.ensures (65536 - left) spent_less) in
     (omega (arith, few), (reached_more a p n first before (record { registers = r; next = next }) left m c.turns.invariant.1.0 c.turn.new.item (contents c.turn.new.memory) few some is, λ few rest. kept_on (context_of_item a n) (record { registers = r; next = next }) m (c.turns.invariant.1.1 few rest) p.steps few (65536 - left) (c.turn.new.item) (contents c.turn.new.memory) is))
 
-pub returns-in-Arrived-turn-clause-comes : goal.returns-in-Arrived-turn-clause-comes
-returns-in-Arrived-turn-clause-comes c =
-    let a = surroundings c.args.context.now in
-    let p = c.args.program.now in
-    let n = c.args.number in
-    let r = c.turns.stopped.item.registers in
-    let next = c.turns.next in
-    let left = c.turns.left in
-    let m = contents c.turns.memory in
-    let first = ready c.args.stopped.now.item (executed_by c.args.stopped.now) in
-    let before = contents c.args.memory.now in
-    let few : left ≤ 65536 = c.turns.invariant.0 in
-    let some : 0 < left = omega arith in
-    let spent_less : 65536 - left < 65536 = omega (arith, few, some) in
-    let is : turn (context_of_item a n) p.steps (record { registers = r; next = next }) (65536 - left) m ≡ arrives c.turn.new.item (contents c.turn.new.memory) =
-    turn_alike a (context_of_item a n) p.steps c.go.new.r r next (65536 - left) (contents c.go.new.memory) m (arrives c.turn.new.item (contents c.turn.new.memory))
-    (in_place a n c.requires.item) c.in-Other.ensures.0 c.in-Other.ensures.1
-    (c.in-Arrived-turn.ensures (65536 - left) spent_less) in
-    reached_arrives a p n first before (record { registers = r; next = next }) left m c.turns.invariant.1.0 c.turn.new.item (contents c.turn.new.memory) few some is
-
-pub returns-in-Ended-turn-clause-comes : goal.returns-in-Ended-turn-clause-comes
-returns-in-Ended-turn-clause-comes c =
-    let a = surroundings c.args.context.now in
-    let p = c.args.program.now in
-    let n = c.args.number in
-    let r = c.turns.stopped.item.registers in
-    let next = c.turns.next in
-    let left = c.turns.left in
-    let m = contents c.turns.memory in
-    let first = ready c.args.stopped.now.item (executed_by c.args.stopped.now) in
-    let before = contents c.args.memory.now in
-    let few : left ≤ 65536 = c.turns.invariant.0 in
-    let some : 0 < left = omega arith in
-    let spent_less : 65536 - left < 65536 = omega (arith, few, some) in
-    let is : turn (context_of_item a n) p.steps (record { registers = r; next = next }) (65536 - left) m ≡ ends (contents c.turn.new.memory) =
-    turn_alike a (context_of_item a n) p.steps c.go.new.r r next (65536 - left) (contents c.go.new.memory) m (ends (contents c.turn.new.memory))
-    (in_place a n c.requires.item) c.in-Other.ensures.0 c.in-Other.ensures.1
-    (c.in-Ended-turn.ensures (65536 - left) spent_less) in
-    reached_ends a p n first before (record { registers = r; next = next }) left m c.turns.invariant.1.0 (contents c.turn.new.memory) is
-
-pub returns-in-Broke-clause-comes : goal.returns-in-Broke-clause-comes
-returns-in-Broke-clause-comes c =
-    let a = surroundings c.args.context.now in
-    let p = c.args.program.now in
-    let n = c.args.number in
-    let r = c.turns.stopped.item.registers in
-    let next = c.turns.next in
-    let left = c.turns.left in
-    let m = contents c.turns.memory in
-    let first = ready c.args.stopped.now.item (executed_by c.args.stopped.now) in
-    let before = contents c.args.memory.now in
-    let few : left ≤ 65536 = c.turns.invariant.0 in
-    let some : 0 < left = omega arith in
-    let spent_less : 65536 - left < 65536 = omega (arith, few, some) in
-    let is : turn (context_of_item a n) p.steps (record { registers = r; next = next }) (65536 - left) m ≡ broke c.in-Broke.rule (Some c.in-Broke.address) =
-    turn_alike a (context_of_item a n) p.steps c.go.new.r r next (65536 - left) (contents c.go.new.memory) m (broke c.in-Broke.rule (Some c.in-Broke.address))
-    (in_place a n c.requires.item) c.in-Other.ensures.0 c.in-Other.ensures.1
-    (c.in-Broke.ensures (65536 - left) spent_less) in
-    subst (λ (f : RunFault). ItemFails a p n first before f) (sym c.tell.ensures)
-    (reached_breaks a p n first before (record { registers = r; next = next }) left m c.turns.invariant.1.0 c.in-Broke.rule (Some c.in-Broke.address) is)
-
 pub returns-then-next-steps-clause-comes : goal.returns-then-next-steps-clause-comes
 returns-then-next-steps-clause-comes c =
     let a = surroundings c.args.context.now in
@@ -275,9 +217,10 @@ returns-then-next-steps-clause-comes c =
     let before = contents c.args.memory.now in
     let all : 65536 - left ≡ 65536 = omega arith in
     let there : next < length p.steps = omega (arith, ap length c.steps.ensures.value, c.if-next-steps.true) in
-    subst (λ (f : RunFault). ItemFails a p n first before f) (sym c.tell_spent.ensures)
+    rw c.tell_spent.ensures.value
+    (subst (λ (f : RunFault). ItemFails a p n first before f) (sym c.tell_spent.ensures.fault)
     (reached_breaks a p n first before (record { registers = r; next = next }) left m c.turns.invariant.1.0 A5 None
-    (spent (context_of_item a n) p.steps (record { registers = r; next = next }) (65536 - left) m there all))
+    (spent (context_of_item a n) p.steps (record { registers = r; next = next }) (65536 - left) m there all)))
 
 pub returns-clause-comes : goal.returns-clause-comes
 returns-clause-comes c =
@@ -302,9 +245,6 @@ returns-clause-rest c = c.turns.invariant.1.1
 pub returns-in-Ended-clause-rest : goal.returns-in-Ended-clause-rest
 returns-in-Ended-clause-rest c = λ few rest. subst RestIsZero (sym c.in-Ended.ensures.0) (c.turns.invariant.1.1 few rest)
 
-pub returns-in-Ended-turn-clause-rest : goal.returns-in-Ended-turn-clause-rest
-returns-in-Ended-turn-clause-rest c = λ few rest. subst RestIsZero (sym c.cleared-stopped.ensures) cleared_rest
-
 pub returns-in-Arrived-clause-rest : goal.returns-in-Arrived-clause-rest
 returns-in-Arrived-clause-rest c =
     let a = surroundings c.args.context.now in
@@ -325,10 +265,10 @@ returns-in-Arrived-clause-rest c =
     let is : turn (context_of_item a n) p.steps (record { registers = r; next = next }) (65536 - left) m ≡ arrives there (contents c.go.new.memory) =
     flat_turn a (context_of_item a n) flats p.steps r next m c.in-Some.flat.now (arrives there (contents c.go.new.memory))
     (in_place a n c.requires.item) c.flat_steps-flat_steps.ensures.value found c.in-Arrived.ensures (65536 - left) spent_less in
-    λ few rest. kept_there (context_of_item a n) (record { registers = r; next = next }) m (c.turns.invariant.1.1 few rest) p.steps few (65536 - left) (there) (contents c.go.new.memory) is
+    rw c.wait.ensures.value (rw c.wait.ensures.item (λ few rest. kept_there (context_of_item a n) (record { registers = r; next = next }) m (c.turns.invariant.1.1 few rest) p.steps few (65536 - left) (there) (contents c.go.new.memory) is))
 
-pub returns-in-Arrived-turn-clause-rest : goal.returns-in-Arrived-turn-clause-rest
-returns-in-Arrived-turn-clause-rest c =
+pub returns-in_default-turn-clause-comes : goal.returns-in_default-turn-clause-comes
+returns-in_default-turn-clause-comes c =
     let a = surroundings c.args.context.now in
     let p = c.args.program.now in
     let n = c.args.number in
@@ -341,8 +281,28 @@ returns-in-Arrived-turn-clause-rest c =
     let few : left ≤ 65536 = c.turns.invariant.0 in
     let some : 0 < left = omega arith in
     let spent_less : 65536 - left < 65536 = omega (arith, few, some) in
-    let is : turn (context_of_item a n) p.steps (record { registers = r; next = next }) (65536 - left) m ≡ arrives c.turn.new.item (contents c.turn.new.memory) =
-    turn_alike a (context_of_item a n) p.steps c.go.new.r r next (65536 - left) (contents c.go.new.memory) m (arrives c.turn.new.item (contents c.turn.new.memory))
-    (in_place a n c.requires.item) c.in-Other.ensures.0 c.in-Other.ensures.1
-    (c.in-Arrived-turn.ensures (65536 - left) spent_less) in
-    λ few rest. kept_there (context_of_item a n) (record { registers = r; next = next }) m (c.turns.invariant.1.1 few rest) p.steps few (65536 - left) (c.turn.new.item) (contents c.turn.new.memory) is
+    let is : Acts (turn (context_of_item a n) p.steps (record { registers = r; next = next }) (65536 - left) m) c.in_default-turn.outcome c.turn.new.item (contents c.turn.new.memory) =
+    acts_alike a (context_of_item a n) p.steps c.go.new.r r next (65536 - left) (contents c.go.new.memory) m c.in_default-turn.outcome c.turn.new.item (contents c.turn.new.memory)
+    (in_place a n c.requires.item) c.in-Other.ensures.0 c.in-Other.ensures.1 (c.in_default-turn.ensures (65536 - left) spent_less) in
+    comes_left a p n first before (record { registers = r; next = next }) left m few some c.in_default-turn.outcome (record { item = c.turn.new.item; left = c.turns.stopped.left; stop = c.turns.stopped.stop }) c.leave.new.stopped (contents c.turn.new.memory)
+    c.leave.result c.leave.new.broken c.turns.invariant.1.0 is c.leave.ensures
+
+pub returns-in_default-turn-clause-rest : goal.returns-in_default-turn-clause-rest
+returns-in_default-turn-clause-rest c =
+    let a = surroundings c.args.context.now in
+    let p = c.args.program.now in
+    let n = c.args.number in
+    let r = c.turns.stopped.item.registers in
+    let next = c.turns.next in
+    let left = c.turns.left in
+    let m = contents c.turns.memory in
+    let first = ready c.args.stopped.now.item (executed_by c.args.stopped.now) in
+    let before = contents c.args.memory.now in
+    let few : left ≤ 65536 = c.turns.invariant.0 in
+    let some : 0 < left = omega arith in
+    let spent_less : 65536 - left < 65536 = omega (arith, few, some) in
+    let is : Acts (turn (context_of_item a n) p.steps (record { registers = r; next = next }) (65536 - left) m) c.in_default-turn.outcome c.turn.new.item (contents c.turn.new.memory) =
+    acts_alike a (context_of_item a n) p.steps c.go.new.r r next (65536 - left) (contents c.go.new.memory) m c.in_default-turn.outcome c.turn.new.item (contents c.turn.new.memory)
+    (in_place a n c.requires.item) c.in-Other.ensures.0 c.in-Other.ensures.1 (c.in_default-turn.ensures (65536 - left) spent_less) in
+    rest_left a p n first before (record { registers = r; next = next }) left m few some c.in_default-turn.outcome (record { item = c.turn.new.item; left = c.turns.stopped.left; stop = c.turns.stopped.stop }) c.leave.new.stopped (contents c.turn.new.memory)
+    c.leave.result c.leave.new.broken c.args.stopped.now.item.registers c.turns.invariant.1.1 is c.leave.ensures

@@ -4,7 +4,7 @@ use Rattle.executor.specs.Atomics.{replacing64}
 use Rattle.executor.specs.Numbers.{unsigned, sum, difference}
 use Rattle.executor.specs.Registers.{read64}
 use Rattle.executor.proofs.ValueLemmas.{computed_of}
-use Rattle.executor.proofs.atomic.replaced64.Goals as goal
+use Rattle.executor.proofs.atomic.replacing64.Goals as goal
 
 pub returns-in-Add : goal.returns-in-Add
 returns-in-Add c =
