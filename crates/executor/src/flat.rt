@@ -222,7 +222,9 @@ pub fn go(
             condition,
             next: other,
         } => Gone::Next(branch(r, next, *condition, *other)),
-        FlatStep::Rare(step) => go_rare(alloc, context, r, next, memory, step),
+        FlatStep::Rare { registers, step } => go_rare(
+            alloc, context, r, next, memory, registers, step,
+        ),
         FlatStep::Barrier => Gone::Arrived,
         FlatStep::Return => Gone::Ended,
         FlatStep::Other => Gone::Other,

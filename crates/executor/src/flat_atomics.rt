@@ -22,7 +22,9 @@ use crate::memory::Memory;
 use crate::number::Number;
 use crate::registers::Registers;
 use crate::view::View;
-use kernel_check::{Change, FlatStep, MaybeRegister, Pointer, RareStep, Source32, Source64};
+use kernel_check::{
+    Change, FlatStep, MaybeRegister, Pointer, RareRegisters, RareStep, Source32, Source64,
+};
 use queue_error::SegmentAddress;
 use std::alloc::Global;
 
@@ -315,21 +317,22 @@ pub fn atomic_at32(
     r: &mut Registers,
     next: usize,
     memory: &mut Memory,
+    registers: &RareRegisters,
     step: &RareStep,
 ) -> Gone
     requires { next < 2 ^ 32 }
-    ensures { Goes (plain_rare step.now) (surroundings context.now) r.old next (contents memory.old) result r.new (contents memory.new) }
+    ensures { Goes (plain_rare registers.now step.now) (surroundings context.now) r.old next (contents memory.old) result r.new (contents memory.new) }
 {
     let RareStep::AtomicAt32 {
         change,
-        target,
-        source,
         address,
         constant,
     } = *step
     else {
         return Gone::Other;
     };
+    let target = registers.target;
+    let source = registers.first;
     atomic_pointed32(
         alloc,
         context,
@@ -422,21 +425,22 @@ pub fn atomic_at64(
     r: &mut Registers,
     next: usize,
     memory: &mut Memory,
+    registers: &RareRegisters,
     step: &RareStep,
 ) -> Gone
     requires { next < 2 ^ 32 }
-    ensures { Goes (plain_rare step.now) (surroundings context.now) r.old next (contents memory.old) result r.new (contents memory.new) }
+    ensures { Goes (plain_rare registers.now step.now) (surroundings context.now) r.old next (contents memory.old) result r.new (contents memory.new) }
 {
     let RareStep::AtomicAt64 {
         change,
-        target,
-        source,
         address,
         constant,
     } = *step
     else {
         return Gone::Other;
     };
+    let target = registers.target;
+    let source = registers.first;
     atomic_pointed64(
         alloc,
         context,

@@ -6,7 +6,7 @@ ghost use Rattle.executor.specs.inner.Held.{contents, surroundings};
 
 use crate::flat::Gone;
 use crate::flat_sources::{
-    compared_constants, known_choice, shifted_constants, source_of, two_constants,
+    any_register, compared_constants, known_choice, shifted_constants, source_of, two_constants,
 };
 use crate::flat_values::{
     calculate_front32, calculate_front64, compare32, compare64, convert_step, run32, run64,
@@ -15,7 +15,9 @@ use crate::flat_values::{
 use crate::item::ItemContext;
 use crate::memory::Memory;
 use crate::registers::Registers;
-use kernel_check::{AnySource, ConvertStep, DoubleOperation, RareStep, SingleOperation, Source};
+use kernel_check::{
+    AnySource, ConvertStep, DoubleOperation, RareRegisters, RareStep, SingleOperation, Source,
+};
 
 /// `cvt` of a constant of a class.
 macro_rules! converted {
@@ -42,14 +44,16 @@ pub fn not_constant32(
     r: &mut Registers,
     next: usize,
     memory: &Memory,
+    registers: &RareRegisters,
     step: &RareStep,
 ) -> Gone
     requires { next < 2 ^ 32 }
-    ensures { Goes (plain_rare step.now) (surroundings context.now) r.old next (contents memory.now) result r.new (contents memory.now) }
+    ensures { Goes (plain_rare registers.now step.now) (surroundings context.now) r.old next (contents memory.now) result r.new (contents memory.now) }
 {
-    let RareStep::NotConstant32 { to, constant } = *step else {
+    let RareStep::NotConstant32 { constant } = *step else {
         return Gone::Other;
     };
+    let to = registers.target.number;
     run32(
         context,
         r,
@@ -67,20 +71,21 @@ pub fn calculate_constants32(
     r: &mut Registers,
     next: usize,
     memory: &Memory,
+    registers: &RareRegisters,
     step: &RareStep,
 ) -> Gone
     requires { next < 2 ^ 32 }
-    ensures { Goes (plain_rare step.now) (surroundings context.now) r.old next (contents memory.now) result r.new (contents memory.now) }
+    ensures { Goes (plain_rare registers.now step.now) (surroundings context.now) r.old next (contents memory.now) result r.new (contents memory.now) }
 {
     let RareStep::CalculateConstants32 {
         operation,
-        to,
         left,
         right,
     } = *step
     else {
         return Gone::Other;
     };
+    let to = registers.target.number;
     calculate_front32(
         context,
         r,
@@ -99,20 +104,21 @@ pub fn shift_constants32(
     r: &mut Registers,
     next: usize,
     memory: &Memory,
+    registers: &RareRegisters,
     step: &RareStep,
 ) -> Gone
     requires { next < 2 ^ 32 }
-    ensures { Goes (plain_rare step.now) (surroundings context.now) r.old next (contents memory.now) result r.new (contents memory.now) }
+    ensures { Goes (plain_rare registers.now step.now) (surroundings context.now) r.old next (contents memory.now) result r.new (contents memory.now) }
 {
     let RareStep::ShiftConstants32 {
         operation,
-        to,
         count,
         value,
     } = *step
     else {
         return Gone::Other;
     };
+    let to = registers.target.number;
     shift32(
         context,
         r,
@@ -131,21 +137,22 @@ pub fn compare_constants32(
     r: &mut Registers,
     next: usize,
     memory: &Memory,
+    registers: &RareRegisters,
     step: &RareStep,
 ) -> Gone
     requires { next < 2 ^ 32 }
-    ensures { Goes (plain_rare step.now) (surroundings context.now) r.old next (contents memory.now) result r.new (contents memory.now) }
+    ensures { Goes (plain_rare registers.now step.now) (surroundings context.now) r.old next (contents memory.now) result r.new (contents memory.now) }
 {
     let RareStep::CompareConstants32 {
         sign,
         comparison,
-        to,
         left,
         right,
     } = *step
     else {
         return Gone::Other;
     };
+    let to = registers.target.number;
     compare32(
         context,
         r,
@@ -164,22 +171,23 @@ pub fn choose_known32(
     r: &mut Registers,
     next: usize,
     memory: &Memory,
+    registers: &RareRegisters,
     step: &RareStep,
 ) -> Gone
     requires { next < 2 ^ 32 }
-    ensures { Goes (plain_rare step.now) (surroundings context.now) r.old next (contents memory.now) result r.new (contents memory.now) }
+    ensures { Goes (plain_rare registers.now step.now) (surroundings context.now) r.old next (contents memory.now) result r.new (contents memory.now) }
 {
     let RareStep::ChooseKnown32 {
-        to,
         condition,
-        one,
-        zero,
         one_constant,
         zero_constant,
     } = *step
     else {
         return Gone::Other;
     };
+    let to = registers.target.number;
+    let one = registers.first;
+    let zero = registers.second;
     let one = source_of(one, one_constant);
     let zero = source_of(zero, zero_constant);
     run32(
@@ -199,14 +207,16 @@ pub fn not_constant64(
     r: &mut Registers,
     next: usize,
     memory: &Memory,
+    registers: &RareRegisters,
     step: &RareStep,
 ) -> Gone
     requires { next < 2 ^ 32 }
-    ensures { Goes (plain_rare step.now) (surroundings context.now) r.old next (contents memory.now) result r.new (contents memory.now) }
+    ensures { Goes (plain_rare registers.now step.now) (surroundings context.now) r.old next (contents memory.now) result r.new (contents memory.now) }
 {
-    let RareStep::NotConstant64 { to, constant } = *step else {
+    let RareStep::NotConstant64 { constant } = *step else {
         return Gone::Other;
     };
+    let to = registers.target.number;
     run64(
         context,
         r,
@@ -224,20 +234,21 @@ pub fn calculate_constants64(
     r: &mut Registers,
     next: usize,
     memory: &Memory,
+    registers: &RareRegisters,
     step: &RareStep,
 ) -> Gone
     requires { next < 2 ^ 32 }
-    ensures { Goes (plain_rare step.now) (surroundings context.now) r.old next (contents memory.now) result r.new (contents memory.now) }
+    ensures { Goes (plain_rare registers.now step.now) (surroundings context.now) r.old next (contents memory.now) result r.new (contents memory.now) }
 {
     let RareStep::CalculateConstants64 {
         operation,
-        to,
         left,
         right,
     } = *step
     else {
         return Gone::Other;
     };
+    let to = registers.target.number;
     calculate_front64(
         context,
         r,
@@ -256,20 +267,21 @@ pub fn shift_constants64(
     r: &mut Registers,
     next: usize,
     memory: &Memory,
+    registers: &RareRegisters,
     step: &RareStep,
 ) -> Gone
     requires { next < 2 ^ 32 }
-    ensures { Goes (plain_rare step.now) (surroundings context.now) r.old next (contents memory.now) result r.new (contents memory.now) }
+    ensures { Goes (plain_rare registers.now step.now) (surroundings context.now) r.old next (contents memory.now) result r.new (contents memory.now) }
 {
     let RareStep::ShiftConstants64 {
         operation,
-        to,
         count,
         value,
     } = *step
     else {
         return Gone::Other;
     };
+    let to = registers.target.number;
     shift64(
         context,
         r,
@@ -288,21 +300,22 @@ pub fn compare_constants64(
     r: &mut Registers,
     next: usize,
     memory: &Memory,
+    registers: &RareRegisters,
     step: &RareStep,
 ) -> Gone
     requires { next < 2 ^ 32 }
-    ensures { Goes (plain_rare step.now) (surroundings context.now) r.old next (contents memory.now) result r.new (contents memory.now) }
+    ensures { Goes (plain_rare registers.now step.now) (surroundings context.now) r.old next (contents memory.now) result r.new (contents memory.now) }
 {
     let RareStep::CompareConstants64 {
         sign,
         comparison,
-        to,
         left,
         right,
     } = *step
     else {
         return Gone::Other;
     };
+    let to = registers.target.number;
     compare64(
         context,
         r,
@@ -321,22 +334,23 @@ pub fn choose_known64(
     r: &mut Registers,
     next: usize,
     memory: &Memory,
+    registers: &RareRegisters,
     step: &RareStep,
 ) -> Gone
     requires { next < 2 ^ 32 }
-    ensures { Goes (plain_rare step.now) (surroundings context.now) r.old next (contents memory.now) result r.new (contents memory.now) }
+    ensures { Goes (plain_rare registers.now step.now) (surroundings context.now) r.old next (contents memory.now) result r.new (contents memory.now) }
 {
     let RareStep::ChooseKnown64 {
-        to,
         condition,
-        one,
-        zero,
         one_constant,
         zero_constant,
     } = *step
     else {
         return Gone::Other;
     };
+    let to = registers.target.number;
+    let one = registers.first;
+    let zero = registers.second;
     let one = source_of(one, one_constant);
     let zero = source_of(zero, zero_constant);
     run64(
@@ -356,20 +370,22 @@ pub fn convert_constant1(
     r: &mut Registers,
     next: usize,
     memory: &Memory,
+    registers: &RareRegisters,
     step: &RareStep,
 ) -> Gone
     requires { next < 2 ^ 32 }
-    ensures { Goes (plain_rare step.now) (surroundings context.now) r.old next (contents memory.now) result r.new (contents memory.now) }
+    ensures { Goes (plain_rare registers.now step.now) (surroundings context.now) r.old next (contents memory.now) result r.new (contents memory.now) }
 {
     let RareStep::ConvertConstant1 {
         from,
         kind,
-        target,
+        class,
         constant,
     } = *step
     else {
         return Gone::Other;
     };
+    let target = any_register(class, registers.target.number);
     converted!(context, r, next, memory => from, kind, target, constant, Control)
 }
 
@@ -380,20 +396,22 @@ pub fn convert_constant32(
     r: &mut Registers,
     next: usize,
     memory: &Memory,
+    registers: &RareRegisters,
     step: &RareStep,
 ) -> Gone
     requires { next < 2 ^ 32 }
-    ensures { Goes (plain_rare step.now) (surroundings context.now) r.old next (contents memory.now) result r.new (contents memory.now) }
+    ensures { Goes (plain_rare registers.now step.now) (surroundings context.now) r.old next (contents memory.now) result r.new (contents memory.now) }
 {
     let RareStep::ConvertConstant32 {
         from,
         kind,
-        target,
+        class,
         constant,
     } = *step
     else {
         return Gone::Other;
     };
+    let target = any_register(class, registers.target.number);
     converted!(context, r, next, memory => from, kind, target, constant, Single)
 }
 
@@ -404,20 +422,22 @@ pub fn convert_constant64(
     r: &mut Registers,
     next: usize,
     memory: &Memory,
+    registers: &RareRegisters,
     step: &RareStep,
 ) -> Gone
     requires { next < 2 ^ 32 }
-    ensures { Goes (plain_rare step.now) (surroundings context.now) r.old next (contents memory.now) result r.new (contents memory.now) }
+    ensures { Goes (plain_rare registers.now step.now) (surroundings context.now) r.old next (contents memory.now) result r.new (contents memory.now) }
 {
     let RareStep::ConvertConstant64 {
         from,
         kind,
-        target,
+        class,
         constant,
     } = *step
     else {
         return Gone::Other;
     };
+    let target = any_register(class, registers.target.number);
     converted!(context, r, next, memory => from, kind, target, constant, Double)
 }
 

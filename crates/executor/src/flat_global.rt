@@ -10,7 +10,7 @@ use crate::flat_sources::{at_number, kind8, kind16, kind32, kind64, register_and
 use crate::item::ItemContext;
 use crate::memory::Memory;
 use crate::registers::Registers;
-use kernel_check::{AnySource, FlatStep, RareStep, Source, StoreStep};
+use kernel_check::{AnySource, FlatStep, RareRegisters, RareStep, Source, StoreStep};
 use std::alloc::Global;
 
 /// A store to global memory, by its type, its source and its place.
@@ -366,14 +366,16 @@ pub fn load_at8(
     r: &mut Registers,
     next: usize,
     memory: &Memory,
+    registers: &RareRegisters,
     step: &RareStep,
 ) -> Gone
     requires { next < 2 ^ 32 }
-    ensures { Goes (plain_rare step.now) (surroundings context.now) r.old next (contents memory.now) result r.new (contents memory.now) }
+    ensures { Goes (plain_rare registers.now step.now) (surroundings context.now) r.old next (contents memory.now) result r.new (contents memory.now) }
 {
-    let RareStep::LoadAt8 { sign, to, address } = *step else {
+    let RareStep::LoadAt8 { sign, address } = *step else {
         return Gone::Other;
     };
+    let to = registers.target.number;
     load_single(
         context,
         r,
@@ -392,14 +394,16 @@ pub fn load_at16(
     r: &mut Registers,
     next: usize,
     memory: &Memory,
+    registers: &RareRegisters,
     step: &RareStep,
 ) -> Gone
     requires { next < 2 ^ 32 }
-    ensures { Goes (plain_rare step.now) (surroundings context.now) r.old next (contents memory.now) result r.new (contents memory.now) }
+    ensures { Goes (plain_rare registers.now step.now) (surroundings context.now) r.old next (contents memory.now) result r.new (contents memory.now) }
 {
-    let RareStep::LoadAt16 { sign, to, address } = *step else {
+    let RareStep::LoadAt16 { sign, address } = *step else {
         return Gone::Other;
     };
+    let to = registers.target.number;
     load_single(
         context,
         r,
@@ -418,14 +422,16 @@ pub fn load_at32(
     r: &mut Registers,
     next: usize,
     memory: &Memory,
+    registers: &RareRegisters,
     step: &RareStep,
 ) -> Gone
     requires { next < 2 ^ 32 }
-    ensures { Goes (plain_rare step.now) (surroundings context.now) r.old next (contents memory.now) result r.new (contents memory.now) }
+    ensures { Goes (plain_rare registers.now step.now) (surroundings context.now) r.old next (contents memory.now) result r.new (contents memory.now) }
 {
-    let RareStep::LoadAt32 { sign, to, address } = *step else {
+    let RareStep::LoadAt32 { sign, address } = *step else {
         return Gone::Other;
     };
+    let to = registers.target.number;
     load_single(
         context,
         r,
@@ -444,14 +450,16 @@ pub fn load_at64(
     r: &mut Registers,
     next: usize,
     memory: &Memory,
+    registers: &RareRegisters,
     step: &RareStep,
 ) -> Gone
     requires { next < 2 ^ 32 }
-    ensures { Goes (plain_rare step.now) (surroundings context.now) r.old next (contents memory.now) result r.new (contents memory.now) }
+    ensures { Goes (plain_rare registers.now step.now) (surroundings context.now) r.old next (contents memory.now) result r.new (contents memory.now) }
 {
-    let RareStep::LoadAt64 { sign, to, address } = *step else {
+    let RareStep::LoadAt64 { sign, address } = *step else {
         return Gone::Other;
     };
+    let to = registers.target.number;
     load_double(
         context,
         r,
@@ -471,20 +479,21 @@ pub fn store_at8(
     r: &Registers,
     next: usize,
     memory: &mut Memory,
+    registers: &RareRegisters,
     step: &RareStep,
 ) -> Gone
     requires { next < 2 ^ 32 }
-    ensures { Goes (plain_rare step.now) (surroundings context.now) r.now next (contents memory.old) result r.now (contents memory.new) }
+    ensures { Goes (plain_rare registers.now step.now) (surroundings context.now) r.now next (contents memory.old) result r.now (contents memory.new) }
 {
     let RareStep::StoreAt8 {
         sign,
-        source,
         constant,
         address,
     } = *step
     else {
         return Gone::Other;
     };
+    let source = registers.first;
     store!(alloc, context, r, next, memory => kind8(sign), AnySource::Single(source_of(source, constant)), at_number(address))
 }
 
@@ -496,20 +505,21 @@ pub fn store_at16(
     r: &Registers,
     next: usize,
     memory: &mut Memory,
+    registers: &RareRegisters,
     step: &RareStep,
 ) -> Gone
     requires { next < 2 ^ 32 }
-    ensures { Goes (plain_rare step.now) (surroundings context.now) r.now next (contents memory.old) result r.now (contents memory.new) }
+    ensures { Goes (plain_rare registers.now step.now) (surroundings context.now) r.now next (contents memory.old) result r.now (contents memory.new) }
 {
     let RareStep::StoreAt16 {
         sign,
-        source,
         constant,
         address,
     } = *step
     else {
         return Gone::Other;
     };
+    let source = registers.first;
     store!(alloc, context, r, next, memory => kind16(sign), AnySource::Single(source_of(source, constant)), at_number(address))
 }
 
@@ -521,20 +531,21 @@ pub fn store_at32(
     r: &Registers,
     next: usize,
     memory: &mut Memory,
+    registers: &RareRegisters,
     step: &RareStep,
 ) -> Gone
     requires { next < 2 ^ 32 }
-    ensures { Goes (plain_rare step.now) (surroundings context.now) r.now next (contents memory.old) result r.now (contents memory.new) }
+    ensures { Goes (plain_rare registers.now step.now) (surroundings context.now) r.now next (contents memory.old) result r.now (contents memory.new) }
 {
     let RareStep::StoreAt32 {
         sign,
-        source,
         constant,
         address,
     } = *step
     else {
         return Gone::Other;
     };
+    let source = registers.first;
     store!(alloc, context, r, next, memory => kind32(sign), AnySource::Single(source_of(source, constant)), at_number(address))
 }
 
@@ -546,19 +557,20 @@ pub fn store_at64(
     r: &Registers,
     next: usize,
     memory: &mut Memory,
+    registers: &RareRegisters,
     step: &RareStep,
 ) -> Gone
     requires { next < 2 ^ 32 }
-    ensures { Goes (plain_rare step.now) (surroundings context.now) r.now next (contents memory.old) result r.now (contents memory.new) }
+    ensures { Goes (plain_rare registers.now step.now) (surroundings context.now) r.now next (contents memory.old) result r.now (contents memory.new) }
 {
     let RareStep::StoreAt64 {
         sign,
-        source,
         constant,
         address,
     } = *step
     else {
         return Gone::Other;
     };
+    let source = registers.first;
     store!(alloc, context, r, next, memory => kind64(sign), AnySource::Double(source_of(source, constant)), at_number(address))
 }

@@ -1,11 +1,11 @@
 //! The sources of flat steps, and the types that they name.
 ghost use Rattle.std.specs.Prelude.{◌≡◌};
-ghost use Rattle.kernel_check.specs.Flat.{at_number, both, both_compared, both_shift, choice, compared_constants, compared_with_constant, constant_and, constant_compared, constant_shift, group_pointer, kind8, kind16, kind32, kind64, known_choice, maybe, register_and, shift_with_constant, shifted_constants, source_of, two_constants, with_constant};
+ghost use Rattle.kernel_check.specs.Flat.{at_number, both, both_compared, both_shift, choice, compared_constants, compared_with_constant, constant_and, constant_compared, constant_shift, group_pointer, kind8, kind16, kind32, kind64, known_choice, maybe, register_and, register_of, shift_with_constant, shifted_constants, source_of, two_constants, with_constant};
 
-use hsail_reader::Comparison;
+use hsail_reader::{Comparison, RegisterClass};
 use kernel_check::{
-    Bit, Choice, Compare, GroupPointer, MaybeRegister, NumberType, Operand, Pair, Pointer,
-    RegisterNumber, Shift64, Signedness, Source, Triple,
+    AnyRegister, Bit, Choice, Compare, GroupPointer, MaybeRegister, NumberType, Operand, Pair,
+    Pointer, RegisterNumber, Shift64, Signedness, Source, Triple,
 };
 
 /// Two registers as sources.
@@ -290,5 +290,17 @@ pub fn kind64(sign: Signedness) -> NumberType
     match sign {
         Signedness::Unsigned => NumberType::U64,
         Signedness::Signed => NumberType::S64,
+    }
+}
+
+/// A register by its class.
+#[inline(always)]
+pub fn any_register(class: RegisterClass, number: RegisterNumber) -> AnyRegister
+    ensures { result ≡ register_of class number }
+{
+    match class {
+        RegisterClass::Control => AnyRegister::Control(number),
+        RegisterClass::Single => AnyRegister::Single(number),
+        RegisterClass::Double => AnyRegister::Double(number),
     }
 }

@@ -21,7 +21,9 @@ use crate::item::ItemContext;
 use crate::memory::Memory;
 use crate::registers::Registers;
 use crate::view::View;
-use kernel_check::{GroupPointer, MaybeRegister, Pointer, RareStep, Source32, Source64};
+use kernel_check::{
+    GroupPointer, MaybeRegister, Pointer, RareRegisters, RareStep, Source32, Source64,
+};
 use queue_error::SegmentAddress;
 use std::alloc::Global;
 
@@ -129,16 +131,13 @@ pub fn swap_global32(
     r: &mut Registers,
     next: usize,
     memory: &mut Memory,
+    registers: &RareRegisters,
     step: &RareStep,
 ) -> Gone
     requires { next < 2 ^ 32 }
-    ensures { Goes (plain_rare step.now) (surroundings context.now) r.old next (contents memory.old) result r.new (contents memory.new) }
+    ensures { Goes (plain_rare registers.now step.now) (surroundings context.now) r.old next (contents memory.old) result r.new (contents memory.new) }
 {
     let RareStep::SwapGlobal32 {
-        target,
-        base,
-        expected,
-        replacement,
         offset,
         expected_constant,
         replacement_constant,
@@ -146,6 +145,10 @@ pub fn swap_global32(
     else {
         return Gone::Other;
     };
+    let target = registers.target;
+    let base = registers.base.number;
+    let expected = registers.first;
+    let replacement = registers.second;
     swap_pointed32(
         alloc,
         context,
@@ -167,15 +170,13 @@ pub fn swap_at32(
     r: &mut Registers,
     next: usize,
     memory: &mut Memory,
+    registers: &RareRegisters,
     step: &RareStep,
 ) -> Gone
     requires { next < 2 ^ 32 }
-    ensures { Goes (plain_rare step.now) (surroundings context.now) r.old next (contents memory.old) result r.new (contents memory.new) }
+    ensures { Goes (plain_rare registers.now step.now) (surroundings context.now) r.old next (contents memory.old) result r.new (contents memory.new) }
 {
     let RareStep::SwapAt32 {
-        target,
-        expected,
-        replacement,
         address,
         expected_constant,
         replacement_constant,
@@ -183,6 +184,9 @@ pub fn swap_at32(
     else {
         return Gone::Other;
     };
+    let target = registers.target;
+    let expected = registers.first;
+    let replacement = registers.second;
     swap_pointed32(
         alloc,
         context,
@@ -204,16 +208,13 @@ pub fn swap_group32(
     r: &mut Registers,
     next: usize,
     memory: &mut Memory,
+    registers: &RareRegisters,
     step: &RareStep,
 ) -> Gone
     requires { next < 2 ^ 32 }
-    ensures { Goes (plain_rare step.now) (surroundings context.now) r.old next (contents memory.old) result r.new (contents memory.new) }
+    ensures { Goes (plain_rare registers.now step.now) (surroundings context.now) r.old next (contents memory.old) result r.new (contents memory.new) }
 {
     let RareStep::SwapGroup32 {
-        target,
-        base,
-        expected,
-        replacement,
         offset,
         expected_constant,
         replacement_constant,
@@ -221,6 +222,10 @@ pub fn swap_group32(
     else {
         return Gone::Other;
     };
+    let target = registers.target;
+    let base = registers.base;
+    let expected = registers.first;
+    let replacement = registers.second;
     swap_grouped32(
         alloc,
         context,
@@ -338,16 +343,13 @@ pub fn swap_global64(
     r: &mut Registers,
     next: usize,
     memory: &mut Memory,
+    registers: &RareRegisters,
     step: &RareStep,
 ) -> Gone
     requires { next < 2 ^ 32 }
-    ensures { Goes (plain_rare step.now) (surroundings context.now) r.old next (contents memory.old) result r.new (contents memory.new) }
+    ensures { Goes (plain_rare registers.now step.now) (surroundings context.now) r.old next (contents memory.old) result r.new (contents memory.new) }
 {
     let RareStep::SwapGlobal64 {
-        target,
-        base,
-        expected,
-        replacement,
         offset,
         expected_constant,
         replacement_constant,
@@ -355,6 +357,10 @@ pub fn swap_global64(
     else {
         return Gone::Other;
     };
+    let target = registers.target;
+    let base = registers.base.number;
+    let expected = registers.first;
+    let replacement = registers.second;
     swap_pointed64(
         alloc,
         context,
@@ -376,15 +382,13 @@ pub fn swap_at64(
     r: &mut Registers,
     next: usize,
     memory: &mut Memory,
+    registers: &RareRegisters,
     step: &RareStep,
 ) -> Gone
     requires { next < 2 ^ 32 }
-    ensures { Goes (plain_rare step.now) (surroundings context.now) r.old next (contents memory.old) result r.new (contents memory.new) }
+    ensures { Goes (plain_rare registers.now step.now) (surroundings context.now) r.old next (contents memory.old) result r.new (contents memory.new) }
 {
     let RareStep::SwapAt64 {
-        target,
-        expected,
-        replacement,
         address,
         expected_constant,
         replacement_constant,
@@ -392,6 +396,9 @@ pub fn swap_at64(
     else {
         return Gone::Other;
     };
+    let target = registers.target;
+    let expected = registers.first;
+    let replacement = registers.second;
     swap_pointed64(
         alloc,
         context,
@@ -413,16 +420,13 @@ pub fn swap_group64(
     r: &mut Registers,
     next: usize,
     memory: &mut Memory,
+    registers: &RareRegisters,
     step: &RareStep,
 ) -> Gone
     requires { next < 2 ^ 32 }
-    ensures { Goes (plain_rare step.now) (surroundings context.now) r.old next (contents memory.old) result r.new (contents memory.new) }
+    ensures { Goes (plain_rare registers.now step.now) (surroundings context.now) r.old next (contents memory.old) result r.new (contents memory.new) }
 {
     let RareStep::SwapGroup64 {
-        target,
-        base,
-        expected,
-        replacement,
         offset,
         expected_constant,
         replacement_constant,
@@ -430,6 +434,10 @@ pub fn swap_group64(
     else {
         return Gone::Other;
     };
+    let target = registers.target;
+    let base = registers.base;
+    let expected = registers.first;
+    let replacement = registers.second;
     swap_grouped64(
         alloc,
         context,

@@ -3,6 +3,7 @@ use Rattle.std.specs.Prelude.{◌≡◌, if◌then◌else◌, Bool, ℕ, List, [
 use Rattle.hsail_reader.specs.declared.types.Comparison.{Comparison}
 use Rattle.kernel_check.specs.declared.flat.FlatStep.{FlatStep}
 use Rattle.kernel_check.specs.declared.flat.FlatStep.TheVariants as flat
+use Rattle.kernel_check.specs.declared.flat_rare.RareRegisters.{RareRegisters}
 use Rattle.kernel_check.specs.declared.flat_rare.RareStep.{RareStep}
 use Rattle.kernel_check.specs.declared.flat_rare.RareStep.TheVariants as rare
 use Rattle.kernel_check.specs.declared.step.AnyRegister.{AnyRegister}
@@ -25,6 +26,8 @@ use Rattle.kernel_check.specs.declared.step.Source.{Source}
 use Rattle.kernel_check.specs.declared.step.Source.TheVariants as source
 use Rattle.kernel_check.specs.declared.step.Step.{Step}
 use Rattle.kernel_check.specs.declared.step.Step.TheVariants as step
+use Rattle.hsail_reader.specs.declared.types.RegisterClass.{RegisterClass}
+use Rattle.hsail_reader.specs.declared.types.RegisterClass.TheVariants as class
 use Rattle.hsail_reader.specs.declared.types.WorkItemQuery.TheVariants as query
 use Rattle.kernel_check.specs.declared.flat_parts.Bit.{Bit}
 use Rattle.kernel_check.specs.declared.flat_parts.Change.{Change}
@@ -243,38 +246,48 @@ atomic32_step target pointer operation = Some (step.Atomic32 (record { target = 
 abbrev pub atomic64_step : Option ℕ → AtomicPointer → AtomicChange (Source ℕ) → Option Step
 atomic64_step target pointer operation = Some (step.Atomic64 (record { target = target; pointer = pointer; operation = operation }))
 
--- the step that one stands for which texts seldom have
-abbrev pub plain_rare : RareStep → Option Step
-plain_rare (rare.NotConstant32 t c) = single_step t (single.Not (source.Constant c))
-plain_rare (rare.CalculateConstants32 o t l r) = single_step t (calculated32 o (two_constants l r))
-plain_rare (rare.ShiftConstants32 o t n v) = single_step t (shifted32 o (two_constants v n))
-plain_rare (rare.ChooseKnown32 t b x y c d) = single_step t (single.Choose (known_choice b (source_of x c) (source_of y d)))
-plain_rare (rare.NotConstant64 t c) = double_step t (double.Not (source.Constant c))
-plain_rare (rare.CalculateConstants64 o t l r) = double_step t (calculated64 o (two_constants l r))
-plain_rare (rare.ShiftConstants64 o t n v) = double_step t (shifted64 o (shifted_constants v n))
-plain_rare (rare.ChooseKnown64 t b x y c d) = double_step t (double.Choose (known_choice b (source_of x c) (source_of y d)))
-plain_rare (rare.CompareConstants32 g f t l r) = control_step t (compared32 g (compared_constants f l r))
-plain_rare (rare.CompareConstants64 g f t l r) = control_step t (compared64 g (compared_constants f l r))
-plain_rare (rare.ConvertConstant1 from kind t c) = convert_step from kind t (any.Control (source.Constant c))
-plain_rare (rare.ConvertConstant32 from kind t c) = convert_step from kind t (any.Single (source.Constant c))
-plain_rare (rare.ConvertConstant64 from kind t c) = convert_step from kind t (any.Double (source.Constant c))
-plain_rare (rare.LoadAt8 g t x) = load_at_step (kind8 g) (register.Single t) x
-plain_rare (rare.LoadAt16 g t x) = load_at_step (kind16 g) (register.Single t) x
-plain_rare (rare.LoadAt32 g t x) = load_at_step (kind32 g) (register.Single t) x
-plain_rare (rare.LoadAt64 g t x) = load_at_step (kind64 g) (register.Double t) x
-plain_rare (rare.StoreAt8 g s c x) = store_at_step (kind8 g) (any.Single (source_of s c)) x
-plain_rare (rare.StoreAt16 g s c x) = store_at_step (kind16 g) (any.Single (source_of s c)) x
-plain_rare (rare.StoreAt32 g s c x) = store_at_step (kind32 g) (any.Single (source_of s c)) x
-plain_rare (rare.StoreAt64 g s c x) = store_at_step (kind64 g) (any.Double (source_of s c)) x
-plain_rare (rare.AtomicAt32 f t s x c) = atomic32_step (maybe t) (atomic_at.Global (at_number x)) (changed f (source_of s c))
-plain_rare (rare.SwapGlobal32 t b e n o c d) = atomic32_step (maybe t) (atomic_at.Global (register_and b o)) (swapping (source_of e c) (source_of n d))
-plain_rare (rare.SwapAt32 t e n x c d) = atomic32_step (maybe t) (atomic_at.Global (at_number x)) (swapping (source_of e c) (source_of n d))
-plain_rare (rare.SwapGroup32 t b e n o c d) = atomic32_step (maybe t) (atomic_at.Group (group_pointer b o)) (swapping (source_of e c) (source_of n d))
-plain_rare (rare.AtomicAt64 f t s x c) = atomic64_step (maybe t) (atomic_at.Global (at_number x)) (changed f (source_of s c))
-plain_rare (rare.SwapGlobal64 t b e n o c d) = atomic64_step (maybe t) (atomic_at.Global (register_and b o)) (swapping (source_of e c) (source_of n d))
-plain_rare (rare.SwapAt64 t e n x c d) = atomic64_step (maybe t) (atomic_at.Global (at_number x)) (swapping (source_of e c) (source_of n d))
-plain_rare (rare.SwapGroup64 t b e n o c d) = atomic64_step (maybe t) (atomic_at.Group (group_pointer b o)) (swapping (source_of e c) (source_of n d))
-plain_rare (rare.BranchIf condition next) = Some (step.ConditionalBranch (record { condition = source.Constant condition; next = next }))
+-- a register by its class
+abbrev pub register_of : RegisterClass → ℕ → AnyRegister
+register_of class.Control n = register.Control n
+register_of class.Single n = register.Single n
+register_of class.Double n = register.Double n
+
+-- the step that one stands for which texts seldom have, with its registers
+abbrev pub plain_rare : RareRegisters → RareStep → Option Step
+plain_rare r (rare.NotConstant32 c) = single_step r.target.number (single.Not (source.Constant c))
+plain_rare r (rare.CalculateConstants32 o x y) = single_step r.target.number (calculated32 o (two_constants x y))
+plain_rare r (rare.ShiftConstants32 o n v) = single_step r.target.number (shifted32 o (two_constants v n))
+plain_rare r (rare.ChooseKnown32 b c d) = single_step r.target.number (single.Choose (known_choice b (source_of r.first c) (source_of r.second d)))
+plain_rare r (rare.NotConstant64 c) = double_step r.target.number (double.Not (source.Constant c))
+plain_rare r (rare.CalculateConstants64 o x y) = double_step r.target.number (calculated64 o (two_constants x y))
+plain_rare r (rare.ShiftConstants64 o n v) = double_step r.target.number (shifted64 o (shifted_constants v n))
+plain_rare r (rare.ChooseKnown64 b c d) = double_step r.target.number (double.Choose (known_choice b (source_of r.first c) (source_of r.second d)))
+plain_rare r (rare.CompareConstants32 g f x y) = control_step r.target.number (compared32 g (compared_constants f x y))
+plain_rare r (rare.CompareConstants64 g f x y) = control_step r.target.number (compared64 g (compared_constants f x y))
+plain_rare r (rare.ConvertConstant1 from kind k c) = convert_step from kind (register_of k r.target.number) (any.Control (source.Constant c))
+plain_rare r (rare.ConvertConstant32 from kind k c) = convert_step from kind (register_of k r.target.number) (any.Single (source.Constant c))
+plain_rare r (rare.ConvertConstant64 from kind k c) = convert_step from kind (register_of k r.target.number) (any.Double (source.Constant c))
+plain_rare r (rare.LoadAt8 g x) = load_at_step (kind8 g) (register.Single r.target.number) x
+plain_rare r (rare.LoadAt16 g x) = load_at_step (kind16 g) (register.Single r.target.number) x
+plain_rare r (rare.LoadAt32 g x) = load_at_step (kind32 g) (register.Single r.target.number) x
+plain_rare r (rare.LoadAt64 g x) = load_at_step (kind64 g) (register.Double r.target.number) x
+plain_rare r (rare.StoreAt8 g c x) = store_at_step (kind8 g) (any.Single (source_of r.first c)) x
+plain_rare r (rare.StoreAt16 g c x) = store_at_step (kind16 g) (any.Single (source_of r.first c)) x
+plain_rare r (rare.StoreAt32 g c x) = store_at_step (kind32 g) (any.Single (source_of r.first c)) x
+plain_rare r (rare.StoreAt64 g c x) = store_at_step (kind64 g) (any.Double (source_of r.first c)) x
+plain_rare r (rare.AtomicAt32 f x c) = atomic32_step (maybe r.target) (atomic_at.Global (at_number x)) (changed f (source_of r.first c))
+plain_rare r (rare.SwapGlobal32 o c d) =
+    atomic32_step (maybe r.target) (atomic_at.Global (register_and r.base.number o)) (swapping (source_of r.first c) (source_of r.second d))
+plain_rare r (rare.SwapAt32 x c d) = atomic32_step (maybe r.target) (atomic_at.Global (at_number x)) (swapping (source_of r.first c) (source_of r.second d))
+plain_rare r (rare.SwapGroup32 o c d) =
+    atomic32_step (maybe r.target) (atomic_at.Group (group_pointer r.base o)) (swapping (source_of r.first c) (source_of r.second d))
+plain_rare r (rare.AtomicAt64 f x c) = atomic64_step (maybe r.target) (atomic_at.Global (at_number x)) (changed f (source_of r.first c))
+plain_rare r (rare.SwapGlobal64 o c d) =
+    atomic64_step (maybe r.target) (atomic_at.Global (register_and r.base.number o)) (swapping (source_of r.first c) (source_of r.second d))
+plain_rare r (rare.SwapAt64 x c d) = atomic64_step (maybe r.target) (atomic_at.Global (at_number x)) (swapping (source_of r.first c) (source_of r.second d))
+plain_rare r (rare.SwapGroup64 o c d) =
+    atomic64_step (maybe r.target) (atomic_at.Group (group_pointer r.base o)) (swapping (source_of r.first c) (source_of r.second d))
+plain_rare r (rare.BranchIf condition next) = Some (step.ConditionalBranch (record { condition = source.Constant condition; next = next }))
 
 -- the step that a flat one stands for
 abbrev pub plain : FlatStep → Option Step
@@ -409,7 +422,7 @@ plain (flat.AtomicGlobal64 f t b s o c) = atomic64_step (maybe t) (atomic_at.Glo
 plain (flat.AtomicGroup64 f t b s o c) = atomic64_step (maybe t) (atomic_at.Group (group_pointer b o)) (changed f (source_of s c))
 plain (flat.Branch next) = Some (step.Branch next)
 plain (flat.ConditionalBranch s next) = Some (step.ConditionalBranch (record { condition = source.Register s; next = next }))
-plain (flat.Rare s) = plain_rare s
+plain (flat.Rare r s) = plain_rare r s
 plain flat.Barrier = Some step.Barrier
 plain flat.Return = Some step.Return
 

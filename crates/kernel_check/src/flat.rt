@@ -6,7 +6,7 @@ use crate::flat_parts::{
     ConstantBehind, Conversion, FromOne, FromThree, FromTwo, MaybeRegister, Operand, Operation,
     PlaceIn, Question, ShiftOperation, Signedness,
 };
-use crate::flat_rare::RareStep;
+use crate::flat_rare::{RareRegisters, RareStep};
 use crate::step::{NumberType, RegisterNumber};
 use hsail_reader::Comparison;
 use std::mem::size_of;
@@ -562,11 +562,14 @@ pub enum FlatStep {
         next: usize,
     },
     /// A step that texts seldom have
-    Rare(RareStep),
+    Rare {
+        registers: RareRegisters,
+        step: RareStep,
+    },
     /// `barrier`
     Barrier,
     /// `ret`
     Return,
 }
 
-const _: () = prove!(size_of::<FlatStep>() <= 40);
+const _: () = prove!(size_of::<FlatStep>() <= 48);

@@ -5,9 +5,9 @@ ghost use Rattle.kernel_check.specs.declared.step.AtomicChange.TheVariants as at
 ghost use Rattle.kernel_check.specs.declared.step.Step.TheVariants as step_arm;
 
 use crate::flat::FlatStep;
-use crate::flat_operands::{maybe_register, parts32, parts64};
+use crate::flat_operands::{constant_operand, maybe_register, parts32, parts64};
 use crate::flat_parts::Change;
-use crate::flat_rare::RareStep;
+use crate::flat_rare::{RareStep, change_and, change_at, one_register};
 use crate::step::{
     AtomicChange, AtomicPointer, AtomicStep, RegisterNumber, Source32, Source64, Swap,
 };
@@ -77,13 +77,14 @@ fn flat_change32(
                 offset: pointer.offset,
                 constant,
             },
-            None => FlatStep::Rare(RareStep::AtomicAt32 {
-                change,
-                target,
-                source,
-                address: pointer.offset,
-                constant,
-            }),
+            None => FlatStep::Rare {
+                registers: change_at(target, source, constant_operand()),
+                step: RareStep::AtomicAt32 {
+                    change,
+                    address: pointer.offset,
+                    constant,
+                },
+            },
         },
     }
 }
@@ -96,33 +97,31 @@ fn flat_swap32(to: Option<RegisterNumber>, at: AtomicPointer, swap: &Swap<Source
     let (expected, expected_constant) = parts32(swap.expected);
     let (replacement, replacement_constant) = parts32(swap.replacement);
     match at {
-        AtomicPointer::Group(pointer) => FlatStep::Rare(RareStep::SwapGroup32 {
-            target,
-            base: maybe_register(pointer.base),
-            expected,
-            replacement,
-            offset: pointer.offset,
-            expected_constant,
-            replacement_constant,
-        }),
-        AtomicPointer::Global(pointer) => match pointer.base {
-            Some(base) => FlatStep::Rare(RareStep::SwapGlobal32 {
-                target,
-                base,
-                expected,
-                replacement,
+        AtomicPointer::Group(pointer) => FlatStep::Rare {
+            registers: change_and(target, maybe_register(pointer.base), expected, replacement),
+            step: RareStep::SwapGroup32 {
                 offset: pointer.offset,
                 expected_constant,
                 replacement_constant,
-            }),
-            None => FlatStep::Rare(RareStep::SwapAt32 {
-                target,
-                expected,
-                replacement,
-                address: pointer.offset,
-                expected_constant,
-                replacement_constant,
-            }),
+            },
+        },
+        AtomicPointer::Global(pointer) => match pointer.base {
+            Some(base) => FlatStep::Rare {
+                registers: change_and(target, one_register(base), expected, replacement),
+                step: RareStep::SwapGlobal32 {
+                    offset: pointer.offset,
+                    expected_constant,
+                    replacement_constant,
+                },
+            },
+            None => FlatStep::Rare {
+                registers: change_at(target, expected, replacement),
+                step: RareStep::SwapAt32 {
+                    address: pointer.offset,
+                    expected_constant,
+                    replacement_constant,
+                },
+            },
         },
     }
 }
@@ -192,13 +191,14 @@ fn flat_change64(
                 offset: pointer.offset,
                 constant,
             },
-            None => FlatStep::Rare(RareStep::AtomicAt64 {
-                change,
-                target,
-                source,
-                address: pointer.offset,
-                constant,
-            }),
+            None => FlatStep::Rare {
+                registers: change_at(target, source, constant_operand()),
+                step: RareStep::AtomicAt64 {
+                    change,
+                    address: pointer.offset,
+                    constant,
+                },
+            },
         },
     }
 }
@@ -211,33 +211,31 @@ fn flat_swap64(to: Option<RegisterNumber>, at: AtomicPointer, swap: &Swap<Source
     let (expected, expected_constant) = parts64(swap.expected);
     let (replacement, replacement_constant) = parts64(swap.replacement);
     match at {
-        AtomicPointer::Group(pointer) => FlatStep::Rare(RareStep::SwapGroup64 {
-            target,
-            base: maybe_register(pointer.base),
-            expected,
-            replacement,
-            offset: pointer.offset,
-            expected_constant,
-            replacement_constant,
-        }),
-        AtomicPointer::Global(pointer) => match pointer.base {
-            Some(base) => FlatStep::Rare(RareStep::SwapGlobal64 {
-                target,
-                base,
-                expected,
-                replacement,
+        AtomicPointer::Group(pointer) => FlatStep::Rare {
+            registers: change_and(target, maybe_register(pointer.base), expected, replacement),
+            step: RareStep::SwapGroup64 {
                 offset: pointer.offset,
                 expected_constant,
                 replacement_constant,
-            }),
-            None => FlatStep::Rare(RareStep::SwapAt64 {
-                target,
-                expected,
-                replacement,
-                address: pointer.offset,
-                expected_constant,
-                replacement_constant,
-            }),
+            },
+        },
+        AtomicPointer::Global(pointer) => match pointer.base {
+            Some(base) => FlatStep::Rare {
+                registers: change_and(target, one_register(base), expected, replacement),
+                step: RareStep::SwapGlobal64 {
+                    offset: pointer.offset,
+                    expected_constant,
+                    replacement_constant,
+                },
+            },
+            None => FlatStep::Rare {
+                registers: change_at(target, expected, replacement),
+                step: RareStep::SwapAt64 {
+                    address: pointer.offset,
+                    expected_constant,
+                    replacement_constant,
+                },
+            },
         },
     }
 }

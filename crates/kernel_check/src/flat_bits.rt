@@ -10,7 +10,7 @@ ghost use Rattle.kernel_check.specs.declared.step.Step.TheVariants as step_arm;
 use crate::flat::FlatStep;
 use crate::flat_operands::bit;
 use crate::flat_parts::{Compared, ComparedBehind, Conversion, FromOne, Signedness};
-use crate::flat_rare::RareStep;
+use crate::flat_rare::{RareStep, classed, set_alone};
 use crate::step::{
     AnyRegister, AnySource, ControlOperation, ControlStep, ConvertStep, NumberType, RegisterNumber,
     Source,
@@ -28,13 +28,15 @@ macro_rules! flat_compare32 {
                     right,
                     constant,
                 },
-                Source::Constant(right) => FlatStep::Rare(RareStep::CompareConstants32 {
-                    sign: Signedness::$sign,
-                    comparison: $compare.comparison,
-                    to: $to,
-                    left: constant,
-                    right,
-                }),
+                Source::Constant(right) => FlatStep::Rare {
+                    registers: set_alone($to),
+                    step: RareStep::CompareConstants32 {
+                        sign: Signedness::$sign,
+                        comparison: $compare.comparison,
+                        left: constant,
+                        right,
+                    },
+                },
             },
             Source::Register(left) => match $compare.right {
                 Source::Register(right) => FlatStep::$registers(Compared {
@@ -66,13 +68,15 @@ macro_rules! flat_compare64 {
                     right,
                     constant,
                 },
-                Source::Constant(right) => FlatStep::Rare(RareStep::CompareConstants64 {
-                    sign: Signedness::$sign,
-                    comparison: $compare.comparison,
-                    to: $to,
-                    left: constant,
-                    right,
-                }),
+                Source::Constant(right) => FlatStep::Rare {
+                    registers: set_alone($to),
+                    step: RareStep::CompareConstants64 {
+                        sign: Signedness::$sign,
+                        comparison: $compare.comparison,
+                        left: constant,
+                        right,
+                    },
+                },
             },
             Source::Register(left) => match $compare.right {
                 Source::Register(right) => FlatStep::$registers(Compared {
@@ -156,28 +160,40 @@ pub(crate) fn flat_convert(step: &ConvertStep) -> FlatStep
         AnySource::Single(Source::Register(source)) => flat_single(from, kind, target, source),
         AnySource::Double(Source::Register(source)) => flat_double(from, kind, target, source),
         AnySource::Control(Source::Constant(constant)) => {
-            FlatStep::Rare(RareStep::ConvertConstant1 {
-                from,
-                kind,
-                target,
-                constant,
-            })
+            let target = classed(target);
+            FlatStep::Rare {
+                registers: set_alone(target.1),
+                step: RareStep::ConvertConstant1 {
+                    from,
+                    kind,
+                    class: target.0,
+                    constant,
+                },
+            }
         }
         AnySource::Single(Source::Constant(constant)) => {
-            FlatStep::Rare(RareStep::ConvertConstant32 {
-                from,
-                kind,
-                target,
-                constant,
-            })
+            let target = classed(target);
+            FlatStep::Rare {
+                registers: set_alone(target.1),
+                step: RareStep::ConvertConstant32 {
+                    from,
+                    kind,
+                    class: target.0,
+                    constant,
+                },
+            }
         }
         AnySource::Double(Source::Constant(constant)) => {
-            FlatStep::Rare(RareStep::ConvertConstant64 {
-                from,
-                kind,
-                target,
-                constant,
-            })
+            let target = classed(target);
+            FlatStep::Rare {
+                registers: set_alone(target.1),
+                step: RareStep::ConvertConstant64 {
+                    from,
+                    kind,
+                    class: target.0,
+                    constant,
+                },
+            }
         }
     }
 }

@@ -8,7 +8,7 @@ ghost use Rattle.kernel_check.specs.declared.step.Step.TheVariants as step_arm;
 use crate::flat::FlatStep;
 use crate::flat_operands::{parts32, parts64};
 use crate::flat_parts::{ArgumentAt, PlaceIn, Question, Signedness};
-use crate::flat_rare::RareStep;
+use crate::flat_rare::{RareStep, read_alone, set_alone};
 use crate::step::{
     AnyRegister, AnySource, ArgumentStep, LoadStep, NumberType, RegisterNumber, Source, StoreStep,
     WorkItemQueryStep,
@@ -41,11 +41,13 @@ macro_rules! load {
 /// One at a number.
 macro_rules! load_at {
     ($to:expr, $address:expr => $size:ident, $sign:ident) => {
-        FlatStep::Rare(RareStep::$size {
-            sign: Signedness::$sign,
-            to: $to,
-            address: $address,
-        })
+        FlatStep::Rare {
+            registers: set_alone($to),
+            step: RareStep::$size {
+                sign: Signedness::$sign,
+                address: $address,
+            },
+        }
     };
 }
 
@@ -76,12 +78,14 @@ macro_rules! store_constant {
 /// A store at a number laid flat.
 macro_rules! store_at {
     ($parts:expr, $address:expr => $size:ident, $sign:ident) => {
-        FlatStep::Rare(RareStep::$size {
-            sign: Signedness::$sign,
-            source: $parts.0,
-            constant: $parts.1,
-            address: $address,
-        })
+        FlatStep::Rare {
+            registers: read_alone($parts.0),
+            step: RareStep::$size {
+                sign: Signedness::$sign,
+                constant: $parts.1,
+                address: $address,
+            },
+        }
     };
 }
 

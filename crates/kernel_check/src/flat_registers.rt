@@ -12,7 +12,7 @@ use crate::flat_parts::{
     Calculation, ChosenConstants, ConstantBehind, FromOne, FromThree, FromTwo, Operation,
     ShiftOperation,
 };
-use crate::flat_rare::RareStep;
+use crate::flat_rare::{RareStep, set_alone, set_and};
 use crate::step::{
     Choice, DoubleOperation, DoubleStep, Pair, RegisterNumber, SingleOperation, SingleStep, Source,
     Source32, Source64, Triple,
@@ -29,12 +29,14 @@ macro_rules! flat_pair32 {
                     right,
                     constant,
                 },
-                Source::Constant(right) => FlatStep::Rare(RareStep::CalculateConstants32 {
-                    operation: Operation::$operation,
-                    to: $to,
-                    left: constant,
-                    right,
-                }),
+                Source::Constant(right) => FlatStep::Rare {
+                    registers: set_alone($to),
+                    step: RareStep::CalculateConstants32 {
+                        operation: Operation::$operation,
+                        left: constant,
+                        right,
+                    },
+                },
             },
             Source::Register(left) => match $pair.right {
                 Source::Register(right) => FlatStep::$registers(FromTwo {
@@ -63,12 +65,14 @@ macro_rules! flat_shift32 {
                     right,
                     constant,
                 },
-                Source::Constant(count) => FlatStep::Rare(RareStep::ShiftConstants32 {
-                    operation: ShiftOperation::$operation,
-                    to: $to,
-                    count,
-                    value: constant,
-                }),
+                Source::Constant(count) => FlatStep::Rare {
+                    registers: set_alone($to),
+                    step: RareStep::ShiftConstants32 {
+                        operation: ShiftOperation::$operation,
+                        count,
+                        value: constant,
+                    },
+                },
             },
             Source::Register(left) => match $pair.right {
                 Source::Register(right) => FlatStep::$registers(FromTwo {
@@ -97,12 +101,14 @@ macro_rules! flat_pair64 {
                     right,
                     constant,
                 },
-                Source::Constant(right) => FlatStep::Rare(RareStep::CalculateConstants64 {
-                    operation: Operation::$operation,
-                    to: $to,
-                    left: constant,
-                    right,
-                }),
+                Source::Constant(right) => FlatStep::Rare {
+                    registers: set_alone($to),
+                    step: RareStep::CalculateConstants64 {
+                        operation: Operation::$operation,
+                        left: constant,
+                        right,
+                    },
+                },
             },
             Source::Register(left) => match $pair.right {
                 Source::Register(right) => FlatStep::$registers(FromTwo {
@@ -131,12 +137,14 @@ macro_rules! flat_shift64 {
                     right,
                     constant,
                 },
-                Source::Constant(count) => FlatStep::Rare(RareStep::ShiftConstants64 {
-                    operation: ShiftOperation::$operation,
-                    to: $to,
-                    count,
-                    value: constant,
-                }),
+                Source::Constant(count) => FlatStep::Rare {
+                    registers: set_alone($to),
+                    step: RareStep::ShiftConstants64 {
+                        operation: ShiftOperation::$operation,
+                        count,
+                        value: constant,
+                    },
+                },
             },
             Source::Register(left) => match $pair.count {
                 Source::Register(right) => FlatStep::$registers(FromTwo {
@@ -166,7 +174,10 @@ pub(crate) fn flat32(set: &SingleStep) -> FlatStep
         },
         SingleOperation::Not(source) => match *source {
             Source::Register(source) => FlatStep::Not32(FromOne { to, source }),
-            Source::Constant(constant) => FlatStep::Rare(RareStep::NotConstant32 { to, constant }),
+            Source::Constant(constant) => FlatStep::Rare {
+                registers: set_alone(to),
+                step: RareStep::NotConstant32 { constant },
+            },
         },
         SingleOperation::Add(p) => flat_pair32!(to, p => Add, Add32, Add32Constant),
         SingleOperation::Subtract(p) =>
@@ -219,7 +230,10 @@ pub(crate) fn flat64(set: &DoubleStep) -> FlatStep
         },
         DoubleOperation::Not(source) => match *source {
             Source::Register(source) => FlatStep::Not64(FromOne { to, source }),
-            Source::Constant(constant) => FlatStep::Rare(RareStep::NotConstant64 { to, constant }),
+            Source::Constant(constant) => FlatStep::Rare {
+                registers: set_alone(to),
+                step: RareStep::NotConstant64 { constant },
+            },
         },
         DoubleOperation::Add(p) => flat_pair64!(to, p => Add, Add64, Add64Constant),
         DoubleOperation::Subtract(p) =>
@@ -272,12 +286,14 @@ fn flat_calculation32(to: RegisterNumber, operation: Operation, pair: &Pair<Sour
                 right,
                 constant,
             },
-            Source::Constant(right) => FlatStep::Rare(RareStep::CalculateConstants32 {
-                operation,
-                to,
-                left: constant,
-                right,
-            }),
+            Source::Constant(right) => FlatStep::Rare {
+                registers: set_alone(to),
+                step: RareStep::CalculateConstants32 {
+                    operation,
+                    left: constant,
+                    right,
+                },
+            },
         },
         Source::Register(left) => match pair.right {
             Source::Register(right) => FlatStep::Calculate32(Calculation {
@@ -308,12 +324,14 @@ fn flat_calculation64(to: RegisterNumber, operation: Operation, pair: &Pair<Sour
                 right,
                 constant,
             },
-            Source::Constant(right) => FlatStep::Rare(RareStep::CalculateConstants64 {
-                operation,
-                to,
-                left: constant,
-                right,
-            }),
+            Source::Constant(right) => FlatStep::Rare {
+                registers: set_alone(to),
+                step: RareStep::CalculateConstants64 {
+                    operation,
+                    left: constant,
+                    right,
+                },
+            },
         },
         Source::Register(left) => match pair.right {
             Source::Register(right) => FlatStep::Calculate64(Calculation {
@@ -414,14 +432,14 @@ fn flat_choice32(to: RegisterNumber, choice: &Choice<Source32>) -> FlatStep
         Source::Constant(condition) => {
             let (one, one_constant) = parts32(choice.one);
             let (zero, zero_constant) = parts32(choice.zero);
-            FlatStep::Rare(RareStep::ChooseKnown32 {
-                to,
-                condition,
-                one,
-                zero,
-                one_constant,
-                zero_constant,
-            })
+            FlatStep::Rare {
+                registers: set_and(to, one, zero),
+                step: RareStep::ChooseKnown32 {
+                    condition,
+                    one_constant,
+                    zero_constant,
+                },
+            }
         }
     }
 }
@@ -491,14 +509,14 @@ fn flat_choice64(to: RegisterNumber, choice: &Choice<Source64>) -> FlatStep
         Source::Constant(condition) => {
             let (one, one_constant) = parts64(choice.one);
             let (zero, zero_constant) = parts64(choice.zero);
-            FlatStep::Rare(RareStep::ChooseKnown64 {
-                to,
-                condition,
-                one,
-                zero,
-                one_constant,
-                zero_constant,
-            })
+            FlatStep::Rare {
+                registers: set_and(to, one, zero),
+                step: RareStep::ChooseKnown64 {
+                    condition,
+                    one_constant,
+                    zero_constant,
+                },
+            }
         }
     }
 }

@@ -8,7 +8,7 @@ use crate::flat_atomics::{flat_atomic32, flat_atomic64};
 use crate::flat_bits::{flat_convert, flat1};
 use crate::flat_group::{flat_group_load, flat_group_store};
 use crate::flat_memory::{flat_argument, flat_load, flat_query, flat_store};
-use crate::flat_rare::RareStep;
+use crate::flat_rare::{RareStep, no_registers};
 use crate::flat_registers::{flat32, flat64};
 use crate::step::{Source, Step};
 use std::alloc::{AllocError, Global};
@@ -35,10 +35,13 @@ fn flat(step: &Step) -> FlatStep
                 condition,
                 next: branch.next,
             },
-            Source::Constant(condition) => FlatStep::Rare(RareStep::BranchIf {
-                condition,
-                next: branch.next,
-            }),
+            Source::Constant(condition) => FlatStep::Rare {
+                registers: no_registers(),
+                step: RareStep::BranchIf {
+                    condition,
+                    next: branch.next,
+                },
+            },
         },
         Step::Return => FlatStep::Return,
         Step::Barrier => FlatStep::Barrier,

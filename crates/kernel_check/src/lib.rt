@@ -41,7 +41,7 @@ pub use flat_parts::{
     ConstantBehind, Conversion, FromOne, FromThree, FromTwo, MaybeRegister, Operand, Operation,
     PlaceIn, Question, ShiftOperation, Signedness,
 };
-pub use flat_rare::RareStep;
+pub use flat_rare::{RareRegisters, RareStep};
 pub use laws::{
     law_faults_are_earliest, law_numbers_are_those_of_the_rules, law_steps_are_faithful,
     law_steps_do_what_words_say, law_steps_have_what_they_need, law_wide_arguments_ascend,
