@@ -2,9 +2,9 @@ use Rattle.std.proofs.Common.{rules, ◌≡◌, None, Some, ◌+◌, ◌-◌, �
 use Rattle.std.specs.Prelude.{slice_get}
 use Rattle.executor.specs.Group.{ready, context_of_item}
 use Rattle.executor.specs.Meaning.{turn, goes_on, arrives, ends, broke}
+use Rattle.executor.specs.declared.act.Outcome.{Outcome}
 use Rattle.executor.specs.declared.fault.RunFault.{RunFault}
 use Rattle.executor.specs.declared.item.Item.{Item}
-use Rattle.executor.specs.declared.outcome.Outcome.{Outcome}
 use Rattle.executor.specs.inner.Few.{RestIsZero}
 use Rattle.executor.specs.inner.Held.{contents, surroundings}
 use Rattle.executor.specs.inner.ItemRuns.{ItemFails}
