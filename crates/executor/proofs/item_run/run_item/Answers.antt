@@ -2,7 +2,6 @@ use Rattle.std.proofs.Common.{rules, ◌≡◌, None, Some, ◌+◌, ◌-◌, �
 use Rattle.std.specs.Prelude.{slice_get}
 use Rattle.executor.specs.Group.{ready, context_of_item}
 use Rattle.executor.specs.Meaning.{turn, goes_on, arrives, ends, broke}
-use Rattle.executor.specs.declared.act.Outcome.{Outcome}
 use Rattle.executor.specs.declared.fault.RunFault.{RunFault}
 use Rattle.executor.specs.declared.item.Item.{Item}
 use Rattle.executor.specs.inner.Few.{RestIsZero}
@@ -282,13 +281,10 @@ returns-in_default-turn-clause-comes c =
     let few : left ≤ 65536 = c.turns.invariant.0 in
     let some : 0 < left = omega arith in
     let spent_less : 65536 - left < 65536 = omega (arith, few, some) in
-    let named = c.in_default-turn.outcome-is in
-    let same : c.turn.result ≡ c.in_default-turn.outcome = sym named in
-    let is : Acts (turn (context_of_item a n) p.steps (record { registers = r; next = next }) (65536 - left) m) c.in_default-turn.outcome c.turn.new.item (contents c.turn.new.memory) =
-    subst (λ (o : Outcome). Acts (turn (context_of_item a n) p.steps (record { registers = r; next = next }) (65536 - left) m) o c.turn.new.item (contents c.turn.new.memory)) same
-    (acts_alike a (context_of_item a n) p.steps c.go.new.r r next (65536 - left) (contents c.go.new.memory) m c.turn.result c.turn.new.item (contents c.turn.new.memory)
-    (in_place a n c.requires.item) c.in-Other.ensures.0 c.in-Other.ensures.1 (c.turn.ensures (65536 - left) spent_less)) in
-    comes_left a p n first before (record { registers = r; next = next }) left m few some c.in_default-turn.outcome (record { item = c.turn.new.item; left = c.turns.stopped.left; stop = c.turns.stopped.stop }) c.leave.new.stopped (contents c.turn.new.memory)
+    let is : Acts (turn (context_of_item a n) p.steps (record { registers = r; next = next }) (65536 - left) m) c.turn.result c.turn.new.item (contents c.turn.new.memory) =
+    acts_alike a (context_of_item a n) p.steps c.go.new.r r next (65536 - left) (contents c.go.new.memory) m c.turn.result c.turn.new.item (contents c.turn.new.memory)
+    (in_place a n c.requires.item) c.in-Other.ensures.0 c.in-Other.ensures.1 (c.turn.ensures (65536 - left) spent_less) in
+    comes_left a p n first before (record { registers = r; next = next }) left m few some c.turn.result (record { item = c.turn.new.item; left = c.turns.stopped.left; stop = c.turns.stopped.stop }) c.leave.new.stopped (contents c.turn.new.memory)
     c.leave.result c.leave.new.broken c.turns.invariant.1.0 is c.leave.ensures
 
 pub returns-in_default-turn-clause-rest : goal.returns-in_default-turn-clause-rest
@@ -305,11 +301,8 @@ returns-in_default-turn-clause-rest c =
     let few : left ≤ 65536 = c.turns.invariant.0 in
     let some : 0 < left = omega arith in
     let spent_less : 65536 - left < 65536 = omega (arith, few, some) in
-    let named = c.in_default-turn.outcome-is in
-    let same : c.turn.result ≡ c.in_default-turn.outcome = cc in
-    let is : Acts (turn (context_of_item a n) p.steps (record { registers = r; next = next }) (65536 - left) m) c.in_default-turn.outcome c.turn.new.item (contents c.turn.new.memory) =
-    subst (λ (o : Outcome). Acts (turn (context_of_item a n) p.steps (record { registers = r; next = next }) (65536 - left) m) o c.turn.new.item (contents c.turn.new.memory)) same
-    (acts_alike a (context_of_item a n) p.steps c.go.new.r r next (65536 - left) (contents c.go.new.memory) m c.turn.result c.turn.new.item (contents c.turn.new.memory)
-    (in_place a n c.requires.item) c.in-Other.ensures.0 c.in-Other.ensures.1 (c.turn.ensures (65536 - left) spent_less)) in
-    rest_left a p n first before (record { registers = r; next = next }) left m few some c.in_default-turn.outcome (record { item = c.turn.new.item; left = c.turns.stopped.left; stop = c.turns.stopped.stop }) c.leave.new.stopped (contents c.turn.new.memory)
+    let is : Acts (turn (context_of_item a n) p.steps (record { registers = r; next = next }) (65536 - left) m) c.turn.result c.turn.new.item (contents c.turn.new.memory) =
+    acts_alike a (context_of_item a n) p.steps c.go.new.r r next (65536 - left) (contents c.go.new.memory) m c.turn.result c.turn.new.item (contents c.turn.new.memory)
+    (in_place a n c.requires.item) c.in-Other.ensures.0 c.in-Other.ensures.1 (c.turn.ensures (65536 - left) spent_less) in
+    rest_left a p n first before (record { registers = r; next = next }) left m few some c.turn.result (record { item = c.turn.new.item; left = c.turns.stopped.left; stop = c.turns.stopped.stop }) c.leave.new.stopped (contents c.turn.new.memory)
     c.leave.result c.leave.new.broken c.args.stopped.now.item.registers c.turns.invariant.1.1 is c.leave.ensures
