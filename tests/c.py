@@ -170,7 +170,7 @@ def spelled(script):
 
 
 def try_journals(counts, room, driver, brokerd):
-    """The journals that the library writes of scripts are read by a second reader, and are those that the program writes."""
+    """The journals that the library writes of scripts, in text, are read by a second reader, and lead to where those of the program do."""
     other = f"{room}/other.toml"
     with open(SAMPLE, encoding="utf-8") as it, open(other, "w", encoding="utf-8") as out:
         out.write("version = 2\n" + it.read() + '[[deny]]\nclient = "bob"\nkind = "agent"\nobject = "*"\nrights = ["USE"]\n')
@@ -185,12 +185,14 @@ def try_journals(counts, room, driver, brokerd):
         counts.add(f"the journal of {name} is written", wrong)
         if wrong:
             continue
-        with open(made, encoding="utf-8") as it:
-            counts.add(f"the journal of {name} is read", ended([sys.executable, "-B", f"{TOP}/examples/replay.py", SAMPLE, *further], it.read()))
+        with open(made, "rb") as it:
+            again = subprocess.run([sys.executable, "-B", f"{TOP}/examples/c/replay.py", SAMPLE, *further], stdin=it, capture_output=True, timeout=DEADLINE)
+        counts.add(f"the journal of {name} is read", None if again.returncode == 0 else str(again))
         if os.path.exists(brokerd):
             words = [brokerd, "run", SAMPLE, *further, "--audit", "1000", "--journal", wanted]
-            wrong = ended(words, spelled(script)) or ended(["cmp", made, wanted])
-            counts.add(f"the journal of {name} is the program's", wrong)
+            wrong = ended(words, spelled(script))
+            told = subprocess.run([brokerd, "replay", SAMPLE, *further, "--state", "--journal", wanted], capture_output=True, timeout=DEADLINE)
+            counts.add(f"the journal of {name} leads to where the program's does", wrong or (None if told.stdout == again.stdout else str(told)))
 
 
 class Checkout:

@@ -3,8 +3,7 @@
 A new command is a row more there. While a program may not have it yet, its row has `is_new`: where such a program
 doesn't understand the command line, the row is skipped, and that is told.
 """
-import hashlib
-
+import packed
 from trial import BARRIER, FILL, KERNEL, PRELUDE, SAMPLE
 
 # how a reply tells that memory was wanted
@@ -309,38 +308,33 @@ IN_ROOM = [
 ]
 
 
-# what DONE leaves in a journal, each entry without its number and its digest
-HISTORY = [
-    "grant 1 agent 1 1 accepted 0",
-    "grant 1 region 1 6 accepted 0",
-    "grant 1 region 2 6 accepted 0",
-    "grant 1 signal 1 24 accepted 0",
-    "grant 1 signal 2 24 accepted 0",
-    "grant 1 kernel 1 32 accepted 0",
-    "open 1 1 2 opened 1 0",
-    f"take 1 0 {FILL} launched 0",
-    f"take 1 1 {BARRIER} launched 0",
-    "run 1 0 ran 0 0 1 write 4294967296 5a5a5a5a",
-    "finish 1 0 accepted 2 signal 1 1 0 release 1 0",
-    "signal 1 1 store 0 changed 0 1 signal 1 0 0",
-    "signal 1 2 store 0 changed 0 1 signal 2 1 0",
-    "poll 1 1 ready 11000 0",
-    "finish 1 1 accepted 1 release 1 1",
-    "open 1 1 2 opened 2 0",
-    f"take 2 0 {FILL} launched 0",
-    "close 2 accepted 1 release 2 0",
+# what DONE leaves in a journal, as examples/replay.py reads it
+DONE_ENTRIES = [
+    (("grant", 1, "agent", 1, 1), ("accepted",), []),
+    (("grant", 1, "region", 1, 6), ("accepted",), []),
+    (("grant", 1, "region", 2, 6), ("accepted",), []),
+    (("grant", 1, "signal", 1, 24), ("accepted",), []),
+    (("grant", 1, "signal", 2, 24), ("accepted",), []),
+    (("grant", 1, "kernel", 1, 32), ("accepted",), []),
+    (("open", 1, 1, 2), ("opened", 1), []),
+    (("take", 1, 0, bytes.fromhex(FILL)), ("launched",), []),
+    (("take", 1, 1, bytes.fromhex(BARRIER)), ("launched",), []),
+    (("run", 1, 0), ("ran", 0, 0), [("write", 1 << 32, b"ZZZZ")]),
+    (("finish", 1, 0), ("accepted",), [("signal", 1, 1, 0), ("release", 1, 0)]),
+    (("signal", 1, 1, "store", 0), ("changed", 0), [("signal", 1, 0, 0)]),
+    (("signal", 1, 2, "store", 0), ("changed", 0), [("signal", 2, 1, 0)]),
+    (("poll", 1, 1), ("ready", [1, 1, 0, 0, 0]), []),
+    (("finish", 1, 1), ("accepted",), [("release", 1, 1)]),
+    (("open", 1, 1, 2), ("opened", 2), []),
+    (("take", 2, 0, bytes.fromhex(FILL)), ("launched",), []),
+    (("close", 2), ("accepted",), [("release", 2, 0)]),
 ]
 
 
-def journal(entries, policy=SAMPLE, places=65536):
-    """The lines of a journal of these entries over a policy."""
+def journal(entries, policy=SAMPLE):
+    """A journal of these entries over a policy."""
     with open(policy, "rb") as it:
-        head = f"journal 1 {places} 0 1 {hashlib.sha256(it.read()).hexdigest()}"
-    lines, last = [], b""
-    for line in [head, *(f"{number} {entry}" for number, entry in enumerate(entries, 1)), f"end {len(entries)}"]:
-        last = hashlib.sha256(last + line.encode()).digest()
-        lines.append(f"{line} {last.hex()}")
-    return lines
+        return packed.journal_of(packed.head_of(it.read()), [packed.form_of(entry) for entry in entries])
 
 
 def large_policy():
@@ -400,10 +394,11 @@ def files(room):
     for name, text in texts.items():
         with open(f"{room}/{name}", "w", encoding="utf-8") as it:
             it.write(text)
-    denied = [HISTORY[0], HISTORY[3], HISTORY[6], f"take 1 0 {FILL} denied 1 0 L8 whole 0"]
-    for name, entries in (("done.journal", HISTORY), ("denied.journal", denied)):
-        with open(f"{room}/{name}", "w", encoding="ascii") as it:
-            it.write("".join(f"{line}\n" for line in journal(entries)))
+    first = DONE_ENTRIES
+    denied = [first[0], first[3], first[6], (first[7][0], ("denied", (1, 0, "L8", None)), [])]
+    for name, entries in (("done.journal", first), ("denied.journal", denied), ("fault.journal", [*first[:10], first[11]])):
+        with open(f"{room}/{name}", "wb") as it:
+            it.write(journal(entries))
     with open(f"{room}/ring.slots", "wb") as it:
         it.write(b"".join(bytes.fromhex(packet) for packet in (FILL, KERNEL, BARRIER, "01" + "00" * 63)))
 
@@ -470,8 +465,8 @@ def rows(room):
         Row("picture", ["picture", SAMPLE], DONE, "picture", is_new=True),
         Row("a run with a journal", ["run", SAMPLE, *few, "--journal", "/dev/null"], FORMS, "script", is_new=True),
         Row("a strict run with a journal that rotates", ["run", SAMPLE, "--strict", "--audit", "12", "--journal", "/dev/null"], DONE, "strict", is_new=True),
-        Row("replay", ["replay", SAMPLE, "--state"], journal(HISTORY), is_new=True),
-        Row("replay of a fault", ["replay", SAMPLE], journal([*HISTORY[:10], HISTORY[11]]), is_new=True),
+        Row("replay", ["replay", SAMPLE, "--state", "--journal", file("done.journal")], is_new=True),
+        Row("replay of a fault", ["replay", SAMPLE, "--journal", file("fault.journal")], is_new=True),
         Row("picture of a journal", ["picture", SAMPLE, "--journal", file("done.journal")], is_new=True),
         Row("explain of a journal", ["explain", SAMPLE, "--journal", file("denied.journal")], is_new=True),
         Row("threads", ["threads", SAMPLE, "--producers", "2"], form="threads", is_new=True),

@@ -1,5 +1,5 @@
 #!/usr/bin/env python3
-"""Holds the library of hsa.h's name against its header, its page, real tools and the broker's own replay:
+"""Holds the library of hsa.h's name against its header, its page, real tools and a second reader of its journals:
 
     tests/hsa.py [ARCHIVE [BROKERD [TRIAL..]]]
 
@@ -87,12 +87,9 @@ class Bench:
         self.counts.add(told, ran.stdout + ran.stderr + f"status {ran.returncode}" if ran.returncode else None)
 
     def replays(self, told, journal, policy):
-        """Whether the broker's own replay finds a journal legal."""
-        if not self.brokerd:
-            self.counts.skip(told, "brokerd isn't built")
-            return
+        """Whether a second reader of journals in text finds one whole."""
         with open(journal, "rb") as it:
-            ran = subprocess.run([self.brokerd, "replay", policy], stdin=it, capture_output=True, text=True, timeout=DEADLINE)
+            ran = subprocess.run([sys.executable, "-B", f"{TOP}/examples/c/replay.py", policy], stdin=it, capture_output=True, text=True, timeout=DEADLINE)
         well = ran.returncode == 0 and ran.stdout.startswith("legal ")
         self.counts.add(told, None if well else f"{ran.stdout}{ran.stderr}status {ran.returncode}")
 

@@ -1,12 +1,12 @@
 #!/usr/bin/env python3
 """Journals, written, replayed and shown: journals.py PROGRAM
 
-The journal of each script, and of each case of a script (docs/cases.md), replays, and leads to the state that a second
-reading (examples/replay.py) derives from it. Of one, each byte is turned, and each line dropped, doubled, and exchanged with
-the next; of each case's, one of these is done: all are refused, with the line. With a changed outcome or change, and all
-digests made anew, they are refused by that entry. A journal is drawn as the run that wrote it, and told as its audit.
+The journal of each script, and of each case of a script (docs/cases.md), has the bytes that its entries owe by the form alone
+(tests/packed.py), replays, and leads to the state that a second reading (examples/replay.py) derives. Of many each byte is turned;
+of one of several blocks each is dropped, doubled and exchanged with the next; of one the tail is cut at every byte: each answer is
+what the form owes. With a changed outcome or change, and all digests made anew, a journal is refused by that entry. A journal is drawn
+as the run that wrote it, but for the marks of lines that were refused, and told as its audit. tests/journal_files.py tries the files.
 """
-import hashlib
 import os
 import random
 import sys
@@ -14,101 +14,110 @@ import tempfile
 
 import against
 import commands
-from trial import FILL, KERNEL, PRELUDE, SAMPLE, TOP, Ended, Trials, program_given, run, text
+import packed
+from trial import FILL, PRELUDE, SAMPLE, TOP, Ended, Trials, program_given, run, text
 
-sys.path.insert(0, f"{TOP}/examples")
-import replay
+import replay  # (tests/packed.py makes examples/ known)
 
 CASES = f"{TOP}/cases"
 READER = [sys.executable, "-B", f"{TOP}/examples/replay.py"]
-# the words of an event, where they are always as many
-WIDTHS = {"open": 4, "take": 4, "grant": 5, "revoke": 5, "stop": 2, "close": 2, "run": 3, "poll": 3, "finish": 3, "write": 4}
-# places enough for few rotations, and for many
+# places enough for few emptied audits, and for many
 PLACES = ("65536", "40")
 
 
 def journal_of(program, room, name, script, places="65536", further=()):
     """The journal of a script's run."""
     file = f"{room}/{name}-{places}"
-    run([program, "run", SAMPLE, *further, "--audit", places, "--journal", file], text(script))
+    run([program, "run", SAMPLE, *further, "--audit", places, "--journal", file, "--force"], text(script))
     with open(file, "rb") as it:
         return it.read()
 
 
-def refused_at(program, journal, line):
-    ended = run([program, "replay", SAMPLE], journal)
-    well = ended.status == 1 and ended.out == b"" and ended.err.startswith(b"line %d column " % line)
-    return None if well else f"it ended otherwise: {ended}"
+def is_of_form(journal):
+    """Whether a whole journal is just what its entries owe by the form."""
+    head, entries = packed.entries_of(journal)
+    return journal == packed.journal_of(head, [packed.form_of(it) for it in entries])
 
 
-def refused_by(program, journal, entry):
-    ended = run([program, "replay", SAMPLE], journal)
-    well = ended.status == 1 and ended.out == b"" and ended.err.startswith(b"entry %d: owed" % entry)
-    return None if well else f"it ended otherwise: {ended}"
+class Owed:
+    """What a reader owes to some bytes by the form: cut behind an entry, harm at a byte, or all of it."""
+
+    def __init__(self, journal):
+        self.number, self.vouched, self.blocks, self.kind, self.place = 0, 0, 0, "whole", None
+        try:
+            for kind, _, _, _ in replay.steps(journal):
+                self.number += kind == "entry"
+                if kind in ("block", "end"):
+                    self.vouched, self.blocks = self.number, self.blocks + 1
+        except replay.Cut:
+            self.kind = "cut"
+        except replay.Bad as why:
+            self.kind, self.place = "harm", why.args[0]
+
+    def unmet(self, ended):
+        """What is wrong with the end of a replay of these bytes, if something is."""
+        told = ended.err.decode(errors="replace")
+        if ended.status == 1 and not ended.out and told.startswith("entry ") and ": byte " not in told:
+            # (an entry that reads well isn't owed, or wants another policy)
+            return None if int(told.split()[1].rstrip(":")) <= self.number else f"an entry is told that isn't there: {told}"
+        if ended.status == 1 and not ended.out and told.startswith("the journal wants the policy"):
+            return None
+        if self.kind == "cut":
+            well = ended.status == 4 and ended.out.decode() == f"cut after entry {self.number}\n"
+        elif self.kind == "harm":
+            well = ended.status == 1 and not ended.out and (f"byte {self.place}: " in told or told.startswith("line 1: a journal in text") and self.place == 7)
+            well = well or self.place < 7 and told.startswith("byte 0: no journal")
+        else:
+            well = ended.status == 0 and ended.out.decode() == f"legal {self.number} entries\n"
+        return None if well else f"owed {self.kind} {self.number} {self.place}: {ended}"
 
 
-def with_digests(rows):
-    """Lines with their digests made anew."""
-    last, made = b"", []
-    for row in rows:
-        last = hashlib.sha256(last + row[:-65]).digest()
-        made.append(row[:-64] + last.hex().encode())
-    return b"".join(row + b"\n" for row in made)
+def answer_owed(program, journal, files=(SAMPLE,)):
+    return Owed(journal).unmet(run([program, "replay", *files], journal))
 
 
-def changed(row):
-    """An entry's line with another change, or, if it has none, with another outcome."""
-    words, digest = row[:-65].split(b" "), row[-65:]
-    if words[-1] == b"0":
-        words[-2] = words[-2] + b"1" if words[-2].isdigit() else b"done"
-    elif words[-1][-1:] == b"1":
-        words[-1] = words[-1][:-1] + b"2"
-    else:
-        words[-1] = words[-1][:-1] + b"1"
-    return b" ".join(words) + digest
-
-
-def outcome_at(words):
-    """The place of an entry's outcome among its words, or none for a reload."""
-    if words[1] == "signal":
-        return 7 if words[4] == "cas" else 6
-    return 1 + WIDTHS[words[1]] if words[1] in WIDTHS else None
-
-
-def with_another_outcome(row):
-    """An entry's line with another outcome that its call might have; or none."""
-    words = row[:-65].decode().split(" ")
-    at = outcome_at(words)
-    if at is None:
+def with_another_outcome(entry):
+    """An entry with another outcome that its call might have; none of a reload."""
+    happened, came, changes = entry
+    others = {"accepted": ("launched",), "launched": ("accepted",), "done": ("accepted",)}
+    if happened[0] == "reload":
         return None
-    others = {"accepted": "launched", "launched": "accepted", "pending": "ready", "ready": "pending"}
-    if words[at] in others:
-        words[at] = others[words[at]]
-    elif words[at] in ("opened", "ran"):
-        words[at + 1] = str(int(words[at + 1]) + 1)
-    elif words[at] == "changed":
-        words[at + 1] = str(int(words[at + 1]) ^ 1)
+    if came[0] in others:
+        other = others[came[0]]
+    elif came[0] in ("pending", "ready"):
+        other = ("ready" if came[0] == "pending" else "pending", came[1])
+    elif came[0] in ("opened", "ran"):
+        other = (came[0], came[1] + 1, *came[2:])
+    elif came[0] == "changed":
+        other = ("changed", came[1] ^ 1)
     else:
-        words[at + 3] = "A1" if words[at + 3] != "A1" else "L1"
-    return " ".join(words).encode() + row[-65:]
+        queue, number, rule, place = came[1]
+        other = (came[0], (queue, number, "A1" if rule != "A1" else "L1", place))
+    return happened, other, changes
 
 
-def harmed(rows, chance):
-    """A journal with one byte turned, or one line dropped, doubled, or exchanged with the next; and the line that is refused."""
-    at = chance.randrange(len(rows))
-    kind = chance.choice(("turned", "dropped", "doubled", "exchanged"))
-    row, lines = rows[at], list(rows)
+def with_another_change(entry):
+    """An entry with another change, or, where it has none, another outcome."""
+    happened, came, changes = entry
+    if not changes:
+        return with_another_outcome(entry)
+    kind, *told = changes[-1]
+    last = (kind, told[0], bytes([told[1][0] ^ 1]) + told[1][1:]) if kind == "write" else (kind, *told[:-1], told[-1] ^ 1)
+    return happened, came, [*changes[:-1], last]
+
+
+def harmed(journal, chance):
+    """A journal with one byte turned, or one entry dropped, doubled, or exchanged with the next, its blocks' ends left as they are."""
+    bounds = [(begin, end) for kind, _, begin, end in replay.steps(journal) if kind == "entry"]
+    kind = chance.choice(("turned", "dropped", "doubled", "exchanged")) if len(bounds) > 1 else "turned"
     if kind == "turned":
-        place = chance.randrange(len(row))
-        lines[at] = row[:place] + bytes([row[place] ^ 1]) + row[place + 1 :]
-    elif kind == "dropped":
-        del lines[at]
-    elif kind == "doubled" or at + 1 == len(rows):
-        lines.insert(at, row)
-        at += 1
-    else:
-        lines[at : at + 2] = [rows[at + 1], row]
-    return b"".join(it + b"\n" for it in lines), at + 1
+        at = chance.randrange(len(journal))
+        return journal[:at] + bytes([journal[at] ^ 1 << chance.randrange(8)]) + journal[at + 1 :]
+    at = chance.randrange(len(bounds) - 1)
+    (begin, end), (_, behind) = bounds[at], bounds[at + 1]
+    one, other = journal[begin:end], journal[end:behind]
+    middle = {"dropped": other, "doubled": one + one + other, "exchanged": other + one}[kind]
+    return journal[:begin] + middle + journal[behind:]
 
 
 class CaseOfScript:
@@ -140,7 +149,7 @@ def cases_of_scripts():
 
 
 def case_replays(trials, program, room):
-    """The journal of each case replays, to one state by both readings; harmed, it is refused."""
+    """The journal of each case replays, to one state by both readings; harmed, it is told as what it is."""
     counts = {"cases": 0, "entries": 0, "none": 0, "harmed": 0, "untrue": 0}
 
     def in_files(number, texts):
@@ -150,15 +159,13 @@ def case_replays(trials, program, room):
                 it.write(policy)
         return files
 
-    def refused(files, journal, begins):
-        ended = run([program, "replay", *files], journal)
-        return ended.status == 1 and not ended.out and ended.err.startswith(begins.encode())
-
     def journal_in(number, files, places, asked, kind):
         journal = f"{room}/case-{number}.journal"
         if kind == "readable":
             asked = run([program, "assemble", files[0]], asked).out
         ended = run([program, "run", *files, "--audit", str(places), "--journal", journal, *["--strict"] * (kind == "strict")], asked)
+        if not os.path.exists(journal):
+            return ended, None
         with open(journal, "rb") as it:
             found = it.read()
         os.unlink(journal)
@@ -172,30 +179,36 @@ def case_replays(trials, program, room):
             return None
         files = in_files(number, texts)
         ended, journal = journal_in(number, files, places, asked, case.setting.kind)
-        if not journal:
+        if journal is None:
             counts["none"] += 1
             return None if ended.status == 1 and not ended.out else f"there is no journal: {ended}"
-        told = run([program, "replay", *files, "--state"], journal)
+        # (policies are found by their digests, in whatever order they are named)
+        told = run([program, "replay", *reversed(files), "--state"], journal)
         try:
-            again = "".join(f"{line}\n" for line in replay.derived(texts, journal)).encode()
+            is_whole, lines, _ = replay.derived(texts, journal)
         except SystemExit as why:
             return f"the second reading ends: {why}"
-        if told != Ended(0, again, b""):
+        if not is_whole or told.status or told.out != "".join(f"{line}\n" for line in lines).encode():
             return f"it does not replay, or the second reading differs: {told}"
+        if not is_of_form(journal):
+            return "it isn't what its entries owe by the form"
         counts["cases"] += 1
-        rows, chance = journal.split(b"\n")[:-1], random.Random(number)
-        counts["entries"] += len(rows) - 2
-        broken, line = harmed(rows, chance)
+        head, entries = packed.entries_of(journal)
+        counts["entries"] += len(entries)
+        chance = random.Random(number)
         counts["harmed"] += 1
-        if not refused(files, broken, f"line {line} column "):
-            return f"harmed in line {line} it is not refused there"
-        if len(rows) > 2:
-            at = chance.randrange(1, len(rows) - 1)
-            other = with_another_outcome(rows[at])
+        wrong = answer_owed(program, harmed(journal, chance), files)
+        if wrong:
+            return f"harmed: {wrong}"
+        if entries:
+            at = chance.randrange(len(entries))
+            other = with_another_outcome(entries[at])
             if other:
                 counts["untrue"] += 1
-                if not refused(files, with_digests([*rows[:at], other, *rows[at + 1 :]]), f"entry {at}: owed"):
-                    return f"with another outcome in entry {at} it is not refused there"
+                forms = [packed.form_of(it) for it in [*entries[:at], other, *entries[at + 1 :]]]
+                ended = run([program, "replay", *files], packed.journal_of(head, forms))
+                if ended.status != 1 or ended.out or not ended.err.startswith(b"entry %d: owed" % (at + 1)):
+                    return f"with another outcome in entry {at + 1} it is not refused there: {ended}"
         for file in files:
             os.unlink(file)
         return None
@@ -243,15 +256,29 @@ def shown(trials, program, room):
         journal = it.read()
     on_input = lambda words: None if run([program, *words, "--journal", "-"], journal) == run([program, *words, "--journal", fill]) else "it is shown otherwise"
     trials.every("a journal on standard input is shown as one in a file", on_input, [["picture", SAMPLE], ["explain", SAMPLE]])
-    rows = journal.split(b"\n")[:-1]
 
     def refused(it):
-        words, (harm, line) = it
-        ended = run([program, *words, "--journal", "-"], harm)
-        return None if ended.status == 1 and not ended.out and ended.err.startswith(b"line %d column " % line) else f"{ended}"
+        words, harm = it
+        owed, ended = Owed(harm), run([program, *words, "--journal", "-"], harm)
+        told = ended.err.decode(errors="replace")
+        if owed.kind == "cut":
+            well = ended.status == 4 and told.endswith(f"cut after entry {owed.number}\n") or told.startswith("the journal wants")
+        else:
+            well = ended.status == 1 and not ended.out and (f"byte {owed.place}: " in told or told.startswith("the journal wants") or owed.place < 8)
+        return None if well else f"owed {owed.kind} {owed.number} {owed.place}: {ended}"
 
     chance = random.Random(1)
-    trials.every("one with a fault is not shown, and the fault told as replay tells it", refused, [(words, harmed(rows, chance)) for words in (["picture", SAMPLE], ["explain", SAMPLE]) for _ in range(40)])
+    trials.every("one with a fault is not shown, and the fault told as replay tells it", refused, [(words, harmed(journal, chance)) for words in (["picture", SAMPLE], ["explain", SAMPLE]) for _ in range(40)])
+
+    def cut(it):
+        words, at = it
+        ended, number = run([program, *words, "--journal", "-"], journal[:at]), Owed(journal[:at]).number
+        head, entries = packed.entries_of(journal)
+        whole = run([program, *words, "--journal", "-"], packed.journal_of(head, [packed.form_of(one) for one in entries[:number]]))
+        well = ended.status == 4 and ended.out == whole.out and ended.err == whole.err + b"cut after entry %d\n" % number
+        return None if well else f"{ended}, and not {whole}"
+
+    trials.every("of a cut journal what is there is shown", cut, [(words, at) for words in (["picture", SAMPLE], ["explain", SAMPLE]) for at in range(60, len(journal), 9)])
     bad, worse = f"{room}/bad.toml", f"{room}/worse.toml"
     for file, content in ((bad, "version = 3\n"), (worse, "version = \n")):
         with open(file, "w", encoding="utf-8") as it:
@@ -316,7 +343,7 @@ def replays(trials, program, room):
         "forms": (commands.FORMS, ()),
         "kernels": (commands.KERNELS, ()),
         "nothing": ([], ()),
-        "reload": ([*PRELUDE, "reload 1", "grant bob agent gpu USE", "reload 1"], (other,)),
+        "reload": ([*PRELUDE, "reload 1", "grant bob agent gpu USE", "reload 2", "reload 1"], (other, SAMPLE)),
         "closed": ([*PRELUDE, f"submit 1 1 {FILL}", "serve 1", "queue alice gpu 4 1", "close 1", "queue alice gpu 2 1", "stop 3", f"submit 2 1 {FILL}", "serve 2"], ()),
         "rotated": ([*PRELUDE, "rotate", f"submit 1 1 {FILL}", "serve 1", "rotate", "run 1 0", "finish 1 0"], ()),
     }
@@ -324,13 +351,33 @@ def replays(trials, program, room):
     def trial(given):
         (name, (script, further)), places = given
         journal = journal_of(program, room, name, script, places, further)
-        told = run([program, "replay", SAMPLE, *further, "--state"], journal)
+        told = run([program, "replay", *further, SAMPLE, "--state"], journal)
         again = run([*READER, SAMPLE, *further], journal)
         if told.status or told.err or not told.out.startswith(b"legal "):
             return f"it does not replay: {told}"
+        if not is_of_form(journal):
+            return "it isn't what its entries owe by the form"
         return None if told == again else f"the second reading differs: {again}"
 
     trials.every("journals replay, and are read twice the same", trial, [(it, places) for it in scripts.items() for places in PLACES])
+    journal = journal_of(program, room, "policies", *scripts["reload"][:1], "65536", (other, SAMPLE))
+    with open(other, "rb") as it:
+        digest = packed.hashlib.sha256(it.read()).hexdigest().encode()
+    told = {
+        (SAMPLE, other): (0, b"legal 11 entries\n", b""),
+        (other, SAMPLE): (0, b"legal 11 entries\n", b""),
+        (SAMPLE, other, SAMPLE): (0, b"legal 11 entries\n", b""),
+        (SAMPLE,): (1, b"", b"entry 8: wants the policy of the digest " + digest + b", which isn't given\n"),
+        (other,): (1, b"", b"the journal wants the policy of the digest " + packed.head_of(open(SAMPLE, "rb").read())[8:40].hex().encode() + b", which isn't given\n"),
+    }
+    trials.every("policies are found by their digests, and missing ones named", lambda it: None if (ended := run([program, "replay", *it], journal)) == Ended(*told[it]) else f"{ended}", told)
+    head, entries = packed.entries_of(journal)
+    swapped = [(("reload", head[8:40], *it[0][2:]), *it[1:]) if it[0][0] == "reload" and it[0][1] != head[8:40] else it for it in entries]
+    rows = packed.journal_of(head, [packed.form_of(it) for it in swapped])
+    trials.every("and a reload of other rows than those of its digest's policy is refused", lambda it: None if (ended := run([program, "replay", *it], rows)).status == 1 and ended.err.startswith(b"entry 8: it tells other rows") else f"{ended}", [(SAMPLE, other), (other, SAMPLE)])
+    few = journal_of(program, room, "few", PRELUDE)
+    unwanted = lambda it: None if (ended := run([program, "replay", *it], few)) == Ended(0, b"legal 7 entries\n", f"{other}: the journal doesn't want this policy\n".encode()) else f"{ended}"
+    trials.every("one that isn't wanted is told", unwanted, [(SAMPLE, other), (other, SAMPLE)])
 
 
 def loads(trials, program, room):
@@ -354,33 +401,100 @@ def loads(trials, program, room):
     trials.every("a journal that isn't written ends a load", unwritten, [["--journal", "/dev/full"], ["--packets", "30000", "--journal", "/dev/full"], ["--journal", f"{room}/no/such"]])
 
 
+def harms(trials, program, room):
+    """Bytes turned, blocks dropped, doubled and exchanged, and tails cut: each is told as what it is."""
+    fill = journal_of(program, room, "fill", [*PRELUDE, f"submit 1 1 {FILL}", "serve 1", "run 1 0", "finish 1 0"])
+    answer = lambda it: answer_owed(program, it)
+    trials.every("each byte turned is told by its entry or block, with its byte", answer, [fill[:at] + bytes([fill[at] ^ 1 << at % 8]) + fill[at + 1 :] for at in range(len(fill))])
+
+    def is_cut(at):
+        owed, ended = Owed(fill[:at]), run([program, "replay", SAMPLE], fill[:at])
+        vouched = "the journal ends within its head\n" if at < 44 else f"digests vouch up to entry {owed.vouched}\n"
+        return owed.unmet(ended) or (None if owed.kind == "cut" and ended.err.decode() == vouched else f"{owed.kind}: {ended}")
+
+    trials.every("a tail cut at each byte is told as cut, with what digests vouch for", is_cut, range(len(fill)))
+    head, entries = packed.entries_of(fill)
+    untrue = [(place, other) for place, it in enumerate(entries) if (other := with_another_change(it))]
+
+    def refused(it):
+        place, other = it
+        forms = [packed.form_of(one) for one in [*entries[:place], other, *entries[place + 1 :]]]
+        ended = run([program, "replay", SAMPLE], packed.journal_of(head, forms))
+        return None if ended.status == 1 and not ended.out and ended.err.startswith(b"entry %d: owed" % (place + 1)) else f"{ended}"
+
+    trials.every("what another outcome or change tells is refused by the entry", refused, untrue)
+    many = journal_of(program, room, "many", ["grant alice signal done CHANGE", *["signal alice done add 1", "signal alice done add 1000000"] * 9000])
+    read = list(replay.steps(many))
+    begins, ends = [read[0][3]], []
+    for kind, _, _, end in read:
+        if kind in ("block", "end"):
+            ends.append(end)
+            begins.append(end)
+    blocks = [many[begin:end] for begin, end in zip(begins, ends)]
+    changes = {}
+    for at in range(len(blocks)):
+        changes[f"block {at} dropped"] = [*blocks[:at], *blocks[at + 1 :]]
+        changes[f"block {at} doubled"] = [*blocks[: at + 1], *blocks[at:]]
+    for at in range(len(blocks) - 1):
+        changes[f"block {at} exchanged"] = [*blocks[:at], blocks[at + 1], blocks[at], *blocks[at + 2 :]]
+    begin = many[: read[0][3]]
+    trials.every("each block dropped, doubled, or exchanged with the next is told", lambda it: answer(begin + b"".join(changes[it])) if len(blocks) > 2 else "too few blocks", changes)
+    others = {
+        "nothing": (b"", 4, b"cut after entry 0\n", b"the journal ends within its head\n"),
+        "a text": (b"journal 1 65536 0 1 00\n", 1, b"", b"line 1: a journal in text: version 1 is not read any more\n"),
+        "a text with CRLF": (b"journal 1 65536 0 1 00\r\n", 1, b"", b"line 1: a journal in text: version 1 is not read any more\n"),
+        "none": (b"hello", 1, b"", b"byte 0: no journal: it doesn't begin with `journal`\n"),
+        "entries without a head": (fill[44:], 1, b"", b"byte 0: no journal: it doesn't begin with `journal`\n"),
+        "a later version": (b"journal\x03" + fill[8:], 1, b"", b"byte 7: a journal of version 3, which isn't known\n"),
+        "bytes behind the end": (fill + b"\n", 1, b"", b"byte %d: bytes stand behind the journal's end\n" % len(fill)),
+    }
+    trials.every("what is no whole journal is told as what it is", lambda it: None if (ended := run([program, "replay", SAMPLE], others[it][0])) == Ended(*others[it][1:]) else f"{ended}", others)
+    digests = {told: (place, sum(one[0] == "entry" for one in read[:place])) for place, (kind, told, _, _) in enumerate(read) if kind in ("block", "end")}
+    wanted = {told.hex(): f"has block {number} up to entry {entry}\n" for number, (told, (_, entry)) in enumerate(digests.items(), 1)}
+    forms = [packed.form_of(it) for it in packed.entries_of(many)[1]]
+    for count in (0, 1, 17, 9000):
+        wanted[packed.journal_of(begin, forms[:count])[-64:].hex()] = f"has an end after entry {count}\n"
+
+    def has(digest):
+        ended = run([program, "replay", SAMPLE, "--has", digest], many)
+        return None if ended == Ended(0, f"legal 18001 entries\n{wanted[digest]}".encode(), b"") else f"{ended}"
+
+    trials.every("a digest is found at its block, or as that of an end", has, wanted)
+    nowhere = [("0" * 128, 1), ("0" * 127, 2), ("", 2), ("g" * 128, 2), ("A" * 128, 2)]
+    trials.every("one that is nowhere is told, and one that is none refused", lambda it: None if (ended := run([program, "replay", SAMPLE, "--has", it[0]], many)).status == it[1] and not ended.out else f"{ended}", nowhere)
+
+
+def turned(trials, program, room):
+    """Of a hundred journals, bytes are turned all over."""
+    chance = random.Random(7)
+    scripts = []
+    for _ in range(100):
+        lines = list(PRELUDE)
+        for number in range(chance.randrange(1, 5)):
+            lines += [f"submit 1 1 {FILL}", "serve 1", f"run 1 {number}", f"finish 1 {number}", f"signal alice done add {chance.randrange(-300, 300)}"]
+        scripts.append(lines[: chance.randrange(1, len(lines) + 1)])
+    journals = [journal_of(program, room, f"turned-{place}", script) for place, script in enumerate(scripts)]
+
+    def trial(it):
+        place, at, bit = it
+        journal = journals[place]
+        return answer_owed(program, journal[:at] + bytes([journal[at] ^ 1 << bit]) + journal[at + 1 :])
+
+    some = [(place, chance.randrange(len(journal)), chance.randrange(8)) for place, journal in enumerate(journals) for _ in range(12)]
+    trials.every("a byte turned in any of a hundred journals is told as what it is", trial, some)
+
+
 def main():
     program = program_given()
     trials = Trials("journals")
     with tempfile.TemporaryDirectory() as room:
         replays(trials, program, room)
+        harms(trials, program, room)
+        turned(trials, program, room)
         case_replays(trials, program, room)
         shown(trials, program, room)
         explains_beside(trials, program, room)
         loads(trials, program, room)
-        journal = journal_of(program, room, "fill", [*PRELUDE, f"submit 1 1 {FILL}", "serve 1", "run 1 0", "finish 1 0"])
-        rows = journal.split(b"\n")[:-1]
-        place_of = [1 + journal[:at].count(b"\n") for at in range(len(journal))]
-        trials.every("each byte turned is refused with its line", lambda at: refused_at(program, journal[:at] + bytes([journal[at] ^ 1]) + journal[at + 1 :], place_of[at]), range(len(journal)))
-        lines = range(len(rows))
-
-        def tried(change, shift):
-            return lambda at: refused_at(program, b"".join(row + b"\n" for row in change(at)), at + 1 + shift)
-
-        trials.every("each line dropped is refused", tried(lambda at: rows[:at] + rows[at + 1 :], 0), lines)
-        trials.every("each line doubled is refused", tried(lambda at: rows[: at + 1] + rows[at:], 1), lines)
-        trials.every("each line exchanged with the next is refused", tried(lambda at: [*rows[:at], rows[at + 1], rows[at], *rows[at + 2 :]], 0), lines[:-1])
-        trials.every(
-            "what another outcome or change tells is refused by the entry",
-            lambda at: refused_by(program, with_digests([*rows[:at], changed(rows[at]), *rows[at + 1 :]]), at),
-            lines[1:-1],
-        )
-        trials.every("a journal over another policy is refused", lambda it: refused_at(program, it, 1), [journal.replace(rows[0], rows[0][:-66] + b"0" + rows[0][-65:])])
     trials.end()
 
 

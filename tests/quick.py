@@ -16,7 +16,7 @@ from trial import HERE, is_unproved
 
 # the scripts that are tried, those that take longest first
 TRIED = (
-    "memory.py", "journals.py", "instructions.py", "kernels.py", "cases.py", "texts.py", "picture.py", "streams.py", "docs.py", "words.py", "explain.py", "manners.py",
+    "memory.py", "journals.py", "journal_files.py", "instructions.py", "kernels.py", "cases.py", "texts.py", "picture.py", "streams.py", "docs.py", "words.py", "explain.py", "manners.py",
     "decode.py", "terminal.py", "making.py", "pages.py", "forms.py", "readable.py", "listing.py", "installed.py", "rotation.py", "long.py", "wrong_bodies.py", "needs.py", "proved.py",
 )
 # those that want no program

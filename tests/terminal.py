@@ -188,9 +188,9 @@ def counts(trials, program):
         """A replay is counted the same way, and tells what it tells elsewhere."""
         ended, elsewhere = at_terminal([program, "replay", SAMPLE, *words], journal), run([program, "replay", SAMPLE], journal)
         wanted = ended.out == elsewhere.out == b"legal %d entries\n" % (lines + 1) and ended.status == elsewhere.status == 0 and not elsewhere.err
-        return None if wanted and ended.err.count(b" lines\r") == len(journal.splitlines()) // 10_000 else f"{ended}, elsewhere {elsewhere}"
+        return None if wanted and ended.err.count(b" entries\r") == (lines + 1) // 10_000 else f"{ended}, elsewhere {elsewhere}"
 
-    trials.every("a replay of over ten thousand lines is counted", replayed, [[], ["--explain=never"]])
+    trials.every("a replay of over ten thousand entries is counted", replayed, [[], ["--explain=never"]])
     silent = lambda it: None if run([program, "run", SAMPLE], b"#\n" * it) == Ended(0, b"", b"") else "it tells something"
     trials.every("where standard error is no terminal it isn't", silent, [35_000])
 

@@ -1,6 +1,6 @@
 /* A device back end over the proved broker. Two clients share a device; what each packet may do is decided by the library, and the
-   changes that its work made are told to the device. At the end it prints its journal, which `brokerd replay` holds against the
-   policy. Run as `device POLICY`, over crates/brokerd/data/sample.toml. */
+   changes that its work made are told to the device. At the end it prints its journal, which examples/c/replay.py
+   reads. Run as `device POLICY`, over crates/brokerd/data/sample.toml. */
 #include <inttypes.h>
 #include <stdio.h>
 #include <stdlib.h>

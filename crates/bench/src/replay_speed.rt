@@ -4,14 +4,14 @@ use crate::fault::Fault;
 use crate::script_speed::{FILL, PLACES, POLICY};
 use access_core::AccessCore;
 use aql_packet::{AgentHandle, ClientId, PacketId, QueueId, RegionHandle, SignalHandle, encode};
-use commands::Status;
+use commands::{PolicyText, Status};
 use core_model::{Entry, Taken};
-use journal::{Chain, Head, write_end, write_entry_line, write_head};
-use journal_commands::{JournalPolicies, replay_journal};
+use journal_commands::{
+    Begun, EntryWriter, GivenPolicies, JournalEntries, JournalPolicies, ReplayTerms, policy_digest,
+    replay_journal,
+};
 use policy::{Object, Rights, read_policy};
-use sequences::Sequence;
-use sha2::{Digest, Sha256};
-use std::alloc::{AllocError, Global};
+use std::alloc::Global;
 use std::time::{Clock, Duration, Instant};
 
 /// How many packets a history has at the most: the largest audit has places for the three entries of each.
@@ -24,9 +24,6 @@ const QUEUE: QueueId = QueueId(1);
 
 /// How many slots the queue has.
 const SLOTS: u64 = 64;
-
-/// The most entries of a journal.
-const MOST_ENTRIES: u64 = 1 << 62;
 
 /// How many entries a history has, and how long its core and its replay took.
 #[derive(Clone, Copy)]
@@ -79,64 +76,49 @@ fn send_all(alloc: Global, core: &mut AccessCore, packets: u64) -> Result<(), Fa
     Ok(())
 }
 
-// Writes the line of an entry.
-fn write_one(
-    alloc: Global,
-    text: &mut String,
-    chain: &Chain,
-    entry: &Entry,
-) -> Result<Chain, Fault> {
-    if chain.number >= MOST_ENTRIES {
-        return Err(Fault::Unsettled);
-    }
-    let next = write_entry_line(text, alloc, chain, entry)?;
-    text.push_str("\n")?;
-    Ok(next)
-}
-
-// The head of the journal.
-fn head(alloc: Global) -> Result<Head, AllocError> {
-    let mut hasher = Sha256::new();
-    hasher.update(POLICY.as_bytes());
-    let mut policies = Sequence::new(alloc);
-    policies.push(hasher.finalize())?;
-    Ok(Head {
-        capacity: PLACES as u64,
-        before: 0,
-        policies,
-    })
-}
-
 // The journal of entries.
-fn journal_of(alloc: Global, entries: &[Entry]) -> Result<String, Fault> {
-    let mut text = String::new(alloc);
-    let mut chain = write_head(&mut text, alloc, &head(alloc)?)?;
-    text.push_str("\n")?;
-    for entry in entries {
-        chain = write_one(alloc, &mut text, &chain, entry)?;
+fn journal_of(alloc: Global, entries: &[Entry]) -> Result<Vec<u8>, Fault> {
+    let mut journal = Vec::new(alloc);
+    let digest = policy_digest(POLICY.as_bytes());
+    let Ok(mut writer) = EntryWriter::begin(alloc, digest, PLACES, &mut journal) else {
+        return Err(Fault::OutOfMemory);
+    };
+    if writer.take(entries).is_err() || writer.end().is_err() {
+        return Err(Fault::OutOfMemory);
     }
-    write_end(&mut text, alloc, &chain)?;
-    text.push_str("\n")?;
-    Ok(text)
+    Ok(journal)
 }
 
 // The policy of a journal, with neither kernels nor further policies.
 fn policies(alloc: Global) -> Result<JournalPolicies, Fault> {
     let policy = read_policy(alloc, POLICY.as_bytes())?;
-    let (kernels, later) = (Vec::new(alloc), Vec::new(alloc));
-    match JournalPolicies::open(alloc, POLICY.as_bytes(), &[], policy, kernels, later) {
+    let mut texts = Vec::new(alloc);
+    texts.push(PolicyText::new(Vec::from_slice(alloc, POLICY.as_bytes())?))?;
+    let Ok(given) = GivenPolicies::read(alloc, texts.as_slice()) else {
+        return Err(Fault::Unsettled);
+    };
+    match given.open(alloc, 0, policy, Vec::new(alloc)) {
         Ok(policies) => Ok(policies),
         Err(_) => Err(Fault::Unsettled),
     }
 }
 
 // Replays a journal, which has to be legal.
-fn replay(alloc: Global, journal: &str, entries: u64) -> Result<(), Fault> {
-    let mut reader = journal.as_bytes();
+fn replay(alloc: Global, journal: &[u8], entries: u64) -> Result<(), Fault> {
+    let mut reader = journal;
     let mut out = Vec::new(alloc);
     let mut err = Vec::new(alloc);
     let policies = policies(alloc)?;
-    let ended = replay_journal(alloc, policies, false, &mut reader, &mut out, &mut err);
+    let Ok(Begun::Headed(mut read)) = JournalEntries::begin(alloc, &mut reader) else {
+        return Err(Fault::OtherReplies);
+    };
+    let terms = ReplayTerms {
+        tells_state: false,
+        counts: false,
+        has: None,
+        names: &[],
+    };
+    let ended = replay_journal(alloc, policies, terms, &mut read, &mut out, &mut err);
     let wanted = format!(in alloc; "legal {entries} entries\n")?;
     if ended == Status::Done && out.as_slice() == wanted.as_bytes() {
         Ok(())
@@ -154,7 +136,7 @@ pub fn time_replay(rt: &impl Clock, alloc: Global, packets: u64) -> Result<Repla
     let entries = core.audit().len() as u64;
     let journal = journal_of(alloc, core.audit())?;
     let start = Instant::now(rt)?;
-    replay(alloc, journal.as_str(), entries)?;
+    replay(alloc, journal.as_slice(), entries)?;
     let replayed = start.elapsed(rt)?;
     Ok(Replayed {
         entries,

@@ -1,7 +1,9 @@
 //! Runs a script over the policy in a file, with the policies in further files after it.
 
 use crate::explaining::PolicyFile;
-use crate::perform::{STANDARD_INPUT, failed, read_file, unmade_file, unread};
+use crate::going_on::{RunPolicies, begin_behind_journal, go_on};
+use crate::journal_files::{AskedJournal, JournalFile, OtherFiles, open_journal};
+use crate::perform::{STANDARD_INPUT, failed, read_file, unread};
 use crate::policies::{Further, name_blame, open_run};
 use crate::request::Reads;
 use crate::session::GREETING;
@@ -9,7 +11,7 @@ use crate::terminal::{Beside, TerminalReader};
 use crate::watchers::{Recorder, Teller, Telling};
 use assemble::{Book, BookError};
 use commands::{Opened, PolicyText, Span, Status, draw_audit, run_over, tell_run, tell_unwatched};
-use journal_commands::{JournalFault, JournalWriter};
+use journal_commands::{EntryWriter, JournalFault, digests_of, policy_digest};
 use json_replies::Json;
 use readable::Readable;
 use script::{Both, Nobody, Noted, Plain, RunFault, ScriptFault, Silent, Strict, Style, Text};
@@ -44,7 +46,7 @@ pub struct RunFiles<'a> {
     pub further: Further<'a>,
     pub script: Option<&'a str>,
     pub output: Option<&'a str>,
-    pub journal: Option<&'a str>,
+    pub journal: Option<AskedJournal<'a>>,
 }
 
 /// Reads files in their order, up to the first that can't be read.
@@ -54,22 +56,6 @@ pub fn read_files(rt: &HostRuntime, files: &[&str], texts: &mut Vec<PolicyText>)
         texts.push(text)?;
     }
     Ok(())
-}
-
-// Begins the journal that is asked for.
-fn begin_journal<'a>(
-    alloc: Global,
-    file: PolicyFile<'_>,
-    manner: Manner<'_>,
-    journal: Option<&'a mut File>,
-) -> Result<Option<Recorder<'a, File>>, JournalFault> {
-    let Some(journal) = journal else {
-        return Ok(None);
-    };
-    let places = manner.places;
-    let texts = manner.files.further.texts;
-    let begun = JournalWriter::begin(alloc, file.text, texts, places, journal)?;
-    Ok(Some(Recorder::new(begun, places)))
 }
 
 // What is told of a run beside its replies.
@@ -174,7 +160,7 @@ fn run_in<L: Style, R: io::Read>(
     manner: Manner<'_>,
     opened: &mut Opened,
     style: &mut L,
-    recorder: Option<Recorder<'_, File>>,
+    recorder: Option<Recorder<'_, JournalFile>>,
     script: &mut R,
 ) -> Status {
     let alloc = rt.alloc();
@@ -223,7 +209,7 @@ fn run_plain<L: Style, R: io::Read>(
     manner: Manner<'_>,
     opened: &mut Opened,
     style: &mut L,
-    recorder: Option<Recorder<'_, File>>,
+    recorder: Option<Recorder<'_, JournalFile>>,
     script: &mut R,
 ) -> Status {
     if recorder.is_none() && is_unwatched(manner) {
@@ -239,7 +225,7 @@ fn run_readable<R: io::Read>(
     text: &[u8],
     manner: Manner<'_>,
     opened: &mut Opened,
-    recorder: Option<Recorder<'_, File>>,
+    recorder: Option<Recorder<'_, JournalFile>>,
     script: &mut R,
 ) -> Status {
     let alloc = rt.alloc();
@@ -266,7 +252,7 @@ fn run_as_asked<R: io::Read>(
     text: &[u8],
     manner: Manner<'_>,
     opened: &mut Opened,
-    recorder: Option<Recorder<'_, File>>,
+    recorder: Option<Recorder<'_, JournalFile>>,
     script: &mut R,
 ) -> Status {
     if manner.reads.is_readable {
@@ -293,22 +279,113 @@ fn open(rt: &HostRuntime, file: PolicyFile<'_>, manner: Manner<'_>) -> Result<Op
     }
 }
 
-// Runs a script over the policies in texts, which have these names.
+// Runs a script over a world that was opened, and writes its history into a journal that a writer stands in.
+fn run_recorded<R: io::Read>(
+    rt: &HostRuntime,
+    file: PolicyFile<'_>,
+    manner: Manner<'_>,
+    opened: &mut Opened,
+    writer: EntryWriter<'_, JournalFile>,
+    script: &mut R,
+) -> Status {
+    let alloc = rt.alloc();
+    match digests_of(alloc, manner.files.further.texts) {
+        Ok(digests) => {
+            let places = opened.world.core().table_sizes().audit_places;
+            let recorder = Recorder::new(writer, digests.as_slice(), places);
+            run_as_asked(rt, file.text, manner, opened, Some(recorder), script)
+        }
+        Err(_) => failed(rt, "no memory"),
+    }
+}
+
+// Runs a script over a world that was opened, and begins the journal of that in a file.
+fn run_begun<R: io::Read>(
+    rt: &HostRuntime,
+    file: PolicyFile<'_>,
+    manner: Manner<'_>,
+    opened: &mut Opened,
+    journal: &mut JournalFile,
+    script: &mut R,
+) -> Status {
+    let digest = policy_digest(file.text);
+    match EntryWriter::begin(rt.alloc(), digest, manner.places, journal) {
+        Ok(writer) => run_recorded(rt, file, manner, opened, writer, script),
+        Err(JournalFault::OutOfMemory) => failed(rt, "no memory"),
+        Err(JournalFault::Write) => failed(rt, "write fault"),
+    }
+}
+
+// Runs a script behind what a journal tells.
+fn run_behind_journal<R: io::Read>(
+    rt: &HostRuntime,
+    file: PolicyFile<'_>,
+    manner: Manner<'_>,
+    name: &str,
+    opened: Opened,
+    journal: &mut JournalFile,
+    script: &mut R,
+) -> Status {
+    let policies = RunPolicies {
+        file,
+        further: manner.files.further,
+        explains: manner.is_explaining,
+    };
+    let mut opened = opened;
+    let gone = match go_on(rt, name, policies, journal) {
+        Ok(Some(gone)) => gone,
+        Ok(None) => return run_begun(rt, file, manner, &mut opened, journal, script),
+        Err(status) => return status,
+    };
+    match begin_behind_journal(rt, name, gone, journal) {
+        Ok((behind, writer)) => {
+            let mut opened = behind;
+            run_recorded(rt, file, manner, &mut opened, writer, script)
+        }
+        Err(status) => status,
+    }
+}
+
+// Runs a script over a world that was opened, with a journal in a file that is opened now.
+fn run_with_journal<R: io::Read>(
+    rt: &HostRuntime,
+    file: PolicyFile<'_>,
+    manner: Manner<'_>,
+    asked: AskedJournal<'_>,
+    opened: Opened,
+    script: &mut R,
+) -> Status {
+    let others = OtherFiles {
+        policy: file.name,
+        further: manner.files.further.names,
+        script: manner.files.script,
+    };
+    let mut opened = opened;
+    let mut journal = match open_journal(rt, asked, others, manner.is_explaining) {
+        Ok(journal) => journal,
+        Err(status) => return status,
+    };
+    if journal.goes_on {
+        run_behind_journal(rt, file, manner, asked.name, opened, &mut journal, script)
+    } else {
+        run_begun(rt, file, manner, &mut opened, &mut journal, script)
+    }
+}
+
+// Runs a script over the policies in texts, which have these names, with a journal, if one is asked for.
 fn run_policies_of<R: io::Read>(
     rt: &HostRuntime,
     file: PolicyFile<'_>,
     manner: Manner<'_>,
-    journal: Option<&mut File>,
     script: &mut R,
 ) -> Status {
     let mut opened = match open(rt, file, manner) {
         Ok(opened) => opened,
         Err(status) => return status,
     };
-    match begin_journal(rt.alloc(), file, manner, journal) {
-        Ok(recorder) => run_as_asked(rt, file.text, manner, &mut opened, recorder, script),
-        Err(JournalFault::OutOfMemory) => failed(rt, "no memory"),
-        Err(JournalFault::Write) => failed(rt, "write fault"),
+    match manner.files.journal {
+        Some(asked) => run_with_journal(rt, file, manner, asked, opened, script),
+        None => run_as_asked(rt, file.text, manner, &mut opened, None, script),
     }
 }
 
@@ -372,12 +449,7 @@ fn beside(rt: &HostRuntime) -> Beside {
 }
 
 // Runs the script on standard input over the policies in texts, and prompts a person for it, or counts it.
-fn run_input(
-    rt: &HostRuntime,
-    file: PolicyFile<'_>,
-    manner: Manner<'_>,
-    journal: Option<&mut File>,
-) -> Status {
+fn run_input(rt: &HostRuntime, file: PolicyFile<'_>, manner: Manner<'_>) -> Status {
     let beside = beside(rt);
     let is_session = beside == Beside::Prompt && manner.drawn.is_none();
     if is_session {
@@ -390,7 +462,7 @@ fn run_input(
     let mut stdin = rt.stdin();
     let mut err = rt.stderr();
     let mut script = TerminalReader::new(rt.alloc(), &mut stdin, &mut err, beside);
-    run_policies_of(rt, file, manner, journal, &mut script)
+    run_policies_of(rt, file, manner, &mut script)
 }
 
 // Runs the script in a file, or that on standard input, where none is named.
@@ -398,40 +470,23 @@ fn run_script(
     rt: &HostRuntime,
     file: PolicyFile<'_>,
     manner: Manner<'_>,
-    journal: Option<&mut File>,
     script: Option<&mut File>,
 ) -> Status {
     let Some(script) = script else {
-        return run_input(rt, file, manner, journal);
+        return run_input(rt, file, manner);
     };
     let mut err = rt.stderr();
     let mut script = TerminalReader::new(rt.alloc(), script, &mut err, beside_input(rt));
-    run_policies_of(rt, file, manner, journal, &mut script)
-}
-
-// Runs it, with a journal in a file that is there already or is made, if one is named.
-fn run_into(
-    rt: &HostRuntime,
-    file: PolicyFile<'_>,
-    manner: Manner<'_>,
-    script: Option<&mut File>,
-) -> Status {
-    let Some(name) = manner.files.journal else {
-        return run_script(rt, file, manner, None, script);
-    };
-    match File::create(rt, name) {
-        Ok(mut journal) => run_script(rt, file, manner, Some(&mut journal), script),
-        Err(error) => unmade_file(rt, name, manner.is_explaining, &error),
-    }
+    run_policies_of(rt, file, manner, &mut script)
 }
 
 // Runs the script in the file that is named, or that on standard input.
 fn run_from(rt: &HostRuntime, file: PolicyFile<'_>, manner: Manner<'_>) -> Status {
     let Some(name) = manner.files.script else {
-        return run_into(rt, file, manner, None);
+        return run_script(rt, file, manner, None);
     };
     match File::open(rt, name) {
-        Ok(mut script) => run_into(rt, file, manner, Some(&mut script)),
+        Ok(mut script) => run_script(rt, file, manner, Some(&mut script)),
         Err(error) => tell_unread(rt, file, manner, name, &error),
     }
 }

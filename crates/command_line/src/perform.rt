@@ -5,6 +5,7 @@ use crate::completions::{Shell, completions};
 use crate::decoding::{MOST_DUMP, decode_digits, decode_slots};
 use crate::explaining::{PolicyFile, Tells, check_telling};
 use crate::further::run;
+use crate::journal_files::{AskedJournal, OtherFiles, open_journal};
 use crate::listing::{ListForm, list_policy};
 use crate::making::{begin, embed};
 use crate::policies::{judge, name_blame};
@@ -14,7 +15,7 @@ use crate::retelling::{Replayed, replay_telling};
 use crate::syntax::{ALWAYS, MOST_NEXT, NEVER};
 use crate::threads::{AskedLoad, run_threads};
 use clap::Error;
-use commands::Status;
+use commands::{Setup, Status};
 use pages::{Page, rows_of};
 use policy::{MOST_POLICY_BYTES, Policy};
 use std::fs::File;
@@ -30,6 +31,12 @@ const WORDS_BEHIND: &str = "explain takes one WORD, or policies with --journal F
 
 /// What is told of entries that are to be drawn from one on to another before it.
 const BACKWARDS: &str = "the entry of --from is behind that of --to: no entry is drawn";
+
+/// What is told where it is said how a journal is written, and none is named.
+const NO_JOURNAL: &str = "--force, --continue and --sync go with --journal FILE";
+
+/// What is told of a digest that is asked for, and is none.
+const NO_DIGEST: &str = "--has takes the digest of a block: 128 digits, 0 to 9 and a to f";
 
 /// Tells what failed.
 pub fn failed(rt: &HostRuntime, what: &str) -> Status {
@@ -241,40 +248,53 @@ fn tell_running(rt: &HostRuntime, producers: u64) {
     }
 }
 
-// Runs the load of threads over a policy, with a journal, if there is one.
+// Runs the load of threads over a policy that was let pass, with a journal, if one is asked for.
 fn run_load_over<R: Threads + Wait + Sync>(
     rt: &HostRuntime,
     threads: &R,
     file: PolicyFile<'_>,
+    judged: Setup,
     asked: AskedLoad,
-    journal: Option<&mut File>,
+    journal: Option<AskedJournal<'_>>,
 ) -> Status {
-    run_threads(
-        threads,
-        rt,
-        rt.alloc(),
-        file,
-        asked,
-        journal,
-        &mut rt.stdout(),
-        &mut rt.stderr(),
-    )
+    let alloc = rt.alloc();
+    let (mut out, mut err) = (rt.stdout(), rt.stderr());
+    let Some(wanted) = journal else {
+        let none: Option<&mut File> = None;
+        return run_threads(threads, rt, alloc, file.text, judged, asked, none, &mut out, &mut err);
+    };
+    let others = OtherFiles {
+        policy: file.name,
+        further: &[],
+        script: None,
+    };
+    match open_journal(rt, wanted, others, asked.explains) {
+        Ok(mut journal) => run_threads(
+            threads,
+            rt,
+            alloc,
+            file.text,
+            judged,
+            asked,
+            Some(&mut journal),
+            &mut out,
+            &mut err,
+        ),
+        Err(status) => status,
+    }
 }
 
-// Runs it, with a journal in a file that is there already or is made, if one is named.
-fn run_load_into<R: Threads + Wait + Sync>(
+// Runs it where the policy is let pass.
+fn run_load_in<R: Threads + Wait + Sync>(
     rt: &HostRuntime,
     threads: &R,
     file: PolicyFile<'_>,
     asked: AskedLoad,
-    journal: Option<&str>,
+    journal: Option<AskedJournal<'_>>,
 ) -> Status {
-    let Some(name) = journal else {
-        return run_load_over(rt, threads, file, asked, None);
-    };
-    match File::create(rt, name) {
-        Ok(mut journal) => run_load_over(rt, threads, file, asked, Some(&mut journal)),
-        Err(error) => unmade_file(rt, name, asked.explains, &error),
+    match judge(rt.alloc(), file, asked.explains) {
+        Ok(judged) => run_load_over(rt, threads, file, judged, asked, journal),
+        Err(blame) => name_blame(rt.alloc(), blame, &mut rt.stderr()),
     }
 }
 
@@ -284,7 +304,7 @@ fn run_load_of<R: Threads + Wait + Sync>(
     threads: &R,
     policy: &str,
     asked: AskedLoad,
-    journal: Option<&str>,
+    journal: Option<AskedJournal<'_>>,
 ) -> Status {
     tell_running(rt, asked.producers);
     match read_file(rt, policy) {
@@ -293,7 +313,7 @@ fn run_load_of<R: Threads + Wait + Sync>(
                 name: policy,
                 text: text.as_slice(),
             };
-            run_load_into(rt, threads, file, asked, journal)
+            run_load_in(rt, threads, file, asked, journal)
         }
         Err(error) => unread(rt, policy, asked.explains, &error),
     }
@@ -353,11 +373,13 @@ fn perform_run(rt: &HostRuntime, asked: &Asked<'_>) -> Option<Status> {
             policy,
             journal,
             tells_state,
+            has,
             explains,
         } => {
             let asked = Replayed {
                 journal,
                 tells_state,
+                has,
                 explains,
             };
             Some(replay_telling(rt, policy, further, asked))
@@ -474,6 +496,8 @@ pub fn obey<R: Threads + Wait + Sync>(rt: &HostRuntime, threads: &R, words: &[St
         Err(Unread::TooManyPolicies) => too_many_policies(rt),
         Err(Unread::WordsBehind) => misused(rt, WORDS_BEHIND),
         Err(Unread::Backwards) => misused(rt, BACKWARDS),
+        Err(Unread::NoJournal) => misused(rt, NO_JOURNAL),
+        Err(Unread::NoDigest) => misused(rt, NO_DIGEST),
         Err(Unread::OutOfMemory) => out_of_memory(rt),
     }
 }

@@ -1,14 +1,15 @@
 //! The policies of a command that may tell why: where they keep it from its work, what is wrong is looked for once more.
 
 use crate::explaining::{PolicyFile, fault_told, kernel_told, tell};
+use crate::read_journals::PolicyFiles;
 use access_core::Kernel;
 use aql_packet::KernelObject;
 use commands::{
     Failure, Opened, PolicyText, Setup, Status, Unopened, judge as judge_text, name_failure,
-    open_policies, read_further,
+    open_policies,
 };
 use explain::{no_entry, others_told};
-use journal_commands::JournalPolicies;
+use journal_commands::{GivenPolicies, JournalPolicies};
 use policy::{Policy, PolicyFault, read_policy};
 use script::Noted;
 use std::alloc::{AllocError, Global};
@@ -210,46 +211,41 @@ pub fn entries_told(
     }
 }
 
-// The policies of a journal, or the first failure of them.
-fn journal_policies(
+/// Reads policies of a journal from their texts; else why the first that has a fault is refused.
+pub fn given_policies(
     alloc: Global,
-    text: &[u8],
-    further: &[PolicyText],
-    setup: Setup,
-) -> Result<JournalPolicies, Unopened> {
-    let Setup { policy, kernels } = setup;
-    if let Some(kernel) = without_entry(kernels.as_slice()) {
-        return Err(Unopened {
-            failure: Failure::NoEntry(kernel),
-            place: 0,
-        });
-    }
-    let later = match read_further(alloc, further) {
-        Ok(later) => later.into_policies(),
+    files: PolicyFiles<'_>,
+    explains: bool,
+) -> Result<GivenPolicies, Blame> {
+    match GivenPolicies::read(alloc, files.texts) {
+        Ok(given) => Ok(given),
         Err(fault) => {
-            return Err(Unopened {
+            let why = Unopened {
                 failure: Failure::of_reading(fault.why),
-                place: fault.place.saturating_add(1),
-            });
+                place: fault.place,
+            };
+            Err(blame_with(alloc, files.file(0), files.further(), explains, why))
         }
-    };
-    match JournalPolicies::open(alloc, text, further, policy, kernels, later) {
-        Ok(policies) => Ok(policies),
-        Err(failure) => Err(Unopened { failure, place: 0 }),
     }
 }
 
-/// Reads the policies of a journal, in files.
-pub fn read_policies(
+/// Opens the policies of a journal, which begins with the one at a place; else why that is refused, or its kernels are.
+pub fn policies_at(
     alloc: Global,
-    file: PolicyFile<'_>,
-    further: Further<'_>,
+    given: GivenPolicies,
+    files: PolicyFiles<'_>,
     explains: bool,
+    place: usize,
 ) -> Result<JournalPolicies, Blame> {
-    let setup = judge(alloc, file, explains)?;
-    match journal_policies(alloc, file.text, further.texts, setup) {
+    let file = files.file(place);
+    let Setup { policy, kernels } = judge(alloc, file, explains)?;
+    if let Some(kernel) = without_entry(kernels.as_slice()) {
+        let failure = Failure::NoEntry(kernel);
+        return Err(blame_first(alloc, file, explains, failure));
+    }
+    match given.open(alloc, place, policy, kernels) {
         Ok(policies) => Ok(policies),
-        Err(why) => Err(blame_with(alloc, file, further, explains, why)),
+        Err(failure) => Err(blame_first(alloc, file, explains, failure)),
     }
 }
 

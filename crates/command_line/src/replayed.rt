@@ -1,11 +1,11 @@
 //! Journals in files, and on standard input.
 
-use crate::explaining::PolicyFile;
-use crate::further::read_files;
-use crate::perform::{STANDARD_INPUT, read_file, unmade_file, unread};
-use crate::policies::{Further, name_blame, read_policies};
-use commands::{PolicyText, Span, Status};
-use journal_commands::{JournalPolicies, draw_journal, tell_journal};
+use crate::perform::{STANDARD_INPUT, failed, unmade_file, unread};
+use crate::read_journals::{PolicyFiles, begin_reading, names_of, read_given, texts_of};
+use commands::{Span, Status};
+use journal_commands::{
+    GivenPolicies, JournalEntries, JournalPolicies, draw_journal, tell_journal,
+};
 use std::fs::File;
 use std::io;
 
@@ -23,18 +23,6 @@ impl Shown<'_> {
     }
 }
 
-// Reads the further policies after a policy: the name of the file that can't be read, and why.
-fn read_further<'a>(
-    rt: &HostRuntime,
-    names: &[&'a str],
-    texts: &mut Vec<PolicyText>,
-) -> Result<(), (Option<&'a str>, io::Error)> {
-    match read_files(rt, names, texts) {
-        Ok(()) => Ok(()),
-        Err(error) => Err((names.get(texts.len()).copied(), error)),
-    }
-}
-
 // Draws a journal, into a file, if one is named.
 fn draw_into<R: io::Read>(
     rt: &HostRuntime,
@@ -42,7 +30,7 @@ fn draw_into<R: io::Read>(
     span: Span,
     output: Option<&str>,
     explains: bool,
-    journal: &mut R,
+    journal: &mut JournalEntries<'_, R>,
 ) -> Status {
     let alloc = rt.alloc();
     let mut err = rt.stderr();
@@ -55,71 +43,76 @@ fn draw_into<R: io::Read>(
     }
 }
 
-// Shows a journal over the policies in files.
+// Shows a journal over policies.
 fn show_over<R: io::Read>(
     rt: &HostRuntime,
-    file: PolicyFile<'_>,
-    further: Further<'_>,
+    given: GivenPolicies,
+    files: PolicyFiles<'_>,
     shown: Shown<'_>,
     explains: bool,
     journal: &mut R,
 ) -> Status {
     let alloc = rt.alloc();
-    let mut err = rt.stderr();
-    match read_policies(alloc, file, further, explains || shown.is_told()) {
-        Ok(policies) => match shown {
-            Shown::Drawn { span, output } => draw_into(
-                rt, policies, span, output, explains, journal,
-            ),
-            Shown::Told => tell_journal(alloc, policies, journal, &mut rt.stdout(), &mut err),
-        },
-        Err(blame) => name_blame(alloc, blame, &mut err),
+    let begun = begin_reading(rt, given, files, explains || shown.is_told(), journal);
+    let (policies, mut entries) = match begun {
+        Ok(begun) => begun,
+        Err(status) => return status,
+    };
+    match shown {
+        Shown::Drawn { span, output } => draw_into(
+            rt, policies, span, output, explains, &mut entries,
+        ),
+        Shown::Told => tell_journal(
+            alloc,
+            policies,
+            &mut entries,
+            &mut rt.stdout(),
+            &mut rt.stderr(),
+        ),
     }
 }
 
 // Shows the journal in a file, or on standard input.
 fn show_in(
     rt: &HostRuntime,
-    file: PolicyFile<'_>,
-    further: Further<'_>,
+    given: GivenPolicies,
+    files: PolicyFiles<'_>,
     shown: Shown<'_>,
     explains: bool,
     journal: &str,
 ) -> Status {
     if journal == STANDARD_INPUT {
-        return show_over(rt, file, further, shown, explains, &mut rt.stdin());
+        return show_over(rt, given, files, shown, explains, &mut rt.stdin());
     }
     match File::open(rt, journal) {
-        Ok(mut opened) => show_over(rt, file, further, shown, explains, &mut opened),
+        Ok(mut opened) => show_over(rt, given, files, shown, explains, &mut opened),
         Err(error) => unread(rt, journal, explains, &error),
     }
 }
 
-/// Shows the journal in a file over the policy in another, without making its calls. If it explains, it tells which file can't
+/// Shows the journal in a file over policies in others, without making its calls. If it explains, it tells which file can't
 /// be read, and why.
 pub fn show_journal(
     rt: &HostRuntime,
     policy: &str,
-    names: &[&str],
+    further: &[&str],
     shown: Shown<'_>,
     explains: bool,
     journal: &str,
 ) -> Status {
-    let text = match read_file(rt, policy) {
-        Ok(text) => text,
-        Err(error) => return unread(rt, policy, explains, &error),
+    let Some(names) = names_of(rt, policy, further) else {
+        return failed(rt, "no memory");
     };
-    let mut texts = Vec::new(rt.alloc());
-    if let Err((name, error)) = read_further(rt, names, &mut texts) {
-        return unread(rt, name.unwrap_or(policy), explains, &error);
-    }
-    let file = PolicyFile {
-        name: policy,
-        text: text.as_slice(),
+    let texts = match texts_of(rt, names.as_slice(), explains) {
+        Ok(texts) => texts,
+        Err(status) => return status,
     };
-    let further = Further {
-        names,
+    let files = PolicyFiles {
+        names: names.as_slice(),
         texts: texts.as_slice(),
     };
-    show_in(rt, file, further, shown, explains, journal)
+    match read_given(rt, files, explains || shown.is_told()) {
+        Ok(given) => show_in(rt, given, files, shown, explains, journal),
+        Err(status) => status,
+    }
 }

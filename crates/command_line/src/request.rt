@@ -4,19 +4,21 @@ use crate::completions::Shell;
 use crate::explaining::Tells;
 use crate::further::{Manner, RunFiles};
 use crate::help::further_help;
+use crate::journal_files::{AskedJournal, WhereThere};
 use crate::listing::ListForm;
 use crate::meanings::explained;
 use crate::perform::STANDARD_INPUT;
 use crate::policies::Further;
 use crate::syntax::{
-    ALWAYS, ASSEMBLE, AUDIT, BEGIN, CHECK, COMMANDS, COMPLETIONS, DECODE, DIGITS, EMBED, EXPLAIN,
-    FILE, FROM, HELP, JOURNAL, JSON, KERNEL, KERNEL_FILES, LIST, MOST_NEXT, NAMES, NEVER, NEXT,
+    ALWAYS, ASSEMBLE, AUDIT, BEGIN, CHECK, COMMANDS, COMPLETIONS, CONTINUE, DECODE, DIGITS, EMBED,
+    EXPLAIN, FILE, FORCE, FROM, HAS, HELP, JOURNAL, JSON, KERNEL, KERNEL_FILES, LIST, MOST_NEXT, NAMES, NEVER, NEXT,
     OUTPUT, PACKETS, PICTURE, POLICY, PRODUCERS, READABLE, REPLAY, RUN, SCRIPT, SHELL, SLOTS,
-    STATE, STEPS, STRICT, THREADS, TO, WORD, program,
+    STATE, STEPS, STRICT, SYNC, THREADS, TO, WORD, program,
 };
 use clap::error::ErrorKind;
 use clap::{ArgMatches, Error};
 use commands::Span;
+use journal_commands::DigestAsked;
 use kernel_listing::Form;
 use pages::{Page, rows_of};
 use std::alloc::{AllocError, Global};
@@ -61,12 +63,13 @@ pub enum Invocation<'a> {
         policy: &'a str,
         manner: Manner<'a>,
     },
-    /// `replay POLICY [NEXT..] [--journal FILE] [--state] [--explain]`: to replay the journal in a file, or on standard input,
-    /// and to print the state that it leads to, if that is asked for.
+    /// `replay POLICY [NEXT..] [--journal FILE] [--state] [--has DIGEST] [--explain]`: to replay the journal in a file, or on standard
+    /// input, and to print the state that it leads to, and where a digest stands, if that is asked for.
     Replay {
         policy: &'a str,
         journal: &'a str,
         tells_state: bool,
+        has: Option<DigestAsked>,
         explains: bool,
     },
     /// `picture POLICY [NEXT..] --journal FILE [--from N] [--to N] [-o FILE]`: to draw the journal in a file, without running
@@ -125,14 +128,14 @@ pub enum Invocation<'a> {
     Line {
         verb: &'a str,
     },
-    /// `threads POLICY --producers N [--packets N] [--journal FILE] [--explain]`: to run the load of threads over the policy
+    /// `threads POLICY --producers N [--packets N] [--journal FILE [--force] [--sync]] [--explain]`: to run the load of threads over the policy
     /// in this file, with so many producers a queue, 1 to 16, and so many packets of each, 1 to 1,000,000, if it says; to
     /// write its history into a file, if one is named; and, if it explains, to tell beside a fault or the report why.
     Threads {
         policy: &'a str,
         producers: u64,
         packets: Option<u64>,
-        journal: Option<&'a str>,
+        journal: Option<AskedJournal<'a>>,
         explains: bool,
     },
 }
@@ -160,6 +163,10 @@ pub enum Unread {
     WordsBehind,
     /// The first entry that is to be drawn is behind the last.
     Backwards,
+    /// It is said how a journal is written, and none is named.
+    NoJournal,
+    /// What is asked for isn't a block's digest.
+    NoDigest,
 }
 
 impl From<Error> for Unread {
@@ -199,6 +206,22 @@ fn explains_in(asked: &ArgMatches<'_>, unasked: bool) -> bool {
     }
 }
 
+// The journal that is asked for, if one is.
+fn journal_in<'a>(asked: &ArgMatches<'a>, goes_on: bool) -> Option<AskedJournal<'a>> {
+    let there = if goes_on {
+        WhereThere::GoOn
+    } else if asked.get_flag(FORCE) {
+        WhereThere::BeginAnew
+    } else {
+        WhereThere::Refuse
+    };
+    Some(AskedJournal {
+        name: asked.get_str(JOURNAL)?,
+        there,
+        syncs: asked.get_flag(SYNC),
+    })
+}
+
 // The manner of a run: strict, explaining, by readable lines and with replies as JSON as is asked.
 fn manner_in<'a>(asked: &ArgMatches<'a>, explains: bool) -> Manner<'a> {
     Manner {
@@ -215,7 +238,7 @@ fn manner_in<'a>(asked: &ArgMatches<'a>, explains: bool) -> Manner<'a> {
             further: Further::none(),
             script: file_in(asked, SCRIPT),
             output: None,
-            journal: asked.get_str(JOURNAL),
+            journal: journal_in(asked, asked.get_flag(CONTINUE)),
         },
     }
 }
@@ -310,6 +333,11 @@ fn check_request<'a>(policy: &'a str, asked: &ArgMatches<'a>, explains: bool) ->
     }
 }
 
+// The digest that is asked for, if one is that is told as it must be.
+fn digest_in(asked: &ArgMatches<'_>) -> Option<DigestAsked> {
+    DigestAsked::read(asked.get_str(HAS)?)
+}
+
 // The request of a command on a policy.
 fn policy_request<'a>(
     command: &str,
@@ -331,13 +359,14 @@ fn policy_request<'a>(
             policy,
             journal: asked.get_str(JOURNAL).unwrap_or(STANDARD_INPUT),
             tells_state: asked.get_flag(STATE),
+            has: digest_in(asked),
             explains,
         }),
         THREADS => Some(Invocation::Threads {
             policy,
             producers: asked.get_one(PRODUCERS)?,
             packets: asked.get_one(PACKETS),
-            journal: asked.get_str(JOURNAL),
+            journal: journal_in(asked, false),
             explains,
         }),
         _ => None,
@@ -449,6 +478,19 @@ fn further_of(command: &str) -> &'static str {
     }
 }
 
+// Whether it is said how a journal is written, of a command that may write one, and none is named.
+fn lacks_journal(command: &str, asked: &ArgMatches<'_>) -> bool {
+    let may_write = command == RUN || command == THREADS;
+    let is_said = may_write && (asked.get_flag(FORCE) || asked.get_flag(SYNC));
+    let goes_on = command == RUN && asked.get_flag(CONTINUE);
+    (is_said || goes_on) && asked.get_str(JOURNAL).is_none()
+}
+
+// Whether what is asked for isn't a block's digest.
+fn lacks_digest(command: &str, asked: &ArgMatches<'_>) -> bool {
+    command == REPLAY && asked.get_str(HAS).is_some() && digest_in(asked).is_none()
+}
+
 // What a command with its arguments asks for.
 fn asked_by<'a>(
     alloc: Global,
@@ -459,6 +501,12 @@ fn asked_by<'a>(
     let Some(request) = request_of(command, asked, unasked) else {
         return Err(Unread::NoCommand);
     };
+    if lacks_journal(command, asked) {
+        return Err(Unread::NoJournal);
+    }
+    if lacks_digest(command, asked) {
+        return Err(Unread::NoDigest);
+    }
     match words_of(alloc, further_of(command), asked) {
         Ok(further) => with_words(command, request, further),
         Err(_) => Err(Unread::OutOfMemory),

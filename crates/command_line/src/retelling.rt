@@ -1,106 +1,93 @@
 //! A replay that tells beside a fault of the policies why, and on a terminal how far it has come.
 
-use crate::explaining::PolicyFile;
-use crate::further::{beside_input, read_files};
-use crate::perform::{STANDARD_INPUT, read_file, unread};
-use crate::policies::{Further, name_blame, read_policies};
-use crate::terminal::TerminalReader;
+use crate::perform::{STANDARD_INPUT, failed, unread};
+use crate::read_journals::{PolicyFiles, begin_reading, names_of, read_given, texts_of};
 use commands::Status;
-use journal_commands::{JournalPolicies, replay_journal};
+use journal_commands::{DigestAsked, GivenPolicies, ReplayTerms, replay_journal};
 use std::fs::File;
-use std::io;
+use std::io::{self, IsTerminal};
 
 /// What is asked of a replay: of the journal in this file, or on standard input; whether the state that it leads to is
-/// printed; and whether it is told why.
+/// printed; where this digest stands, if it is asked for; and whether it is told why.
 #[derive(Clone, Copy)]
 pub struct Replayed<'a> {
     pub journal: &'a str,
     pub tells_state: bool,
+    pub has: Option<DigestAsked>,
     pub explains: bool,
 }
 
-// Replays a journal, and counts its lines on a terminal.
+// Replays a journal over policies, and counts its entries on a terminal.
 fn replay_read<R: io::Read>(
     rt: &HostRuntime,
-    policies: JournalPolicies,
-    tells_state: bool,
+    given: GivenPolicies,
+    files: PolicyFiles<'_>,
+    asked: Replayed<'_>,
     journal: &mut R,
 ) -> Status {
-    let mut counts = rt.stderr();
-    let mut journal = TerminalReader::new(rt.alloc(), journal, &mut counts, beside_input(rt));
+    let (policies, mut entries) = match begin_reading(rt, given, files, asked.explains, journal) {
+        Ok(begun) => begun,
+        Err(status) => return status,
+    };
+    let terms = ReplayTerms {
+        tells_state: asked.tells_state,
+        counts: rt.stderr().is_terminal(),
+        has: asked.has,
+        names: files.names,
+    };
     replay_journal(
         rt.alloc(),
         policies,
-        tells_state,
-        &mut journal,
+        terms,
+        &mut entries,
         &mut rt.stdout(),
         &mut rt.stderr(),
     )
 }
 
 // Replays the journal in a file, or on standard input.
-fn replay_from(rt: &HostRuntime, policies: JournalPolicies, asked: Replayed<'_>) -> Status {
+fn replay_from(
+    rt: &HostRuntime,
+    given: GivenPolicies,
+    files: PolicyFiles<'_>,
+    asked: Replayed<'_>,
+) -> Status {
     if asked.journal == STANDARD_INPUT {
-        return replay_read(rt, policies, asked.tells_state, &mut rt.stdin());
+        return replay_read(rt, given, files, asked, &mut rt.stdin());
     }
     match File::open(rt, asked.journal) {
-        Ok(mut opened) => replay_read(rt, policies, asked.tells_state, &mut opened),
+        Ok(mut opened) => replay_read(rt, given, files, asked, &mut opened),
         Err(error) => unread(rt, asked.journal, asked.explains, &error),
     }
 }
 
-// The same over the policies in files. A fault of one is named, and if it explains, told after that.
-fn replay_over(
-    rt: &HostRuntime,
-    file: PolicyFile<'_>,
-    further: Further<'_>,
-    asked: Replayed<'_>,
-) -> Status {
-    match read_policies(rt.alloc(), file, further, asked.explains) {
-        Ok(policies) => replay_from(rt, policies, asked),
-        Err(blame) => name_blame(rt.alloc(), blame, &mut rt.stderr()),
+// The same over the policies in files, which were read.
+fn replay_over(rt: &HostRuntime, files: PolicyFiles<'_>, asked: Replayed<'_>) -> Status {
+    match read_given(rt, files, asked.explains) {
+        Ok(given) => replay_from(rt, given, files, asked),
+        Err(status) => status,
     }
 }
 
-// The same after the first policy, which was read.
-fn replay_behind(
-    rt: &HostRuntime,
-    file: PolicyFile<'_>,
-    names: &[&str],
-    asked: Replayed<'_>,
-) -> Status {
-    let mut texts = Vec::new(rt.alloc());
-    match read_files(rt, names, &mut texts) {
-        Ok(()) => {
-            let further = Further {
-                names,
-                texts: texts.as_slice(),
-            };
-            replay_over(rt, file, further, asked)
-        }
-        Err(error) => {
-            let name = names.get(texts.len()).unwrap_or(&file.name);
-            unread(rt, name, asked.explains, &error)
-        }
-    }
-}
-
-/// Replays a journal over the policy in a file as `replay` does, counts its lines where standard error is a terminal, and
-/// tells, if it explains, which file couldn't be read, and where a policy's fault lies.
+/// Replays a journal over policies in files, of which it names each that it wants by the digest of its text; counts its entries
+/// where standard error is a terminal; and tells, if it explains, which file couldn't be read, and where a policy's fault lies.
 pub fn replay_telling(
     rt: &HostRuntime,
     policy: &str,
-    names: &[&str],
+    further: &[&str],
     asked: Replayed<'_>,
 ) -> Status {
-    match read_file(rt, policy) {
-        Ok(text) => {
-            let file = PolicyFile {
-                name: policy,
-                text: text.as_slice(),
+    let Some(names) = names_of(rt, policy, further) else {
+        return failed(rt, "no memory");
+    };
+    match texts_of(rt, names.as_slice(), asked.explains) {
+        Ok(texts) => {
+            let files = PolicyFiles {
+                names: names.as_slice(),
+                texts: texts.as_slice(),
             };
-            replay_behind(rt, file, names, asked)
+            replay_over(rt, files, asked)
         }
-        Err(error) => unread(rt, policy, asked.explains, &error),
+        Err(status) => status,
     }
 }

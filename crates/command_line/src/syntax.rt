@@ -26,6 +26,18 @@ pub const READABLE: &str = "readable";
 /// The option that names the file of a journal: of the one that a run writes, or that is drawn or told.
 pub const JOURNAL: &str = "journal";
 
+/// The option by which a journal begins anew in a file that is there already.
+pub const FORCE: &str = "force";
+
+/// The option by which a run goes on behind the journal in such a file.
+pub const CONTINUE: &str = "continue";
+
+/// The option by which a journal is made durable before what it has is told.
+pub const SYNC: &str = "sync";
+
+/// The option that asks where a block's digest stands in a journal.
+pub const HAS: &str = "has";
+
 /// The option that names the file of a script.
 pub const SCRIPT: &str = "script";
 
@@ -252,7 +264,19 @@ const CHECK_ARGUMENTS: [Argument; 4] = [
     EXPLAINING,
 ];
 
-const RUN_ARGUMENTS: [Argument; 9] = [
+const BEGINNING_ANEW: Argument = argument!(
+    FORCE,
+    Takes::Nothing,
+    "Begins the journal anew where its file is there already"
+);
+
+const SYNCING: Argument = argument!(
+    SYNC,
+    Takes::Nothing,
+    "Makes the journal durable before what it has is told"
+);
+
+const RUN_ARGUMENTS: [Argument; 12] = [
     POLICY_FILE,
     FURTHER_FILES,
     SCRIPT_FILE,
@@ -275,12 +299,20 @@ const RUN_ARGUMENTS: [Argument; 9] = [
     argument!(
         JOURNAL,
         Takes::Value("FILE"),
-        "Writes the history into this file as it goes, for `replay`; the audit is\nrotated then"
+        "Writes the history into this file before it is told, for `replay`; the audit\nis emptied then"
     ),
+    BEGINNING_ANEW,
+    argument!(
+        CONTINUE,
+        Takes::Nothing,
+        "Goes on behind the journal in the file, with as many places in the audit,\nand its open queues closed",
+        not with [AUDIT, FORCE]
+    ),
+    SYNCING,
     EXPLAINING,
 ];
 
-const REPLAY_ARGUMENTS: [Argument; 5] = [
+const REPLAY_ARGUMENTS: [Argument; 6] = [
     POLICY_FILE,
     FURTHER_FILES,
     JOURNAL_FILE,
@@ -288,6 +320,11 @@ const REPLAY_ARGUMENTS: [Argument; 5] = [
         STATE,
         Takes::Nothing,
         "Prints the state after the last entry, too"
+    ),
+    argument!(
+        HAS,
+        Takes::Value("DIGEST"),
+        "Tells at which block of the journal this digest stands, 128 digits"
     ),
     EXPLAINING,
 ];
@@ -395,7 +432,7 @@ const DECODE_ARGUMENTS: [Argument; 4] = [
     EXPLAINING,
 ];
 
-const THREADS_ARGUMENTS: [Argument; 5] = [
+const THREADS_ARGUMENTS: [Argument; 7] = [
     POLICY_FILE,
     argument!(
         PRODUCERS,
@@ -412,6 +449,8 @@ const THREADS_ARGUMENTS: [Argument; 5] = [
         Takes::Value("FILE"),
         "Writes the history into this file as it goes, for `replay`"
     ),
+    BEGINNING_ANEW,
+    SYNCING,
     EXPLAINING,
 ];
 
@@ -573,7 +612,7 @@ pub const DESCRIBED: [Described; 12] = command_table! {
     RUN "Runs a script over a policy, and writes the replies" RUN_ARGUMENTS
         "run mine.toml -f mine.script --explain" "the script ran to its end; 1 the policy or a line is refused";
     PICTURE "Runs a script over a policy, and writes a picture of the run, an SVG page" PICTURE_ARGUMENTS
-        "picture mine.toml -f mine.script -o run.svg" "it is drawn; 1 the policy, a line or the journal is refused";
+        "picture mine.toml -f mine.script -o run.svg" "it is drawn; 1 the policy, a line or the journal is refused; 4 the journal is cut";
     KERNEL "Reads and checks a kernel's text, and lists its kernels with their layout and steps" KERNEL_ARGUMENTS
         "kernel inc.hsail" "the text is right; 1 it has a fault";
     BEGIN "Writes a policy to begin with that has the kernels in these files" BEGIN_ARGUMENTS
@@ -583,9 +622,9 @@ pub const DESCRIBED: [Described; 12] = command_table! {
     ASSEMBLE "Turns a script with readable packets into one that run takes" ASSEMBLE_ARGUMENTS
         "assemble mine.toml -f readable.script > mine.script" "it is written; 1 the policy or a line is refused";
     REPLAY "Replays a journal, and tells whether it is a legal history" REPLAY_ARGUMENTS
-        "replay mine.toml --journal run.journal --state" "the journal is legal; 1 it isn't, or the policy is refused";
+        "replay mine.toml --journal run.journal --state" "the journal is legal; 1 it isn't, or the policy is refused; 4 it is cut";
     EXPLAIN "Tells what a rule, a refusal or a cause of a fault means, or what a journal has" EXPLAIN_ARGUMENTS
-        "explain L8" "it is told; 1 the policy or the journal is refused";
+        "explain L8" "it is told; 1 the policy or the journal is refused; 4 the journal is cut";
     DECODE "Tells a packet's 64 bytes field by field, and the first of L1 to L3 that they break" DECODE_ARGUMENTS
         "decode --slots ring.dump" "the packets break none of L1 to L3; 1 one does";
     THREADS "Runs producers and lanes on threads over a policy, and reports what came of it" THREADS_ARGUMENTS

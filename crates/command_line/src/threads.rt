@@ -1,13 +1,12 @@
 //! The command that runs the load of threads over a policy.
 
 use crate::author::{fails, told};
-use crate::explaining::{PolicyFile, tell};
-use crate::policies::{judge, name_blame};
+use crate::explaining::tell;
 use access_core::Kernel;
 use aql_packet::{PacketId, QueueId};
 use commands::{Failure, Setup, Status};
 use core_model::{Call, Entry, Event};
-use journal_commands::{JournalFault, JournalWriter};
+use journal_commands::{EntryWriter, JournalFault, policy_digest};
 use policy::Policy;
 use std::alloc::{AllocError, Global};
 use std::sync::Wait;
@@ -62,7 +61,7 @@ impl AskedLoad {
 struct Shown<'a, C, J, E> {
     clock: &'a C,
     alloc: Global,
-    journal: Option<JournalWriter<'a, J>>,
+    journal: Option<EntryWriter<'a, J>>,
     err: &'a mut E,
     is_counted: bool,
     // How many packets were finished when that was told last, and how many the history tells of.
@@ -91,7 +90,7 @@ impl<'a, C: Clock, J: io::Write, E: io::Write> Shown<'a, C, J, E> {
         }
     }
 
-    // Writes the last line of the journal.
+    // Writes the end of the journal.
     fn end(&mut self) -> Result<(), LoadFault> {
         self.clear();
         match &mut self.journal {
@@ -273,10 +272,10 @@ fn begin<'a, J: io::Write>(
     alloc: Global,
     text: &[u8],
     journal: Option<&'a mut J>,
-) -> Result<Option<JournalWriter<'a, J>>, LoadFault> {
+) -> Result<Option<EntryWriter<'a, J>>, LoadFault> {
     match journal {
         None => Ok(None),
-        Some(journal) => match JournalWriter::begin(alloc, text, &[], PLACES, journal) {
+        Some(journal) => match EntryWriter::begin(alloc, policy_digest(text), PLACES, journal) {
             Ok(writer) => Ok(Some(writer)),
             Err(fault) => Err(fault_of(fault)),
         },
@@ -334,8 +333,11 @@ fn run_over<R: Threads + Wait + Sync, C: Clock, J: io::Write, E: io::Write>(
     run_shown(rt, policy, kernels, asked.terms(), &mut shown)
 }
 
-// Runs the load over a policy that was let pass, and reports what came of it.
-fn run_judged<R: Threads + Wait + Sync, C: Clock, J: io::Write, O: io::Write, E: io::Write>(
+/// Runs the load of threads over a policy that was let pass, which was read from this text, with so many producers a queue: its
+/// report goes to `out`. If it explains, it is told on `err` after the report why it ended so and, where a number of packets is asked
+/// for, how many were finished a second. Its history goes to the journal as it comes, if there is one. A journal that can't be
+/// written ends the load, as a report that can't be does.
+pub fn run_threads<R: Threads + Wait + Sync, C: Clock, J: io::Write, O: io::Write, E: io::Write>(
     rt: &R,
     clock: &C,
     alloc: Global,
@@ -350,28 +352,5 @@ fn run_judged<R: Threads + Wait + Sync, C: Clock, J: io::Write, O: io::Write, E:
     match run_over(rt, clock, alloc, text, policy, kernels, asked, journal, err) {
         Ok(ran) => report(alloc, &ran, asked, out, err),
         Err(why) => unreported(alloc, err, why),
-    }
-}
-
-/// Runs the load of threads over the policy in a file, with so many producers a queue: its report goes to `out`. A fault
-/// of the policy or of a kernel is told on `err` as `run_policy` does. If it explains, it is told on `err` where a fault
-/// lies and what may stand there, and after the report why it ended so and, where a number of packets is asked for, how
-/// many were finished a second. Its history goes to the journal as it comes, if there is one. A journal that can't be
-/// written ends the load, as a report that can't be does.
-pub fn run_threads<R: Threads + Wait + Sync, C: Clock, J: io::Write, O: io::Write, E: io::Write>(
-    rt: &R,
-    clock: &C,
-    alloc: Global,
-    file: PolicyFile<'_>,
-    asked: AskedLoad,
-    journal: Option<&mut J>,
-    out: &mut O,
-    err: &mut E,
-) -> Status {
-    match judge(alloc, file, asked.explains) {
-        Ok(judged) => run_judged(
-            rt, clock, alloc, file.text, judged, asked, journal, out, err,
-        ),
-        Err(blame) => name_blame(alloc, blame, err),
     }
 }

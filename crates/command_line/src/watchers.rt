@@ -7,7 +7,7 @@ use crate::session::{
 };
 use commands::{Failure, Status, Stop, Stops, name_failure};
 use explain::{Asked, asked_by, bad_line, retold};
-use journal_commands::{JournalFault, JournalWriter};
+use journal_commands::{EntryWriter, JournalFault};
 use script::{Command, Flow, LineReply, Noted, Turn, Watch, strictly, write_line};
 use std::alloc::{AllocError, Global};
 use std::io;
@@ -302,33 +302,51 @@ impl<'a, 'p, E: io::Write> Watch for Teller<'a, 'p, E> {
     }
 }
 
-/// A watcher that writes what happened into a journal, and has the audit rotated where half of its places are taken.
+/// A watcher that writes what happened into a journal before a reply tells it, and has the audit emptied where half of its places
+/// are taken.
 #[derive(Drop)]
 pub struct Recorder<'a, J> {
-    journal: JournalWriter<'a, J>,
+    journal: EntryWriter<'a, J>,
+    // The digests of the further policies' texts, in order, and that of the one which was handed in last.
+    digests: &'a [[u8; 32]],
+    handed: [u8; 32],
     places: usize,
     is_full: bool,
     has_failed: bool,
 }
 
 impl<'a, J: io::Write> Recorder<'a, J> {
-    /// One that has seen nothing yet, of a world with so many places in its audit.
-    pub fn new(journal: JournalWriter<'a, J>, places: usize) -> Recorder<'a, J> {
+    /// One that has seen nothing yet, of a world with so many places in its audit, and further policies of these digests.
+    pub fn new(
+        journal: EntryWriter<'a, J>,
+        digests: &'a [[u8; 32]],
+        places: usize,
+    ) -> Recorder<'a, J> {
         Recorder {
             journal,
+            digests,
+            handed: [0; 32],
             places,
             is_full: false,
             has_failed: false,
         }
     }
 
-    // Writes the last lines of the journal.
+    // The digest of the further policy of a number.
+    fn digest_of(&self, number: u64) -> [u8; 32] {
+        match place_before(number) {
+            Some(place) => self.digests.get(place).copied().unwrap_or([0; 32]),
+            None => [0; 32],
+        }
+    }
+
+    // Writes the end of the journal.
     fn write_end(&mut self, world: &World) -> Result<(), JournalFault> {
-        self.journal.note(world)?;
+        self.journal.note(world, &self.handed)?;
         self.journal.end()
     }
 
-    /// Writes the last lines of the journal, and says how the command ends. Where it has failed already, that was named, and no
+    /// Writes the end of the journal, and says how the command ends. Where it has failed already, that was named, and no
     /// more is.
     pub fn end<E: io::Write>(
         &mut self,
@@ -356,7 +374,11 @@ impl<'a, J: io::Write> Watch for Recorder<'a, J> {
 
     ghost passes_audits = { λ before entries. tt };
 
-    fn asks(&mut self, _command: &Command) {}
+    fn asks(&mut self, command: &Command) {
+        if let Command::Reload { number } = command {
+            self.handed = self.digest_of(*number);
+        }
+    }
 
     fn seen(
         &mut self,
@@ -364,7 +386,7 @@ impl<'a, J: io::Write> Watch for Recorder<'a, J> {
         _number: u64,
         _reply: &LineReply,
     ) -> Result<Flow, JournalFault> {
-        if let Err(fault) = self.journal.note(world) {
+        if let Err(fault) = self.journal.note(world, &self.handed) {
             self.has_failed = true;
             return Err(fault);
         }

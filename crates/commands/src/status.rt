@@ -12,10 +12,14 @@ pub enum Status {
     Refused,
     /// Reading, writing or memory failed.
     Failed,
+    /// It did what was asked of a journal that is cut, up to there.
+    Cut,
+    /// Its words ask for what can't be done with the files that are there.
+    Misused,
 }
 
 impl Status {
-    /// The exit status: 0, 1 or 3. Status 2 is that of a command line that isn't understood.
+    /// The exit status: 0 to 4. Status 2 is that of a command line that isn't understood, too.
     pub fn number(self) -> u8
         ensures { result ≡ number_of self }
     {
@@ -23,6 +27,8 @@ impl Status {
             Status::Done => 0,
             Status::Refused => 1,
             Status::Failed => 3,
+            Status::Cut => 4,
+            Status::Misused => 2,
         }
     }
 }

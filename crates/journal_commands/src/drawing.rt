@@ -5,8 +5,8 @@ ghost use Rattle.picture.specs.Pages.{text_of_page};
 
 use crate::fault::Fault;
 use crate::policies::JournalPolicies;
-use crate::reading::JournalReader;
-use crate::replaying::pass_on;
+use crate::reading::{JournalEntries, Next};
+use crate::replaying::{Told, pass_on};
 use commands::{Failure, Span, Status};
 use core_model::{Entry, Origin};
 use picture::write_page;
@@ -15,6 +15,9 @@ use std::io;
 
 // The most entries of a page (own).
 const MOST_OF_PAGE: u32 = u32::MAX;
+
+// The most steps of a journal that is drawn or told (own).
+const MOST_STEPS: u64 = 1 << 62;
 
 // The page of entries after a beginning, of which these are asked for.
 fn page_of(
@@ -31,19 +34,40 @@ fn page_of(
     Ok(page)
 }
 
-/// Reads the entries of a journal up to its end, and keeps those up to a number.
+/// The entries of a journal, as far as they were kept, and whether it is cut behind them.
+#[derive(Drop)]
+pub struct KeptEntries {
+    pub entries: Vec<Entry>,
+    pub is_cut: bool,
+}
+
+/// Reads the entries of a journal up to its end, or as far as they are there, and keeps those up to a number.
 pub fn read_entries<R: io::Read>(
     alloc: Global,
-    journal: &mut JournalReader<'_, R>,
+    journal: &mut JournalEntries<'_, R>,
     last: u64,
-) -> Result<Vec<Entry>, Fault> {
+) -> Result<KeptEntries, Fault> {
     let mut entries = Vec::new(alloc);
-    for _ in 0..MOST_OF_PAGE {
-        let Some(entry) = journal.next_entry()? else {
-            return Ok(entries);
-        };
-        if journal.number() <= last {
-            keep(&mut entries, entry)?;
+    for _ in 0..MOST_STEPS {
+        match journal.next()? {
+            Next::Entry(entry, _) => {
+                if journal.number() <= last {
+                    keep(&mut entries, entry)?;
+                }
+            }
+            Next::Block => {}
+            Next::End => {
+                return Ok(KeptEntries {
+                    entries,
+                    is_cut: false,
+                });
+            }
+            Next::Cut => {
+                return Ok(KeptEntries {
+                    entries,
+                    is_cut: true,
+                });
+            }
         }
     }
     Err(Fault::Failure(Failure::OutOfMemory))
@@ -70,21 +94,21 @@ fn page_told<R: io::Read>(
     alloc: Global,
     policies: JournalPolicies,
     span: Span,
-    journal: &mut R,
-) -> Result<String, Fault> {
-    let JournalPolicies { replay, digests } = policies;
-    let mut reader = JournalReader::begin(alloc, digests, journal)?;
-    let entries = read_entries(alloc, &mut reader, span.last)?;
-    drawn(alloc, replay.core().start(), entries.as_slice(), span)
+    journal: &mut JournalEntries<'_, R>,
+) -> Result<Told, Fault> {
+    let kept = read_entries(alloc, journal, span.last)?;
+    let start = policies.replay.core().start();
+    let page = drawn(alloc, start, kept.entries.as_slice(), span)?;
+    Ok(Told::ended(alloc, page, kept.is_cut, journal.number())?)
 }
 
-/// Draws a journal over its policies, without making its calls: on `out` stands the page of its entries, of which these are
-/// asked for; else on `err` why there is none, as the first line that can't be read.
+/// Draws a journal, whose head was read, over its policies, without making its calls: on `out` stands the page of its entries, of
+/// which these are asked for, and on `err`, where it is cut, behind which entry; else why there is no page.
 pub fn draw_journal<R: io::Read, O: io::Write, E: io::Write>(
     alloc: Global,
     policies: JournalPolicies,
     span: Span,
-    journal: &mut R,
+    journal: &mut JournalEntries<'_, R>,
     out: &mut O,
     err: &mut E,
 ) -> Status {

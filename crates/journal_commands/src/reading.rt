@@ -1,139 +1,263 @@
 //! The entries of a journal, read one at a time.
 
 use crate::fault::Fault;
-use crate::lines::Lines;
+use crate::stream::Stream;
 use core_model::Entry;
-use journal::{Chain, Head, chain_behind, entry_line_fault, is_end, read_entry_line, read_head};
-use sequences::Sequence;
-use std::alloc::Global;
+use packed_journal::{Halt, Head, Headless, JournalReader, JournalWriter, Step, read_number};
+use std::alloc::{AllocError, Global};
 use std::io;
 
 /// The most entries of a journal (own).
 pub const MOST_ENTRIES: u64 = 1 << 62;
 
-// What is told of a journal that ends too early.
-const NO_END: &str = "the journal has no last line";
+// How many bytes the digest of a block has.
+const DIGEST: usize = 64;
 
-// What is told of one that goes on after its last line.
-const BEHIND_END: &str = "a line stands behind the last";
-
-// What the last line begins with, and no entry's line does.
-const END_BEGINS: u8 = b'e';
-
-/// A reader of a journal that begins with a history: where it stands in the chain of its lines.
+/// What stands next in a journal.
 #[derive(Drop)]
-pub struct JournalReader<'a, R> {
+pub enum Next {
+    /// An entry, and of a reload the digest of the policy's text that it was asked with.
+    Entry(Entry, Option<[u8; 32]>),
+    /// The end of a full block, whose digest vouches for all entries so far.
+    Block,
+    /// The journal's end, whose digest vouches for all entries.
+    End,
+    /// Nothing: the journal is cut here.
+    Cut,
+}
+
+/// A journal that is read: where it stands, and what was read of it.
+#[derive(Drop)]
+pub struct JournalEntries<'a, R> {
     alloc: Global,
-    lines: Lines<'a, R>,
-    chain: Chain,
+    stream: Stream<'a, R>,
+    reader: JournalReader,
+    head: Head,
+    // How many entries and how many blocks' ends were read, and up to which entry digests vouch.
+    number: u64,
+    blocks: u64,
+    vouched: u64,
+    // Where the last step ends, but for the journal's end; and the digest of the block that ended last.
+    place: u64,
+    digest: [u8; 64],
 }
 
-// Where a journal stands after a head with which a history begins.
-fn opening_chain(alloc: Global, head: &Head) -> Result<Chain, Fault> {
-    if head.before > 0 {
-        return Err(Fault::of_part(alloc, head.before));
-    }
-    Ok(chain_behind(alloc, head)?)
+/// What a journal begins with: a head, behind which it is read, or nothing, where it is cut there.
+#[derive(Drop)]
+pub enum Begun<'a, R> {
+    Headed(JournalEntries<'a, R>),
+    Cut,
 }
 
-// Reads the next line, if there is one.
-fn next_line<R: io::Read>(alloc: Global, lines: &mut Lines<'_, R>) -> Result<(), Fault> {
-    if lines.read_next()? {
-        Ok(())
-    } else {
-        Err(Fault::of_end(alloc, lines.number(), NO_END))
-    }
-}
-
-// Reads the head of a journal over these policies: where the journal stands after it.
-fn read_first<R: io::Read>(
+// The head of a journal at the front of a stream, with a reader that stands behind it; none where more bytes are wanted.
+fn read_beginning<R: io::Read>(
     alloc: Global,
-    policies: Sequence<[u8; 32]>,
-    lines: &mut Lines<'_, R>,
-) -> Result<Chain, Fault> {
-    next_line(alloc, lines)?;
-    match read_head(alloc, policies, lines.line())? {
-        Ok(head) => opening_chain(alloc, &head),
-        Err(fault) => Err(Fault::of_head(alloc, fault)),
+    stream: &mut Stream<'_, R>,
+) -> Result<Option<(Head, JournalReader)>, Fault> {
+    match JournalReader::begin(alloc, stream.left())? {
+        Ok((begun, rest)) => {
+            let left = rest.len();
+            stream.go_on(left);
+            Ok(Some(begun))
+        }
+        Err(Headless::Cut) => Ok(None),
+        Err(why) => Err(Fault::of_head(alloc, why, stream)),
     }
 }
 
-// Why a line can't be read that isn't the last.
-fn unread_line<R: io::Read>(
-    alloc: Global,
-    chain: &Chain,
-    lines: &Lines<'_, R>,
-) -> Result<Fault, Fault> {
-    if chain.number >= MOST_ENTRIES {
-        return Ok(Fault::of_end(alloc, lines.number(), NO_END));
+// The last bytes of some, so many as a digest has.
+fn last_digest(bytes: &[u8]) -> [u8; 64] {
+    let mut digest = [0; DIGEST];
+    let last = bytes.split_at(bytes.len().saturating_sub(DIGEST)).1;
+    if last.len() == DIGEST {
+        digest.copy_from_slice(last);
     }
-    match entry_line_fault(alloc, chain, lines.line())? {
-        Some(fault) => Ok(Fault::of_line(alloc, lines.number(), fault)),
-        None => Ok(Fault::of_end(alloc, lines.number(), NO_END)),
+    digest
+}
+
+// The digest in the end of a block: behind the mark and the length of its entries.
+fn digest_in(end: &[u8]) -> [u8; 64] {
+    let Some((_, behind)) = end.split_first() else {
+        return [0; DIGEST];
+    };
+    match read_number(behind) {
+        Ok((_, rest)) => last_digest(rest.split_at(rest.len().min(DIGEST)).0),
+        Err(_) => [0; DIGEST],
     }
 }
 
-// Reads the entry of a line: where the journal stands after it.
-fn read_line<R: io::Read>(
-    alloc: Global,
-    chain: &Chain,
-    lines: &Lines<'_, R>,
-) -> Result<(Entry, Chain), Fault> {
-    if chain.number >= MOST_ENTRIES {
-        return Err(unread_line(alloc, chain, lines)?);
+impl<'a, R: io::Read> JournalEntries<'a, R> {
+    /// Reads the head of a journal.
+    pub fn begin(alloc: Global, journal: &'a mut R) -> Result<Begun<'a, R>, Fault> {
+        let mut stream = Stream::new(alloc, journal)?;
+        for _ in 0..MOST_ENTRIES {
+            if let Some((head, reader)) = read_beginning(alloc, &mut stream)? {
+                let place = stream.place(stream.left().len() as u64);
+                return Ok(Begun::Headed(JournalEntries {
+                    alloc,
+                    stream,
+                    reader,
+                    head,
+                    number: 0,
+                    blocks: 0,
+                    vouched: 0,
+                    place,
+                    digest: [0; DIGEST],
+                }));
+            }
+            if !stream.fill()? {
+                break;
+            }
+        }
+        Ok(Begun::Cut)
     }
-    match read_entry_line(alloc, chain, lines.line())? {
-        Some(read) => Ok(read),
-        None => Err(unread_line(alloc, chain, lines)?),
-    }
-}
 
-// Whether the line is the last of a journal that stands so, and nothing stands after it.
-fn is_over<R: io::Read>(
-    alloc: Global,
-    chain: &Chain,
-    lines: &mut Lines<'_, R>,
-) -> Result<bool, Fault> {
-    if lines.line().first() != Some(&END_BEGINS) || !is_end(alloc, chain, lines.line())? {
-        return Ok(false);
-    }
-    if lines.read_next()? || !lines.line().is_empty() {
-        return Err(Fault::of_end(alloc, lines.number(), BEHIND_END));
-    }
-    Ok(true)
-}
-
-impl<'a, R: io::Read> JournalReader<'a, R> {
-    /// Reads the head of a journal over policies of these digests. It is refused where the first line is no such head, and
-    /// where other entries came before.
-    pub fn begin(
-        alloc: Global,
-        policies: Sequence<[u8; 32]>,
-        journal: &'a mut R,
-    ) -> Result<JournalReader<'a, R>, Fault> {
-        let mut lines = Lines::new(alloc, journal);
-        let chain = read_first(alloc, policies, &mut lines)?;
-        Ok(JournalReader {
-            alloc,
-            lines,
-            chain,
-        })
+    /// What the journal begins with.
+    pub fn head(&self) -> &Head {
+        &self.head
     }
 
     /// The number of the entry that was read last.
     pub fn number(&self) -> u64 {
-        self.chain.number
+        self.number
     }
 
-    /// The next entry; none where the journal has come to its end. It is refused at the first line that isn't that of the
-    /// next entry or the last, and where a line stands after the last.
-    pub fn next_entry(&mut self) -> Result<Option<Entry>, Fault> {
-        next_line(self.alloc, &mut self.lines)?;
-        if is_over(self.alloc, &self.chain, &mut self.lines)? {
-            return Ok(None);
+    /// How many blocks' ends were read.
+    pub fn blocks(&self) -> u64 {
+        self.blocks
+    }
+
+    /// Up to which entry digests vouch.
+    pub fn vouched(&self) -> u64 {
+        self.vouched
+    }
+
+    /// How many bytes the journal has up to where it can go on.
+    pub fn place(&self) -> u64 {
+        self.place
+    }
+
+    /// The digest of the block that ended last.
+    pub fn digest(&self) -> &[u8; 64] {
+        &self.digest
+    }
+
+    /// The digest that the journal has, if it ends behind what was read.
+    pub fn digest_here(&self) -> Result<[u8; 64], AllocError> {
+        let mut end = Vec::new(self.alloc);
+        self.reader.end(&mut end)?;
+        Ok(last_digest(end.as_slice()))
+    }
+
+    /// Goes on with the journal behind what was read: what is to be written first goes there.
+    pub fn go_on(self, out: &mut Vec<u8>) -> Result<JournalWriter, AllocError> {
+        self.reader.go_on(out)
+    }
+
+    // Takes note of the end of a block.
+    fn note_end(&mut self, left: usize) {
+        let bytes = self.stream.left();
+        let end = bytes.split_at(bytes.len().saturating_sub(left)).0;
+        self.digest = digest_in(end);
+        self.blocks = self.blocks.saturating_add(1);
+        self.vouched = self.number;
+        self.stream.go_on(left);
+    }
+
+    // Takes note that the last step ends so many bytes before the end of what was read.
+    fn note_place(&mut self, left: usize) {
+        self.place = self.stream.place(left as u64);
+    }
+
+    // Whether nothing stands behind the journal's end.
+    fn is_over(&mut self) -> Result<bool, Fault> {
+        Ok(self.stream.left().is_empty() && !self.stream.fill()?)
+    }
+
+    // The next step, if what was read has it as a whole.
+    #[inline(always)]
+    fn step(&mut self) -> Result<Option<Next>, Fault> {
+        let (step, left) = match self.reader.next(self.alloc, self.stream.left())? {
+            Ok((step, rest)) => (step, rest.len()),
+            Err(Halt::Cut) => return Ok(None),
+            Err(halt) => return Err(self.fault_of(halt)),
+        };
+        match step {
+            Step::Entry(entry, policy) => {
+                self.stream.go_on(left);
+                self.note_place(left);
+                self.number = self.number.saturating_add(1);
+                Ok(Some(Next::Entry(entry, policy)))
+            }
+            Step::Block => {
+                self.note_end(left);
+                self.note_place(left);
+                Ok(Some(Next::Block))
+            }
+            Step::End => {
+                self.note_end(left);
+                Ok(Some(Next::End))
+            }
         }
-        let (entry, chain) = read_line(self.alloc, &self.chain, &self.lines)?;
-        self.chain = chain;
-        Ok(Some(entry))
+    }
+
+    // Why no further step is read.
+    fn fault_of(&self, halt: Halt) -> Fault {
+        match halt {
+            Halt::Entry(left) => Fault::of_form(
+                self.alloc,
+                self.number.saturating_add(1),
+                self.stream.place(left),
+            ),
+            Halt::Block(left) => Fault::of_block(
+                self.alloc,
+                self.blocks.saturating_add(1),
+                self.stream.place(left),
+                what_differs(self.stream.left(), left),
+            ),
+            Halt::Cut => Fault::cut(self.alloc, self.number),
+        }
+    }
+
+    /// What stands next. It is refused where no entry and no block's end of the form stands there, and where the journal goes on
+    /// behind its end.
+    #[inline(always)]
+    pub fn next(&mut self) -> Result<Next, Fault> {
+        for _ in 0..MOST_ENTRIES {
+            match self.step()? {
+                Some(Next::End) => {
+                    if !self.is_over()? {
+                        let left = self.stream.left().len() as u64;
+                        return Err(Fault::of_end(self.alloc, self.stream.place(left)));
+                    }
+                    return Ok(Next::End);
+                }
+                Some(next) => return Ok(next),
+                None => {}
+            }
+            if !self.stream.fill()? {
+                break;
+            }
+        }
+        Ok(Next::Cut)
+    }
+}
+
+// What of a block's end differs from what is owed, where so many of its bytes are left from the first that does on.
+fn what_differs(bytes: &[u8], left: u64) -> &'static str {
+    let behind = match bytes.split_first() {
+        Some((_, behind)) => behind,
+        None => bytes,
+    };
+    let told = match read_number(behind) {
+        Ok((_, rest)) => rest.len() as u64,
+        Err(_) => 0,
+    };
+    if told < left {
+        "its entries have another length"
+    } else if told.saturating_sub(DIGEST as u64) < left {
+        "another digest is owed"
+    } else {
+        "the next block begins with another number"
     }
 }

@@ -3,8 +3,8 @@
 use crate::drawing::read_entries;
 use crate::fault::Fault;
 use crate::policies::JournalPolicies;
-use crate::reading::JournalReader;
-use crate::replaying::pass_on;
+use crate::reading::JournalEntries;
+use crate::replaying::{Told, pass_on};
 use access_core::AccessCore;
 use commands::Status;
 use core_model::{Answer, Entry};
@@ -82,21 +82,20 @@ fn tell_entries(alloc: Global, core: &AccessCore, entries: &[Entry]) -> Result<S
 fn journal_told<R: io::Read>(
     alloc: Global,
     policies: JournalPolicies,
-    journal: &mut R,
-) -> Result<String, Fault> {
-    let JournalPolicies { replay, digests } = policies;
-    let mut reader = JournalReader::begin(alloc, digests, journal)?;
-    let entries = read_entries(alloc, &mut reader, u64::MAX)?;
-    Ok(tell_entries(alloc, replay.core(), entries.as_slice())?)
+    journal: &mut JournalEntries<'_, R>,
+) -> Result<Told, Fault> {
+    let kept = read_entries(alloc, journal, u64::MAX)?;
+    let text = tell_entries(alloc, policies.replay.core(), kept.entries.as_slice())?;
+    Ok(Told::ended(alloc, text, kept.is_cut, journal.number())?)
 }
 
-/// Tells a journal over its policies, without making its calls: on `out` stands each entry as `audit` shows it, and after one
-/// that was denied, faulted or failed why, as a run that explains tells it; else on `err` why there is nothing to tell, as the
-/// first line that can't be read.
+/// Tells a journal, whose head was read, over its policies, without making its calls: on `out` stands each entry as `audit` shows
+/// it, and after one that was denied, faulted or failed why, as a run that explains tells it, and on `err`, where it is cut, behind
+/// which entry; else why there is nothing to tell.
 pub fn tell_journal<R: io::Read, O: io::Write, E: io::Write>(
     alloc: Global,
     policies: JournalPolicies,
-    journal: &mut R,
+    journal: &mut JournalEntries<'_, R>,
     out: &mut O,
     err: &mut E,
 ) -> Status {

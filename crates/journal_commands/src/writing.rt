@@ -1,18 +1,11 @@
 //! A journal that is written as a history goes.
 
-use crate::policies::digests_of;
-use commands::{Failure, PolicyText, Stop, Stops};
+use commands::{Failure, Stop, Stops};
 use core_model::Entry;
-use journal::{Chain, Head, chain_behind, write_end, write_entry_line, write_head};
+use packed_journal::{Head, JournalWriter, Unwritten};
 use std::alloc::{AllocError, Global};
 use std::io;
 use world::World;
-
-// How many bytes are gathered before they are written (own).
-const BLOCK: usize = 65_536;
-
-// The most entries of a journal (own).
-const MOST_ENTRIES: u64 = 1 << 62;
 
 /// Why a journal isn't written.
 #[derive(Clone, Copy, Debug, PartialEq, Eq)]
@@ -26,6 +19,15 @@ pub enum JournalFault {
 impl From<AllocError> for JournalFault {
     fn from(_want: AllocError) -> JournalFault {
         JournalFault::OutOfMemory
+    }
+}
+
+impl From<Unwritten> for JournalFault {
+    fn from(why: Unwritten) -> JournalFault {
+        match why {
+            Unwritten::OutOfMemory => JournalFault::OutOfMemory,
+            Unwritten::NoForm | Unwritten::TooMany => JournalFault::Write,
+        }
     }
 }
 
@@ -48,89 +50,96 @@ impl Stops for JournalFault {
     }
 }
 
-/// Writes the entries of a world into a journal, block by block.
+/// Writes the entries of a history into a journal as they come: none is kept back.
 #[derive(Drop)]
-pub struct JournalWriter<'a, J> {
-    alloc: Global,
+pub struct EntryWriter<'a, J> {
     journal: &'a mut J,
-    chain: Chain,
-    // Lines that aren't written yet.
-    text: String,
+    writer: JournalWriter,
+    // How many entries are written.
+    number: u64,
+    // Bytes that aren't written yet.
+    bytes: Vec<u8>,
 }
 
-impl<'a, J: io::Write> JournalWriter<'a, J> {
-    /// Begins the journal of a core that was just opened over the policies of texts, with so many places in its audit.
+impl<'a, J: io::Write> EntryWriter<'a, J> {
+    /// Begins the journal of a core that was just opened over the policy of this digest, with so many places in its audit.
     pub fn begin(
         alloc: Global,
-        text: &[u8],
-        further: &[PolicyText],
+        policy: [u8; 32],
         places: usize,
         journal: &'a mut J,
-    ) -> Result<JournalWriter<'a, J>, JournalFault> {
+    ) -> Result<EntryWriter<'a, J>, JournalFault> {
         let head = Head {
-            capacity: places as u64,
-            before: 0,
-            policies: digests_of(alloc, text, further)?,
+            policy,
+            room: places as u64,
         };
-        let mut first = String::new(alloc);
-        write_head(&mut first, alloc, &head)?;
-        first.push_str("\n")?;
-        let chain = chain_behind(alloc, &head)?;
-        Ok(JournalWriter {
-            alloc,
+        let mut bytes = Vec::new(alloc);
+        let writer = JournalWriter::begin(&mut bytes, &head)?;
+        let mut begun = EntryWriter {
             journal,
-            chain,
-            text: first,
-        })
+            writer,
+            number: 0,
+            bytes,
+        };
+        begun.pass_on()?;
+        Ok(begun)
     }
 
-    // Writes the lines that aren't written yet.
+    /// Goes on with a journal that has so many entries, and behind which these bytes are to be written first.
+    pub fn behind(
+        writer: JournalWriter,
+        number: u64,
+        bytes: Vec<u8>,
+        journal: &'a mut J,
+    ) -> EntryWriter<'a, J> {
+        EntryWriter {
+            journal,
+            writer,
+            number,
+            bytes,
+        }
+    }
+
+    // Writes the bytes that aren't written yet.
     fn pass_on(&mut self) -> Result<(), JournalFault> {
-        let written = self.journal.write_all(self.text.as_bytes());
-        self.text.clear();
+        if self.bytes.is_empty() {
+            return Ok(());
+        }
+        let written = self.journal.write_all(self.bytes.as_slice());
+        self.bytes.clear();
         if written.is_err() || self.journal.flush().is_err() {
             return Err(JournalFault::Write);
         }
         Ok(())
     }
 
-    // Writes the line of an entry.
-    fn put(&mut self, entry: &Entry) -> Result<(), JournalFault> {
-        if self.chain.number >= MOST_ENTRIES {
-            return Err(JournalFault::Write);
+    // Adds entries, each with the digest of the policy that it puts in force, if it is a reload, and writes them.
+    fn put(&mut self, entries: &[Entry], policy: &[u8; 32]) -> Result<(), JournalFault> {
+        for entry in entries {
+            self.writer.write_entry(&mut self.bytes, entry, policy)?;
+            self.number = self.number.saturating_add(1);
         }
-        self.chain = write_entry_line(&mut self.text, self.alloc, &self.chain, entry)?;
-        self.text.push_str("\n")?;
-        if self.text.len() >= BLOCK {
-            self.pass_on()?;
-        }
-        Ok(())
+        self.pass_on()
     }
 
-    /// Writes the entries of a world that aren't written yet. Those before its audit's were.
-    pub fn note(&mut self, world: &World) -> Result<(), JournalFault> {
+    /// Writes the entries of a world that aren't written yet: those before its audit's were. A reload among them is one of the policy
+    /// of this digest.
+    pub fn note(&mut self, world: &World, policy: &[u8; 32]) -> Result<(), JournalFault> {
         let core = world.core();
         let entries = core.audit();
-        let written = self.chain.number.saturating_sub(core.entries_before());
+        let written = self.number.saturating_sub(core.entries_before());
         let first = written.min(entries.len() as u64) as usize;
-        for entry in entries.split_at(first).1 {
-            self.put(entry)?;
-        }
-        Ok(())
+        self.put(entries.split_at(first).1, policy)
     }
 
-    /// Writes the entries that follow on those that are written.
+    /// Writes the entries that follow on those that are written, none of which is a reload.
     pub fn take(&mut self, entries: &[Entry]) -> Result<(), JournalFault> {
-        for entry in entries {
-            self.put(entry)?;
-        }
-        Ok(())
+        self.put(entries, &[0; 32])
     }
 
-    /// Writes the last line.
+    /// Writes the journal's end.
     pub fn end(&mut self) -> Result<(), JournalFault> {
-        write_end(&mut self.text, self.alloc, &self.chain)?;
-        self.text.push_str("\n")?;
+        self.writer.end(&mut self.bytes)?;
         self.pass_on()
     }
 }

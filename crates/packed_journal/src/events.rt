@@ -33,6 +33,7 @@ fn read_open(bytes: &[u8]) -> Result<(Happened, &[u8]), Unread>
 }
 
 // Reads a packet that is handed over.
+#[inline(always)]
 fn read_take(bytes: &[u8]) -> Result<(Happened, &[u8]), Unread>
     ensures { reads result ≡ read_take bytes.now }
 {
@@ -89,6 +90,7 @@ fn read_close(bytes: &[u8]) -> Result<(Happened, &[u8]), Unread>
 }
 
 // Reads a run of the next group.
+#[inline(always)]
 fn read_run(bytes: &[u8]) -> Result<(Happened, &[u8]), Unread>
     ensures { reads result ≡ read_run bytes.now }
 {
@@ -105,6 +107,7 @@ fn read_poll(bytes: &[u8]) -> Result<(Happened, &[u8]), Unread>
 }
 
 // Reads a completion.
+#[inline(always)]
 fn read_finish(bytes: &[u8]) -> Result<(Happened, &[u8]), Unread>
     ensures { reads result ≡ read_finish bytes.now }
 {
@@ -167,6 +170,7 @@ fn read_reload(alloc: Global, bytes: &[u8]) -> Result<Result<(Happened, &[u8]), 
 }
 
 // Reads an event that hands over no list, of its tag, which stands before what is left of some bytes.
+#[inline(always)]
 fn read_plain<'a>(bytes: &[u8], tag: u8, rest: &'a [u8]) -> Result<(Happened, &'a [u8]), Unread>
     ensures { reads result ≡ read_plain bytes.now tag rest.now }
 {
@@ -196,6 +200,7 @@ fn read_plain<'a>(bytes: &[u8], tag: u8, rest: &'a [u8]) -> Result<(Happened, &'
 }
 
 /// Reads an event, with all that was handed to it.
+#[inline(always)]
 pub(crate) fn read_event(
     alloc: Global,
     bytes: &[u8],

@@ -1,15 +1,16 @@
 //! How a journal is read, step by step.
 
 ghost use Rattle.std.specs.Prelude.{◌≡◌, ◌+◌, ◌-◌, ◌<◌, ◌^◌, IfOk, Ok, length, take};
-ghost use Rattle.packed_journal.specs.Words.{packed_number};
+ghost use Rattle.packed_journal.specs.Words.{appended, packed_number};
 ghost use Rattle.packed_journal.specs.Entries.{read_entry};
-ghost use Rattle.packed_journal.specs.Journals.{Place, end_of, form_of_head, opening, turn_of};
+ghost use Rattle.packed_journal.specs.Journals.{Place, between, end_of, form_of_head, onward, opening, turn_of};
 ghost use Rattle.packed_journal.specs.JournalReadings.{begun, rest_behind, behind_read, behind_step, behind_turn, if_entry, if_first, if_there, read_beginning, read_step, rests, steps};
 ghost use Rattle.packed_journal.specs.Standing.{Stands};
 ghost use Rattle.packed_journal.specs.declared.stepping.Step.TheVariants as step;
 
 use crate::chains::{Chain, add, copied, put_between, put_end, put_first};
 use crate::heads::{Head, begins_with, read_head, rest_behind};
+use crate::journal_writing::JournalWriter;
 use crate::outcomes::read_entry;
 use crate::stepping::{Halt, Headless, Step};
 use crate::unread::Unread;
@@ -94,6 +95,7 @@ fn ended(read: Result<&[u8], Unread>) -> Result<(Step, &[u8]), Halt>
 }
 
 // The next step, of a block that is full.
+#[inline(never)]
 fn next_block<'a>(
     alloc: Global,
     chain: &mut Chain,
@@ -108,6 +110,7 @@ fn next_block<'a>(
 }
 
 // The next step, where a mark stands.
+#[inline(never)]
 fn next_end<'a>(
     alloc: Global,
     chain: &Chain,
@@ -120,6 +123,7 @@ fn next_end<'a>(
 }
 
 // The next step is an entry, which was read at the front of some bytes.
+#[inline(always)]
 fn with_entry<'a>(
     chain: &mut Chain,
     bytes: &[u8],
@@ -138,6 +142,7 @@ fn with_entry<'a>(
 }
 
 // The next step, where an entry must stand.
+#[inline(always)]
 fn next_entry<'a>(
     alloc: Global,
     chain: &mut Chain,
@@ -157,6 +162,7 @@ fn next_entry<'a>(
 }
 
 // The next step.
+#[inline(always)]
 fn next_step<'a>(
     alloc: Global,
     chain: &mut Chain,
@@ -218,6 +224,7 @@ impl JournalReader {
 
     /// Reads the next step, at the front of some bytes, which stand behind those that were read. Where there is none, nothing
     /// changes. Refused for want of memory alone, which is taken for the journal's own bytes and never by a length in them.
+    #[inline(always)]
     pub fn next<'a>(
         &mut self,
         alloc: Global,
@@ -227,5 +234,30 @@ impl JournalReader {
         ensures stands { (place : Place) → Stands self.old.chain place → Stands self.new.chain (behind_read place result) }
     {
         next_step(alloc, &mut self.chain, bytes)
+    }
+
+    /// Writes the end that the journal has, if it ends behind what was read. Where memory is refused nothing changes.
+    pub fn end(&self, out: &mut Vec<u8>) -> Result<(), AllocError>
+        ensures { (place : Place) → Stands self.now.chain place → out.new.items ≡ appended result out.old.items (end_of place) }
+    {
+        let mut chain = copied(&self.chain)?;
+        out.reserve(75)?;
+        let _digest = put_end(out, &mut chain);
+        Ok(())
+    }
+
+    /// Goes on with the journal behind what was read: where the block is full, its end and the next one's beginning are written.
+    /// Where memory is refused nothing changes.
+    pub fn go_on(self, out: &mut Vec<u8>) -> Result<JournalWriter, AllocError>
+        ensures items { (place : Place) → Stands self.chain place → out.new.items ≡ appended result out.old.items (between place) }
+        ensures stands { (place : Place) → Stands self.chain place → IfOk result (λ writer. Stands writer.chain (onward place)) }
+    {
+        let JournalReader { chain } = self;
+        let mut chain = chain;
+        if chain.filled >= 65536 {
+            out.reserve(85)?;
+            put_between(out, &mut chain);
+        }
+        Ok(JournalWriter::standing(chain))
     }
 }

@@ -71,6 +71,14 @@ fn add_entry(
 }
 
 impl JournalWriter {
+    // One that stands where a block isn't full.
+    pub(crate) fn standing(chain: Chain) -> JournalWriter
+        requires { chain.filled < 65536 }
+        ensures { result.chain ≡ chain }
+    {
+        JournalWriter { chain }
+    }
+
     /// Begins a journal behind what stands there: its head, and the number of the first entry. Where memory is refused nothing
     /// changes.
     pub fn begin(out: &mut Vec<u8>, head: &Head) -> Result<JournalWriter, AllocError>

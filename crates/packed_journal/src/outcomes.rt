@@ -213,6 +213,7 @@ fn read_effect(alloc: Global, bytes: &[u8]) -> Result<Result<(Effect, &[u8]), Un
 
 // Reads one change.
 #[tactic(auto, unfolding(crate::specs::Readings::times))]
+#[inline(always)]
 fn read_only(alloc: Global, bytes: &[u8]) -> Result<Result<(Effects, &[u8]), Unread>, AllocError>
     ensures { IfOk result (λ read. reads read ≡ times read_effect 1 bytes.now) }
 {
@@ -225,6 +226,7 @@ fn read_only(alloc: Global, bytes: &[u8]) -> Result<Result<(Effects, &[u8]), Unr
 
 // Reads two changes.
 #[tactic(auto, unfolding(crate::specs::Readings::times))]
+#[inline(always)]
 fn read_two(alloc: Global, bytes: &[u8]) -> Result<Result<(Effects, &[u8]), Unread>, AllocError>
     ensures { IfOk result (λ read. reads read ≡ times read_effect 2 bytes.now) }
 {
@@ -269,6 +271,7 @@ fn read_none(bytes: &[u8]) -> Result<(Effects, &[u8]), Unread>
 }
 
 // Reads how many changes there are, and these. Up to two take no memory, but for their bytes.
+#[inline(always)]
 fn read_effects(alloc: Global, bytes: &[u8]) -> Result<Result<(Effects, &[u8]), Unread>, AllocError>
     ensures { IfOk result (λ read. reads read ≡ read_list read_effect bytes.now) }
 {
@@ -289,6 +292,7 @@ fn read_effects(alloc: Global, bytes: &[u8]) -> Result<Result<(Effects, &[u8]), 
 
 /// Reads an entry at the front of some bytes, with the digest of the policy's text where it is a reload, and the bytes behind
 /// it. Memory is taken for what was read alone.
+#[inline(always)]
 pub fn read_entry(
     alloc: Global,
     bytes: &[u8],

@@ -23,7 +23,7 @@ use Rattle.core_model.specs.History.{History, Part, Start, beginning, policy_in}
 use Rattle.core_model.specs.Legal.{IsMade, IsServed, LacksMemory, Meets, MeetsOrLacks, ReloadMeetsOrLacks, as_reply, due, entries_after, entry_of, history_after, lacks_room, reply_of, within_room}
 use Rattle.core_model.specs.Owed.{Owed, answers, enters, owed, refuses}
 use Rattle.core_model.specs.Queries.{AnswerOrRefusal}
-use Rattle.core_model.specs.Rotation.{IsRotated, Rotates}
+use Rattle.core_model.specs.Rotation.{IsRotated, Rotates, Truncates}
 use Rattle.core_model.specs.States.{state_after}
 use Rattle.core_model.proofs.States.{owed-now, rotated-start, state-join, state-now}
 use Rattle.core_model.proofs.Turns.{slice_get-last}
@@ -62,24 +62,24 @@ goes-rotated old new part is further = record {
   further_is = further;
 }
 
--- whatever a rotation is answered
-pub goes-on-rotating : (old new : Replayed) (told : Result Part Refusal) → Rotates old.history told new.history → new.further ≡ old.further → GoesOn old [] new
-goes-on-rotating old new (Ok part) is further = goes-rotated old new part is.1 further
-goes-on-rotating old new (Err refusal.OutOfMemory) is further = goes-same old new is.1 further
-goes-on-rotating old new (Err refusal.AuditFull) is further = goes-same old new is.1 further
-goes-on-rotating old new (Err refusal.UnknownClient) is further = absurd is
-goes-on-rotating old new (Err refusal.UnknownQueue) is further = absurd is
-goes-on-rotating old new (Err (refusal.Denied right)) is further = absurd is
-goes-on-rotating old new (Err (refusal.Busy queue packet)) is further = absurd is
-goes-on-rotating old new (Err refusal.NotAllowed) is further = absurd is
-goes-on-rotating old new (Err (refusal.OutOfStep next)) is further = absurd is
-goes-on-rotating old new (Err refusal.QueueDown) is further = absurd is
-goes-on-rotating old new (Err refusal.NotInFlight) is further = absurd is
-goes-on-rotating old new (Err refusal.NotFinished) is further = absurd is
-goes-on-rotating old new (Err refusal.BadSize) is further = absurd is
-goes-on-rotating old new (Err refusal.TooMany) is further = absurd is
-goes-on-rotating old new (Err refusal.UnknownObject) is further = absurd is
-goes-on-rotating old new (Err refusal.OtherObjects) is further = absurd is
+-- whatever the emptying of an audit is answered
+pub goes-on-truncating : (old new : Replayed) (told : Result (Unit {0}) Refusal) → Truncates old.history told new.history → new.further ≡ old.further → GoesOn old [] new
+goes-on-truncating old new (Ok done) is further = goes-rotated old new is.0 is.1.1 further
+goes-on-truncating old new (Err refusal.AuditFull) is further = goes-same old new is.1 further
+goes-on-truncating old new (Err refusal.OutOfMemory) is further = absurd is
+goes-on-truncating old new (Err refusal.UnknownClient) is further = absurd is
+goes-on-truncating old new (Err refusal.UnknownQueue) is further = absurd is
+goes-on-truncating old new (Err (refusal.Denied right)) is further = absurd is
+goes-on-truncating old new (Err (refusal.Busy queue packet)) is further = absurd is
+goes-on-truncating old new (Err refusal.NotAllowed) is further = absurd is
+goes-on-truncating old new (Err (refusal.OutOfStep next)) is further = absurd is
+goes-on-truncating old new (Err refusal.QueueDown) is further = absurd is
+goes-on-truncating old new (Err refusal.NotInFlight) is further = absurd is
+goes-on-truncating old new (Err refusal.NotFinished) is further = absurd is
+goes-on-truncating old new (Err refusal.BadSize) is further = absurd is
+goes-on-truncating old new (Err refusal.TooMany) is further = absurd is
+goes-on-truncating old new (Err refusal.UnknownObject) is further = absurd is
+goes-on-truncating old new (Err refusal.OtherObjects) is further = absurd is
 
 -- ---- places
 

@@ -80,6 +80,13 @@ impl Replay {
         make(&mut self.core, alloc, request, entry)
     }
 
+    /// The policies that may be put in force later.
+    pub fn further(&self) -> &[Policy]
+        ensures { result.now ≡ self.now.further }
+    {
+        self.further.as_slice()
+    }
+
     /// Empties the audit, as a rotation does: what the core begins from is then the state behind all entries that were
     /// taken. Refused as a rotation is, and then all is as before.
     pub fn empty_audit(&mut self, alloc: Global) -> Result<(), Stop>
@@ -88,8 +95,8 @@ impl Replay {
         ensures begins { OnOk result (beginning self.new.history ≡ state self.old) }
         ensures why { IfErr result (LacksPlace self.old) }
     {
-        match self.core.rotate(alloc) {
-            Ok(_) => Ok(()),
+        match self.core.truncate(alloc) {
+            Ok(()) => Ok(()),
             Err(Refusal::OutOfMemory) => Err(Stop::OutOfMemory),
             Err(_) => Err(Stop::NoRoom),
         }
