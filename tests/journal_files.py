@@ -78,7 +78,7 @@ def files(trials, program, room):
     asked = ["run", policy]
     load = ["threads", policy, "--producers", "1"]
     rows = [(there("a"), words, few, 2, THERE) for words in (asked, load, [*asked, "--sync"], [*asked, "--explain"])]
-    rows += [(there("b"), [asked[0], bad, *words], few, 1, "policy: 1 BadVersion\n") for words in ([], ["--force"], ["--continue"])]
+    rows += [(there("b"), [asked[0], bad, *words], few, 1, "policy: 3 BadValue\n") for words in ([], ["--force"], ["--continue"])]
     rows += [(policy, [*it, *words], few, 2, OWN.replace("{}", policy, 1).replace("{}", "a policy's file")) for it in (asked, load) for words in ([], ["--force"])]
     rows += [(policy, ["run", SAMPLE, policy, *words], few, 2, OWN.replace("{}", policy, 1).replace("{}", "a policy's file")) for words in ([], ["--force"], ["--continue"])]
     rows += [(script, [*asked, "-f", script, *words], b"", 2, OWN.replace("{}", script, 1).replace("{}", "the script's file")) for words in ([], ["--force"], ["--continue"])]

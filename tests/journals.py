@@ -364,9 +364,9 @@ def replays(trials, program, room):
     with open(other, "rb") as it:
         digest = packed.hashlib.sha256(it.read()).hexdigest().encode()
     told = {
-        (SAMPLE, other): (0, b"legal 11 entries\n", b""),
-        (other, SAMPLE): (0, b"legal 11 entries\n", b""),
-        (SAMPLE, other, SAMPLE): (0, b"legal 11 entries\n", b""),
+        (SAMPLE, other): (0, b"legal 10 entries\n", b""),
+        (other, SAMPLE): (0, b"legal 10 entries\n", b""),
+        (SAMPLE, other, SAMPLE): (0, b"legal 10 entries\n", b""),
         (SAMPLE,): (1, b"", b"entry 8: wants the policy of the digest " + digest + b", which isn't given\n"),
         (other,): (1, b"", b"the journal wants the policy of the digest " + packed.head_of(open(SAMPLE, "rb").read())[8:40].hex().encode() + b", which isn't given\n"),
     }

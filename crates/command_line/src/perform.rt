@@ -261,7 +261,9 @@ fn run_load_over<R: Threads + Wait + Sync>(
     let (mut out, mut err) = (rt.stdout(), rt.stderr());
     let Some(wanted) = journal else {
         let none: Option<&mut File> = None;
-        return run_threads(threads, rt, alloc, file.text, judged, asked, none, &mut out, &mut err);
+        return run_threads(
+            threads, rt, alloc, file.text, judged, asked, none, &mut out, &mut err,
+        );
     };
     let others = OtherFiles {
         policy: file.name,

@@ -37,7 +37,11 @@ impl<'a> PolicyFiles<'a> {
 }
 
 /// The names of a policy's file and of further ones, in order; none where there is no memory for them.
-pub fn names_of<'a>(rt: &HostRuntime, policy: &'a str, further: &[&'a str]) -> Option<Vec<&'a str>> {
+pub fn names_of<'a>(
+    rt: &HostRuntime,
+    policy: &'a str,
+    further: &[&'a str],
+) -> Option<Vec<&'a str>> {
     let mut names = Vec::new(rt.alloc());
     if names.push(policy).is_err() || names.extend_from_slice(further).is_err() {
         return None;

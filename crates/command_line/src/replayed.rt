@@ -60,7 +60,12 @@ fn show_over<R: io::Read>(
     };
     match shown {
         Shown::Drawn { span, output } => draw_into(
-            rt, policies, span, output, explains, &mut entries,
+            rt,
+            policies,
+            span,
+            output,
+            explains,
+            &mut entries,
         ),
         Shown::Told => tell_journal(
             alloc,

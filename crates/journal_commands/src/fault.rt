@@ -70,7 +70,7 @@ impl Fault {
 
     /// No policy that was handed in has the digest that an entry tells.
     pub fn of_reload(alloc: Global, number: u64, digest: &[u8; 32]) -> Fault {
-        refused(match format!(in alloc; "entry {number}") {
+        refused(match format!(in alloc; "entry {number}:") {
             Ok(entry) => wanted(alloc, entry.as_str(), digest),
             Err(want) => Err(want),
         })
@@ -78,16 +78,14 @@ impl Fault {
 
     /// A reload tells other rows than the policy of its digest has.
     pub fn of_rows(alloc: Global, number: u64) -> Fault {
-        refused(
-            format!(in alloc; "entry {number}: it tells other rows than the policy of its digest has, or that declares others\n"),
-        )
+        refused(format!(in alloc;
+            "entry {number}: it tells other rows than the policy of its digest has, or that declares others\n"
+        ))
     }
 
     /// No entry of the form stands at a byte, where the next must.
     pub fn of_form(alloc: Global, number: u64, place: u64) -> Fault {
-        refused(
-            format!(in alloc; "entry {number}: byte {place}: no entry goes on so\n"),
-        )
+        refused(format!(in alloc; "entry {number}: byte {place}: no entry goes on so\n"))
     }
 
     /// A block's end differs at a byte from what is owed.
@@ -107,9 +105,9 @@ impl Fault {
 
     /// No ring hands over such a packet.
     pub fn of_ring(alloc: Global, number: u64) -> Fault {
-        refused(
-            format!(in alloc; "entry {number}: no ring hands such a packet over: a run can't go on behind it\n"),
-        )
+        refused(format!(in alloc;
+            "entry {number}: no ring hands such a packet over: a run can't go on behind it\n"
+        ))
     }
 
     /// An entry isn't what it was owed.

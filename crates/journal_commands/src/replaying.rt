@@ -128,6 +128,7 @@ fn found_here<R: io::Read>(
 }
 
 // A count of entries on a terminal.
+#[derive(Drop)]
 struct Count<'a, E> {
     alloc: Global,
     err: &'a mut E,
@@ -269,7 +270,9 @@ fn told_of(
     let vouched = if ended.is_cut { Some(vouched) } else { None };
     write_aside(&mut aside, policies, terms.names, vouched)?;
     if terms.has.is_some() && matches!(ended.found, Found::Nowhere) {
-        aside.push_str("--has: no block of the journal has this digest, and no entry ends one that has it\n")?;
+        aside.push_str(
+            "--has: no block of the journal has this digest, and no entry ends one that has it\n",
+        )?;
         return Ok(Told {
             text: String::new(alloc),
             aside,
