@@ -30,6 +30,8 @@ KINDS = ("scripts", "kernels", "policies", "runs", "strict", "assembled", "reada
 ROLES = {"over": "over", "in": "frame", "after": "before", "names": "names", "text": "texts"}
 ESCAPES = {"n": 0x0A, "r": 0x0D, "t": 0x09, "s": 0x20, "0": 0}
 ESCAPED = re.compile(rb"\\(x..|.)", re.DOTALL)
+# the line that tells a cause behind a prescribed one on standard error
+CAUSE = re.compile(rb"^[^:\n]+:[0-9]+:[0-9]+: .*\n", re.MULTILINE)
 FAULT = re.compile(r"read \d+ line \d+ column \d+|check \d+ line \d+")
 RANGE = re.compile(r"(\d+)\.\.(\d+) (.*)", re.DOTALL)
 
@@ -310,6 +312,11 @@ class Setting:
 # ---- what comes
 
 
+def prescribed(err):
+    """What is prescribed of standard error: it without the lines `FILE:LINE:COLUMN: cause`."""
+    return CAUSE.sub(b"", err)
+
+
 def ending(err, status):
     """What is told of the end of a run: each line of standard error, and the status, if it is another than 0."""
     return "".join(f"error: {line}\n" for line in lines_of(err)) + (f"status: {status}\n" if status else "")
@@ -361,7 +368,7 @@ class Program:
         words = [it for part in self.command(kind) for it in meanings.get(part, [part])]
         try:
             ran = subprocess.run(words, input=given, capture_output=True, timeout=self.seconds)
-            return Ran(ran.stdout, ran.stderr.decode(errors="replace"), ran.returncode)
+            return Ran(ran.stdout, prescribed(ran.stderr).decode(errors="replace"), ran.returncode)
         except subprocess.TimeoutExpired as late:
             return Ran(late.stdout or b"", "", f"none: it did not end within {self.seconds:g} seconds")
         finally:

@@ -1,5 +1,6 @@
 #!/usr/bin/env python3
 """What `--explain` tells beside replies and faults, and that the line which it proposes mends: explain.py PROGRAM"""
+import json
 import os
 import re
 import subprocess
@@ -7,7 +8,8 @@ import sys
 import tempfile
 
 from against import PLACES, Setting, cases_in, text_in
-from trial import BARRIER, DEADLINE, FILL, KERNEL, PRELUDE, SAMPLE, TOP, Trials, blocks, library_of, run, text
+from readable import explanations
+from trial import BARRIER, DEADLINE, FILL, KERNEL, PRELUDE, SAMPLE, TOP, Trials, blocks, library_of, run_whole as run, text
 
 DATA = f"{TOP}/cases"
 ZEROS = "0" * 16
@@ -145,7 +147,7 @@ WALKED = [
     ("a packet of a queue that is down", [], [*GRANTED, f"submit 1 1 {FILL}", f"submit 1 1 {READY}", "serve 1", "poll 1 1"], ["packet 1 of queue 1 was not handed over, and the queue has the error `queue 1 packet 0 rule L8`"], ["`serve 1`"], [], None),
     ("a packet that nobody reserved of a stopped queue", [], [*GRANTED, "stop 1", "run 1 9"], ["packet 9 of queue 1 was never reserved, and the queue was stopped"], ["`serve 1`", "`submit"], [], None),
     ("a header of a stopped queue", [], [*GRANTED, f"submit 1 1 {READY}", "stop 1", "peek 1", "clear 1"], ["neither launched nor denied, and won't be: the queue was stopped"], ["`take 1`"], [], None),
-    ("the head of a stopped queue", [], [*GRANTED, f"submit 1 1 {READY}", "stop 1", "clear 1"], ["line 5: the packet at the read index is neither launched nor denied, and won't be: the queue was stopped"], ["`take 1`", "`look 1`"], [], None),
+    ("the head of a stopped queue", [], [*GRANTED, f"submit 1 1 {READY}", "stop 1", "clear 1"], ["-:5:1: the packet at the read index is neither launched nor denied, and won't be: the queue was stopped"], ["`take 1`", "`look 1`"], [], None),
     ("an empty ring of a stopped queue", [], [*GRANTED, "stop 1", "serve 1"], ["none would be served: the queue was stopped, and launches nothing more: open another with `queue`\n"], ["`submit"], ["queue alice gpu 2 1"], "queue 2"),
     ("a full ring of a stopped queue", [], [*GRANTED, *[f"submit 1 1 {READY}"] * 2, "stop 1", f"submit 1 1 {READY}"], ["the head stays there: the queue was stopped"], ["`serve` the queue"], [], None),
     ("a full ring with a gap", [], [*WIDE, "reserve 1 1", *[f"submit 1 2 {READY}"] * 2], ["ticket 0 stands at the head, and isn't published: `publish 1 1 0 PACKET`, `serve 1`, and then `publish` under ticket 2\n"], [], [f"publish 1 1 0 {READY}", "serve 1", f"publish 1 2 2 {READY}"], "published 2"),
@@ -158,16 +160,16 @@ WALKED = [
     ("a full audit", ["--audit", "2"], [*GRANTED, "stop 1"], ["the audit has 2 places: 2 are taken, and 0 are kept for packets in flight\n", "`rotate` hands the entries out"], [MANY, "--audit N"], ["rotate", "stop 1"], "ok"),
     ("a launch in an audit with one place", ["--audit", "3"], [*GRANTED, f"submit 1 1 {READY}", "serve 1"], ["3 places: 2 are taken", "a launch wants 2: one for " + MANY, "`rotate` hands the entries out"], [], ["rotate", "serve 1"], "launched 0"),
     ("a launch in an audit of one place", ["--audit", "1"], [GRANTED[0], "rotate", GRANTED[1], "rotate", f"submit 1 1 {READY}", "serve 1"], ["1 places: 0 are taken", MANY, "begin anew with a greater `--audit N`\n"], ["hands the entries out"], [], None),
-    ("a barrier-OR of no signals", [], [*GRANTED, f"submit 1 1 {NEVER}", "serve 1"], ["line 4: barrier packet 0 of queue 1 waits for any of no signals, and never gets ready: `stop 1` or `close 1` ends it\n"], ["`poll 1 0`"], ["stop 1"], "ok"),
-    ("a poll of a barrier-OR of no signals", [], [*GRANTED, f"submit 1 1 {NEVER}", "serve 1", "poll 1 0"], ["line 5: barrier packet 0 of queue 1 waits for any of no signals"], ["`poll 1 0`"], ["close 1"], "ok"),
-    ("an unfinished barrier-OR of no signals", [], [*GRANTED, f"submit 1 1 {NEVER}", "serve 1", "finish 1 0"], ["line 5: barrier packet 0 of queue 1 waits for any of no signals"], ["`poll 1 0`"], ["close 1"], "ok"),
+    ("a barrier-OR of no signals", [], [*GRANTED, f"submit 1 1 {NEVER}", "serve 1"], ["-:4:1: barrier packet 0 of queue 1 waits for any of no signals, and never gets ready: `stop 1` or `close 1` ends it\n"], ["`poll 1 0`"], ["stop 1"], "ok"),
+    ("a poll of a barrier-OR of no signals", [], [*GRANTED, f"submit 1 1 {NEVER}", "serve 1", "poll 1 0"], ["-:5:1: barrier packet 0 of queue 1 waits for any of no signals"], ["`poll 1 0`"], ["close 1"], "ok"),
+    ("an unfinished barrier-OR of no signals", [], [*GRANTED, f"submit 1 1 {NEVER}", "serve 1", "finish 1 0"], ["-:5:1: barrier packet 0 of queue 1 waits for any of no signals"], ["`poll 1 0`"], ["close 1"], "ok"),
     ("two lacks of an opening", [], ["queue alice gpu 3 1"], ["alice has no USE on agent gpu", "grant alice agent gpu USE\n", "3 slots and 1 producers are asked for\n"], [], [GRANTED[0], "queue alice gpu 4 1"], "queue 1"),
     ("two lacks of a read", [], ["read bob 0000000100000000 65537"], ["65537 are asked for\n", "bob has no READ on region buf", "grant bob region buf READ\n"], [], ["grant bob region buf READ", "read bob 0000000100000000 1"], "bytes 00"),
     ("a size alone", [], [GRANTED[0], "queue alice gpu 3 1"], ["3 slots and 1 producers are asked for\n"], ["USE"], [], None),
     ("a right that a call lacks", [], ["load alice go"], ["this line mends it, before it or before it once more:\ngrant alice signal go WAIT\n"], [], ["grant alice signal go WAIT", "load alice go"], "value 1"),
     ("what goes on behind a denial", [], [*GRANTED, f"submit 1 1 {NAMES['COPY']}", "serve 1"], ["behind it queue 1 launches nothing more: mend it, open another by `queue alice gpu SIZE PRODUCERS`, and submit it there\n"], [], ["grant alice region buf READ,WRITE", "grant alice signal done CHANGE", "queue alice gpu 2 1", f"submit 2 1 {NAMES['COPY']}", "serve 2"], "launched 0"),
     ("two rights on a region", [], [*GRANTED, f"submit 1 1 {NAMES['COPY']}", "serve 1"], ["alice has no READ on region buf", "alice has no WRITE on region buf", "\ngrant alice region buf READ,WRITE\n"], ["buf READ\n", "buf WRITE\n"], [], None),
-    ("a signal twice", [], [*GRANTED, "submit 1 1 0300000000000000" + "0200000000000000" * 2 + "0" * 80, "serve 1"], ["grant alice signal go WAIT\n"], ["go WAIT\nline 4: alice has no WAIT on signal go"], [], None),
+    ("a signal twice", [], [*GRANTED, "submit 1 1 0300000000000000" + "0200000000000000" * 2 + "0" * 80, "serve 1"], ["grant alice signal go WAIT\n"], ["go WAIT\n-:4:1: alice has no WAIT on signal go"], [], None),
     ("a kernel that isn't declared", [], [*PRELUDE, f"submit 1 1 {NAMES['KERNEL_99']}", "serve 1"], ["alice has no LAUNCH on kernel 99, which the policy doesn't declare\n", "name an object of the policy; it has inc, spin\n"], ["declare, which"], [], None),
     ("a block behind its region", [], [*PRELUDE, f"submit 1 1 {KERNEL[:80]}2000000002000000{KERNEL[96:]}", "serve 1"], ["the 8 bytes from 0000000200000020 on begin behind region args (0000000200000000 to 000000020000000f)\n"], ["don't end in"], [], None),
     ("a dispatch that ran", [], [*LAUNCHED, "run 1 0", "revoke alice region buf WRITE"], ["a packet in flight holds WRITE on region buf", "packet 0 of queue 1 is in flight, and all its groups ran: `finish 1 0`\n"], ["`run 1 0`"], ["finish 1 0", "revoke alice region buf WRITE"], "ok"),
@@ -177,19 +179,19 @@ WALKED = [
     ("a signal that came to 0", [], [*HELD, "signal alice go store 0", "finish 1 0"], ["it waits for signal go, whose value is 0: the next `poll` sees that\n", "it waits for signal done, whose value is 1\n"], [], [], None),
     ("a pending barrier packet", [], [*HELD, "poll 1 0"], ["it waits for signal done, whose value is 1\n", "it waits for signal go, whose value is 1\n"], [], ["signal alice go store 0", "signal alice done store 0", "poll 1 0"], "ready"),
     ("a dispatch that is done", [], [*LAUNCHED, "run 1 0", "run 1 0"], ["all groups of packet 0 of queue 1 ran before: `finish 1 0` is left\n"], [], ["finish 1 0"], "ok"),
-    ("what a drain left", ["--readable"], [*PRELUDE, "all-of 1 1 go", "drain"], ["line 9: it waits for signal go, whose value is 1\n"], [], ["signal alice go store 0", "drain 1"], "drained launched 0 denied 0 ran 0 faulted 0 ready 1 failed 0 finished 1 waiting 0"),
-    ("bytes of a readable write", ["--readable"], ["write alice buf 0"], ["`0`, word 4, isn't understood", "it has 1 digit, and a byte has 2\n"], ["`buf`"], [], None),
-    ("no length of a readable read", ["--readable"], ["read alice buf"], ["it has 3 words, and its form 4\n"], ["`buf`"], [], None),
+    ("what a drain left", ["--readable"], [*PRELUDE, "all-of 1 1 go", "drain"], ["-:9:1: it waits for signal go, whose value is 1\n"], [], ["signal alice go store 0", "drain 1"], "drained launched 0 denied 0 ran 0 faulted 0 ready 1 failed 0 finished 1 waiting 0"),
+    ("bytes of a readable write", ["--readable"], ["write alice buf 0"], ["-:1:17: `0`, word 4, isn't understood", "; it has 1 digit, and a byte has 2; "], ["`buf`"], [], None),
+    ("no length of a readable read", ["--readable"], ["read alice buf"], ["-:1:15: it has 3 words, and its form 4; "], ["`buf`"], [], None),
     ("a length in letters of a readable read", ["--readable"], ["read alice buf four"], ["`four`, word 4, isn't understood: there stands a decimal number"], ["`buf`"], [], None),
     *[(f"a readable line: {line}", [], [line], [f"`{line.split()[0]}` begins a readable line: `brokerd run --readable` takes it\n"], ["nearest"], [], None) for line in ("fill 1 1 buf length 4 with 1", "copy 1 1 buf to buf length 4", "add 1 1 1 to buf", "drain", "drain 1", "all-of 1 1", "any-of 1 1 go", "dispatch alice 1 1 inc grid 4 group 2")],
     ("a region's name", [], ["read alice buf 4"], ["`buf`, word 3, isn't understood", "`brokerd run --readable` takes a region's name there too"], [], [], None),
-    *[(f"{word} as a line", [], [word], [f"`{word}` is no word that a line begins with\n", told], ["nearest"], [], None) for word, told in (("quit", "it ends where its lines do, at a prompt by `quit` or Ctrl-D"), ("exit", "it ends where its lines do"), ("why", "`--explain` tells why"), ("help", "`brokerd explain lines`, lists the forms of lines"), ("?", "`brokerd explain lines`"), ("state", "`list CLIENT`, `errors Q`"), ("xyzzy", "`brokerd explain lines`"))],
-    ("the digits of a packet", [], [f"submit 1 1 {FILL[:-1]}"], ["it has 127 digits, and 128 are wanted\n"], [], [], None),
-    ("a strange digit of a packet", [], [f"submit 1 1 {FILL[:-1]}z"], ["of its 128 characters, number 128, `z`, is no hexadecimal digit\n"], [], [], None),
-    ("the digits of an address", [], ["read alice 00000001000000 8"], ["it has 14 digits, and 16 are wanted\n"], [], [], None),
-    ("a number past 64 bits", [], ["run 1 18446744073709551616"], ["it is past 64 bits: 18446744073709551615 is the most\n"], [], [], None),
-    ("a number past 64 bits with a sign", [], ["signal alice done add -99999999999999999999"], ["it is past 64 bits: -9223372036854775808 is the least, and 9223372036854775807 the most\n"], [], [], None),
-    ("one word", [], ["grant"], ["it has 1 word, and its form 5\n"], [], [], None),
+    *[(f"{word} as a line", [], [word], [f"-:1:1: `{word}` is no word that a line begins with; ", told], ["nearest"], [], None) for word, told in (("quit", "it ends where its lines do, at a prompt by `quit` or Ctrl-D"), ("exit", "it ends where its lines do"), ("why", "`--explain` tells why"), ("help", "`brokerd explain lines`, lists the forms of lines"), ("?", "`brokerd explain lines`"), ("state", "`list CLIENT`, `errors Q`"), ("xyzzy", "`brokerd explain lines`"))],
+    ("the digits of a packet", [], [f"submit 1 1 {FILL[:-1]}"], ["; it has 127 digits, and 128 are wanted; "], [], [], None),
+    ("a strange digit of a packet", [], [f"submit 1 1 {FILL[:-1]}z"], ["; of its 128 characters, number 128, `z`, is no hexadecimal digit; "], [], [], None),
+    ("the digits of an address", [], ["read alice 00000001000000 8"], ["; it has 14 digits, and 16 are wanted; "], [], [], None),
+    ("a number past 64 bits", [], ["run 1 18446744073709551616"], ["; it is past 64 bits: 18446744073709551615 is the most; "], [], [], None),
+    ("a number past 64 bits with a sign", [], ["signal alice done add -99999999999999999999"], ["it is past 64 bits: -9223372036854775808 is the least, and 9223372036854775807 the most; "], [], [], None),
+    ("one word", [], ["grant"], ["-:1:6: it has 1 word, and its form 5; "], [], [], None),
 ]
 
 # Lines of no form.
@@ -206,83 +208,83 @@ BAD = [
     ("operation", "signal alice done increase 1", ["`increase`, word 4", "store, add"]),
     ("swap", "signal alice done cas 1", ["it has 5 words, and its form 6", "cas EXPECTED V"]),
     ("condition", "test alice done == 1", ["`==`, word 4", "EQ, NE, LT or GTE"]),
-    ("no further policy", "reload 1", ["the command line names no further policy: `brokerd run POLICY NEXT` does\n", "the form is `reload N`"]),
+    ("no further policy", "reload 1", ["-:2:8: the command line names no further policy: `brokerd run POLICY NEXT` does; the form is `reload N`\n"]),
     ("no number of one", "reload x", ["`x`, word 2, isn't understood", "the form is `reload N`"]),
-    ("words after rotate", "rotate x", ["it has 2 words, and its form 1\n", "the form is `rotate`\n"]),
-    ("words after audit", "audit 1", ["it has 2 words, and its form 1\n", "the form is `audit`\n"]),
-    ("the form that fits best", "signal alice done cas 1 2 3", ["it has 7 words, and its form 6\n", "cas EXPECTED V"]),
+    ("words after rotate", "rotate x", ["-:2:8: it has 2 words, and its form 1; the form is `rotate`\n"]),
+    ("words after audit", "audit 1", ["-:2:7: it has 2 words, and its form 1; the form is `audit`\n"]),
+    ("the form that fits best", "signal alice done cas 1 2 3", ["-:2:27: it has 7 words, and its form 6; ", "cas EXPECTED V"]),
     ("value", "signal alice done add 9223372036854775808", ["`9223372036854775808`, word 5"]),
     ("long", "#" * 16385, ["over 16384 bytes"]),
 ]
 
 # Faults of policies, and where they lie.
 POLICIES = [
-    ("1 NotToml", b'version = 1\n[[client]]\nname = "a\n', [", line 3, column", "^"]),
+    ("1 NotToml", b'version = 1\n[[client]]\nname = "a\n', [":3:"]),
     ("1 of no text", b"\xff", ["isn't text in UTF-8"]),
-    ("2 MissingKey", b'[[client]]\nname = "a"\n[[agent]]\nname = "b"\n', [", line 3: the row has no `takes`"]),
-    ("3 BadValue", b'[[region]]\nname = "buf"\nlength = 0\n', [", line 3, column 10: `length` is 0, and there may stand a number of bytes"]),
-    ("3 of a name", b'[[client]]\nname = "a b"\n', [", line 2, column 8: `name` is `a b`"]),
-    ("3 of a key", b'[[client]]\nname = "a"\nage = 1\n', [", line 3, column 1: the key `age` is none", "it has name"]),
-    ("3 of the file", b'versions = 1\n', [", line 1, column 1: the key `versions` is none that a policy has"]),
-    ("3 of a key in brackets", b'client = [{name = "a", age = 1}]\n', [", line 1, column 24: the key `age` is none"]),
+    ("2 MissingKey", b'[[client]]\nname = "a"\n[[agent]]\nname = "b"\n', [":3:1: the row has no `takes`"]),
+    ("3 BadValue", b'[[region]]\nname = "buf"\nlength = 0\n', [":3:10: `length` is 0, and there may stand a number of bytes"]),
+    ("3 of a name", b'[[client]]\nname = "a b"\n', [":2:8: `name` is `a b`"]),
+    ("3 of a key", b'[[client]]\nname = "a"\nage = 1\n', [":3:1: the key `age` is none", "it has name"]),
+    ("3 of the file", b'versions = 1\n', [":1:1: the key `versions` is none that a policy has"]),
+    ("3 of a key in brackets", b'client = [{name = "a", age = 1}]\n', [":1:24: the key `age` is none"]),
     ("4 of no rows", b'[[client]]\nname = "a"\n[[allow]]\nclient = "a"\nkind = "agent"\nobject = "g"\nrights = []\n', ["no row of `agent` has the name `g`; there is no such row\n"]),
-    ("3 of the version", b'version = 3\n', [", line 1, column 11: `version` is 3, and there may stand 1, or 2"]),
+    ("3 of the version", b'version = 3\n', [":1:11: `version` is 3, and there may stand 1, or 2"]),
     ("3 of deny rows", b'deny = []\n', ["`version = 2`"]),
-    ("3 of an array", b'client = 1\n', [", line 1, column 10: `client` has to be an array of rows"]),
+    ("3 of an array", b'client = 1\n', [":1:10: `client` has to be an array of rows"]),
     ("3 of rights", b'[[allow]]\nclient = "*"\nkind = "agent"\nobject = "*"\nrights = ["READ"]\n', ["`rights` is an array of `READ`", "USE on agents"]),
-    ("4 UnknownName", b'[[client]]\nname = "a"\n[[allow]]\nclient = "b"\nkind = "agent"\nobject = "*"\nrights = []\n', [", line 4, column 10: no row of `client` has the name `b`; they have a"]),
+    ("4 UnknownName", b'[[client]]\nname = "a"\n[[allow]]\nclient = "b"\nkind = "agent"\nobject = "*"\nrights = []\n', [":4:10: no row of `client` has the name `b`; they have a"]),
     ("4 of an object", b'[[client]]\nname = "a"\n[[allow]]\nclient = "a"\nkind = "agent"\nobject = "g"\nrights = []\n', ["no row of `agent` has the name `g`"]),
-    ("5 DoubleName", b'[[client]]\nname = "a"\n[[client]]\nname = "a"\n', [", line 4, column 8: row 1 of `client` has the name `a` already"]),
+    ("5 DoubleName", b'[[client]]\nname = "a"\n[[client]]\nname = "a"\n', [":4:8: row 1 of `client` has the name `a` already"]),
     ("6 TooMany", b'[[agent]]\nname = "a%d"\ntakes = []\n', ["`agent` has 17 rows, and may have 16 at the most"]),
     ("6 of bytes", b"#" * ((1 << 20) + 1), ["over 1048576 bytes"]),
     ("6 of regions", b'[[region]]\nname = "r%d"\nlength = 16777216\n', ["longer than 67108864 bytes together"]),
-    ("read", b"[[kernel]]\nname = \"k\"\nentry = \"&k\"\ntext = '''\nmodule &m:1:0:$base:$large:$default;\nkernel &k() { nop; };\n'''\n", [", line 6, column 15: kernel k, in its text:", "read 3 line 2 column 15", "kernel &k() { nop; };", "^^^"]),
-    ("read in one line", b"[[kernel]]\nname = \"k\"\nentry = \"&k\"\ntext = 'module &m:1:0:$base:$large:$default; kernel &k() { nop; };'\n", [", line 4, column 60: kernel k, in its text:", "read 3 line 1 column 52"]),
-    ("read after an escape", b"[[kernel]]\nname = \"k\"\nentry = \"&k\"\ntext = \"module &m:1:0:$base:$large:$default;\\n kernel &k() { ret };\"\n", [", line 4, column 8: kernel k, in its text:", "read 2 line 2 column 20", ", line 4, column 8: in line 2 of the text, a `;` is missing here\n"]),
+    ("read", b"[[kernel]]\nname = \"k\"\nentry = \"&k\"\ntext = '''\nmodule &m:1:0:$base:$large:$default;\nkernel &k() { nop; };\n'''\n", [":6:15: kernel k, in its text: NotInProfile: ", "read 3 line 2 column 15"]),
+    ("read in one line", b"[[kernel]]\nname = \"k\"\nentry = \"&k\"\ntext = 'module &m:1:0:$base:$large:$default; kernel &k() { nop; };'\n", [":4:60: kernel k, in its text:", "read 3 line 1 column 52"]),
+    ("read after an escape", b"[[kernel]]\nname = \"k\"\nentry = \"&k\"\ntext = \"module &m:1:0:$base:$large:$default;\\n kernel &k() { ret };\"\n", [":4:8: kernel k, in its text: in line 2 of it, Syntax: no module goes on with this token; a `;` is missing here\n", "read 2 line 2 column 20"]),
     ("read to its end", b"[[kernel]]\nname = \"k\"\nentry = \"&k\"\ntext = '''\nmodule &m:1:0:$base:$large:$default;\nkernel &k() {\n'''\n", ["the text ends here, and its module doesn't: a kernel ends with `};`\n"]),
     ("read of nothing", b"[[kernel]]\nname = \"k\"\nentry = \"&k\"\ntext = ''\n", ["the text is empty: a module begins with `module &NAME:1:0:$base:$large:$default;`\n"]),
-    ("3 in brackets", b'client = [{name = "a"}, {name = "b c"}]\n', [", line 1, column 33: `name` is `b c`"]),
-    ("3 in brackets of lines", b'version = 1\nclient = [ # those\n  {name = "a"},\n  {"name" = "b c"},\n]\n', [", line 4, column 13: `name` is `b c`"]),
-    ("3 of an array in brackets", b'agent = [{name = "a", takes = ["kernel"]}, {name = "b", takes = ["kernels"]}]\n', [", line 1, column 65: `takes` is an array of `kernels`"]),
-    ("2 in brackets", b'client = [{name = "a"}]\nagent = [{name = "g", takes = []}, {takes = []}]\n', [", line 2, column 36: the row has no `name`"]),
-    ("4 in brackets", b'client = [{name = "a"}]\nallow = [{client = "b", kind = "agent", object = "*", rights = []}]\n', [", line 2, column 20: no row of `client` has the name `b`"]),
-    ("5 in brackets", b'client = [{name = "a"}, {name = "a"}]\n', [", line 1, column 33: row 1 of `client` has the name `a` already"]),
-    ("3 after a text with brackets", b"[[kernel]]\nname = \"k\"\nentry = \"&k\"\ntext = '''\n[[client]]\nname = 1\n'''\n[[client]]\nname = \"b c\"\n", [", line 9, column 8: `name` is `b c`"]),
-    ("3 of a quoted key", b'[[ "client" ]]\n"name" = "a b"\n', [", line 2, column 10: `name` is `a b`"]),
-    ("check", b"[[kernel]]\nname = \"k\"\nentry = \"&k\"\ntext = '''\nmodule &m:1:0:$base:$large:$default;\nkernel &k() {\n  br @x;\n};\n'''\n", ["kernel k, in its text:", "check 1 line 3", "br @x;"]),
+    ("3 in brackets", b'client = [{name = "a"}, {name = "b c"}]\n', [":1:33: `name` is `b c`"]),
+    ("3 in brackets of lines", b'version = 1\nclient = [ # those\n  {name = "a"},\n  {"name" = "b c"},\n]\n', [":4:13: `name` is `b c`"]),
+    ("3 of an array in brackets", b'agent = [{name = "a", takes = ["kernel"]}, {name = "b", takes = ["kernels"]}]\n', [":1:65: `takes` is an array of `kernels`"]),
+    ("2 in brackets", b'client = [{name = "a"}]\nagent = [{name = "g", takes = []}, {takes = []}]\n', [":2:36: the row has no `name`"]),
+    ("4 in brackets", b'client = [{name = "a"}]\nallow = [{client = "b", kind = "agent", object = "*", rights = []}]\n', [":2:20: no row of `client` has the name `b`"]),
+    ("5 in brackets", b'client = [{name = "a"}, {name = "a"}]\n', [":1:33: row 1 of `client` has the name `a` already"]),
+    ("3 after a text with brackets", b"[[kernel]]\nname = \"k\"\nentry = \"&k\"\ntext = '''\n[[client]]\nname = 1\n'''\n[[client]]\nname = \"b c\"\n", [":9:8: `name` is `b c`"]),
+    ("3 of a quoted key", b'[[ "client" ]]\n"name" = "a b"\n', [":2:10: `name` is `a b`"]),
+    ("check", b"[[kernel]]\nname = \"k\"\nentry = \"&k\"\ntext = '''\nmodule &m:1:0:$base:$large:$default;\nkernel &k() {\n  br @x;\n};\n'''\n", [":7:3: kernel k, in its text: UnknownLabel: the kernel has no label of this name\n", "check 1 line 3"]),
 ]
 
 # Kernels' texts that are refused, one of each cause: where its line 3 stands, or the whole text, and what is told.
 KERNELS = [
-    ("read 1 Lexeme", "  mov_b32 $s0, #;", ["read 1 line 3 column 16", "mov_b32 $s0, #;", "^"]),
-    ("read 2 Syntax", "  mov_b32 $s0 1;", ["read 2 line 3 column 15", "mov_b32 $s0 1;", "^"]),
-    ("read 3 NotInProfile", "  ld_global_f32 $s0, [$d0];", ["read 3 line 3 column 3", "ld_global_f32 $s0, [$d0];", "^^^^^^^^^^^^^"]),
+    ("read 1 Lexeme", "  mov_b32 $s0, #;", ["read 1 line 3 column 16", ":7:16: kernel k, in its text: Lexeme: no token begins here\n"]),
+    ("read 2 Syntax", "  mov_b32 $s0 1;", ["read 2 line 3 column 15", ":7:15: kernel k, in its text: Syntax: no module goes on with this token\n"]),
+    ("read 3 NotInProfile", "  ld_global_f32 $s0, [$d0];", ["read 3 line 3 column 3", ":7:3: kernel k, in its text: NotInProfile: this word is in no row of the profile; `ld_global_f32` works on floating numbers"]),
     ("read 4 TooLong", "/*" + "x" * (1 << 16) + "*/", ["read 4 line 1 column 1"]),
-    ("check 1 UnknownLabel", "  br @x;", ["check 1 line 3", "br @x;"]),
-    ("check 2 DoubleName", "@x: @x: ret;", ["check 2 line 3", "@x: @x: ret;"]),
-    ("check 3 WrongRegister", "  mov_b64 $s0, 1;", ["check 3 line 3", "mov_b64 $s0, 1;"]),
-    ("check 4 WrongType", "  ld_kernarg_u64 $d0, [%a];", ["check 4 line 3", "ld_kernarg_u64 $d0, [%a];"]),
-    ("check 5 UnknownArgument", "  ld_kernarg_u32 $s0, [%q];", ["check 5 line 3", "ld_kernarg_u32 $s0, [%q];"]),
-    ("check 6 TooLarge", "  mov_b32 $s64, 1;", ["check 6 line 3", "mov_b32 $s64, 1;"]),
-    ("a register's number", "  mov_b32 $s99, 1;", ["check 6 line 3", ", line 7, column 3: `$s99`: the number of a register is 63 at the most\n"]),
-    ("a register's number in brackets", "  ld_global_u32 $s0, [$d64+4];", [": `$d64`: the number of a register is 63 at the most\n"]),
-    ("a constant", "  mov_b32 $s0, 4294967296;", [": `4294967296`: a number of 32 bits is -2147483648 to 4294967295\n"]),
-    ("a negative constant", "  mov_b64 $d0, -9223372036854775809;", [": `-9223372036854775809`: a number of 64 bits is -9223372036854775808 to 18446744073709551615\n"]),
-    ("a dimension", "  workitemid_u32 $s0, 3;", [": `3`: a dimension is 2 at the most\n"]),
-    ("instructions", "  ret;\n" * 4097, ["check 6 line 4099", ", line 4103, column 3: a kernel has 4096 instructions at the most\n"]),
-    ("group variables", "  group_u32 %g[16385];", [": the group variables of a kernel take 65536 bytes at the most\n"]),
-    ("arguments", "};\nkernel &l(" + ",\n".join(f"kernarg_u64 %a{at}" for at in range(513)) + ") {", ["check 6 line 516", ": the arguments of a kernel take 4096 bytes at the most\n"]),
-    ("kernels", "};\n" + "".join(f"kernel &k{at}() {{ }};\n" for at in range(63)) + "kernel &last() {", ["check 6 line 67", ": a module has 64 kernels at the most\n"]),
-    ("a missing ;", "  mov_b32 $s0, 1", ["read 2 line 4 column 1", ", line 7, column 17: a `;` is missing here\n"]),
-    ("a missing ; before a remark", "  mov_b32 $s0, 1 // one; two\n\n  ret;", ["read 2 line 5 column 3", ", line 7, column 17: a `;` is missing here\n"]),
-    ("a missing ; in a line", "  mov_b32 $s0, 1 mov_b32 $s1, 2;", [", line 7, column 17: a `;` is missing here\n"]),
-    ("a floating number", "  mov_b32 $s0, 1.5;", ["read 1 line 3", ", line 7, column 16: `1.5` is a floating number, and the profile has none\n"]),
-    ("bits of one", "  mov_b32 $s0, 0f3f800000;", [", line 7, column 16: `0f3f800000` is a floating number, and the profile has none\n"]),
+    ("check 1 UnknownLabel", "  br @x;", ["check 1 line 3", ":7:3: kernel k, in its text: UnknownLabel: "]),
+    ("check 2 DoubleName", "@x: @x: ret;", ["check 2 line 3", ":7:1: kernel k, in its text: DoubleName: "]),
+    ("check 3 WrongRegister", "  mov_b64 $s0, 1;", ["check 3 line 3", "kernel k, in its text: WrongRegister: ", "; `$s0`: what has 64 bits"]),
+    ("check 4 WrongType", "  ld_kernarg_u64 $d0, [%a];", ["check 4 line 3", ":7:3: kernel k, in its text: WrongType: "]),
+    ("check 5 UnknownArgument", "  ld_kernarg_u32 $s0, [%q];", ["check 5 line 3", ":7:3: kernel k, in its text: UnknownArgument: "]),
+    ("check 6 TooLarge", "  mov_b32 $s64, 1;", ["check 6 line 3", ":7:3: kernel k, in its text: TooLarge: "]),
+    ("a register's number", "  mov_b32 $s99, 1;", ["check 6 line 3", ":7:3: kernel k, in its text: ", "; `$s99`: the number of a register is 63 at the most\n"]),
+    ("a register's number in brackets", "  ld_global_u32 $s0, [$d64+4];", ["; `$d64`: the number of a register is 63 at the most\n"]),
+    ("a constant", "  mov_b32 $s0, 4294967296;", ["; `4294967296`: a number of 32 bits is -2147483648 to 4294967295\n"]),
+    ("a negative constant", "  mov_b64 $d0, -9223372036854775809;", ["; `-9223372036854775809`: a number of 64 bits is -9223372036854775808 to 18446744073709551615\n"]),
+    ("a dimension", "  workitemid_u32 $s0, 3;", ["; `3`: a dimension is 2 at the most\n"]),
+    ("instructions", "  ret;\n" * 4097, ["check 6 line 4099", ":4103:3: kernel k, in its text: ", "; a kernel has 4096 instructions at the most\n"]),
+    ("group variables", "  group_u32 %g[16385];", ["; the group variables of a kernel take 65536 bytes at the most\n"]),
+    ("arguments", "};\nkernel &l(" + ",\n".join(f"kernarg_u64 %a{at}" for at in range(513)) + ") {", ["check 6 line 516", "; the arguments of a kernel take 4096 bytes at the most\n"]),
+    ("kernels", "};\n" + "".join(f"kernel &k{at}() {{ }};\n" for at in range(63)) + "kernel &last() {", ["check 6 line 67", "; a module has 64 kernels at the most\n"]),
+    ("a missing ;", "  mov_b32 $s0, 1", ["read 2 line 4 column 1", ":7:17: kernel k, in its text: ", "; a `;` is missing here\n"]),
+    ("a missing ; before a remark", "  mov_b32 $s0, 1 // one; two\n\n  ret;", ["read 2 line 5 column 3", ":7:17: kernel k, in its text: ", "; a `;` is missing here\n"]),
+    ("a missing ; in a line", "  mov_b32 $s0, 1 mov_b32 $s1, 2;", [":7:17: kernel k, in its text: ", "; a `;` is missing here\n"]),
+    ("a floating number", "  mov_b32 $s0, 1.5;", ["read 1 line 3", ":7:16: kernel k, in its text: ", "; `1.5` is a floating number, and the profile has none\n"]),
+    ("bits of one", "  mov_b32 $s0, 0f3f800000;", [":7:16: kernel k, in its text: ", "; `0f3f800000` is a floating number, and the profile has none\n"]),
     ("one with an exponent", "  mov_b32 $s0, 1e5;", ["`1e5` is a floating number, and the profile has none\n"]),
-    ("work on floating numbers", "  add_f32 $s0, $s0, $s0;", ["read 3 line 3", ", line 7, column 3: `add_f32` works on floating numbers, and the profile has none\n"]),
-    ("the register of another class", "  mov_b32 $s1, $d12;", [", line 7, column 16: `$d12`: what has 32 bits here lies in a register `$s`\n"]),
-    ("the register of 1 bit", "  cbr_b1 $s1, @x;\n@x:", [", line 7, column 10: `$s1`: what has 1 bit here lies in a register `$c`\n"]),
-    ("check 7 BadAddress", "  ld_global_u32 $s0, [$s1];", ["check 7 line 3", "ld_global_u32 $s0, [$s1];"]),
+    ("work on floating numbers", "  add_f32 $s0, $s0, $s0;", ["read 3 line 3", ":7:3: kernel k, in its text: ", "; `add_f32` works on floating numbers, and the profile has none\n"]),
+    ("the register of another class", "  mov_b32 $s1, $d12;", [":7:16: kernel k, in its text: ", "; `$d12`: what has 32 bits here lies in a register `$s`\n"]),
+    ("the register of 1 bit", "  cbr_b1 $s1, @x;\n@x:", [":7:10: kernel k, in its text: ", "; `$s1`: what has 1 bit here lies in a register `$c`\n"]),
+    ("check 7 BadAddress", "  ld_global_u32 $s0, [$s1];", ["check 7 line 3", ":7:3: kernel k, in its text: BadAddress: the segment has no such form of address\n"]),
 ]
 
 
@@ -405,7 +407,7 @@ def policies(trials, explained, room):
         with open(path, "w") as file:
             file.write('[[client]]\nname = "carol"\n')
         ended = run([explained.program, "run", SAMPLE, path, "--explain"], text(["reload 1"]))
-        told = b"declares other clients or objects than the first" in ended.err and f"{path}, line 2, column 8: client 1 is carol, and alice in the first policy\n" in ended.err.decode()
+        told = b"declares other clients or objects than the first" in ended.err and f"{path}:2:8: client 1 is carol, and alice in the first policy\n" in ended.err.decode()
         return None if ended.out == b"refused 16 OtherObjects\n" and told else f"{ended}"
 
     trials.every("a policy that declares others is told", others, [0])
@@ -422,15 +424,15 @@ def policies(trials, explained, room):
         value = place + (new.index(" = ") + 3 if new.startswith(("length", "initial", "takes", "entry")) else 0)
         line, column = changed.count("\n", 0, value) + 1, value - changed.rfind("\n", 0, value)
         ended = run([explained.program, "run", SAMPLE, SAMPLE, path, "--explain"], text(["reload 1", "reload 2"]))
-        wanted = f"{path}, line {line}, column {column}: {told}\n" if told.startswith("`") else told
+        wanted = f"{path}:{line}:{column}: {told}\n" if told.startswith("`") else told
         return None if ended.out == b"ok\nrefused 16 OtherObjects\n" and ended.err.decode().endswith(wanted) else f"{ended}"
 
     trials.every("the object, the key and the place of another further policy are told", named, [
         ("length = 16", "length = 17", "`length` of region args isn't that of the first policy"), ("initial = 1", "initial = -1", "`initial` of signal done isn't that of the first policy"),
         ('takes = ["kernel", "agent"]', 'takes = ["agent"]', "`takes` of agent gpu isn't that of the first policy"), ('entry = "&spin"', 'entry = "&spun"', "`entry` of kernel spin isn't that of the first policy"),
         ("br @a;", "br  @a;", ": `text` of kernel spin isn't that of the first policy\n"), ('[[signal]]\nname = "go"\ninitial = 1\n', "", ": signal 2, go, isn't declared here\n"),
-        ('[[signal]]\nname = "go"', '[[signal]]\nname = "x"\ninitial = 0\n[[signal]]\nname = "go"', ", column 8: signal 2 is x, and go in the first policy\n"),
-        ("[[kernel]]", '[[signal]]\nname = "x"\ninitial = 0\n[[kernel]]', ", column 8: signal 3, x, is none that the first policy has\n"),
+        ('[[signal]]\nname = "go"', '[[signal]]\nname = "x"\ninitial = 0\n[[signal]]\nname = "go"', ":8: signal 2 is x, and go in the first policy\n"),
+        ("[[kernel]]", '[[signal]]\nname = "x"\ninitial = 0\n[[kernel]]', ":8: signal 3, x, is none that the first policy has\n"),
     ])
 
     def reloaded(_):
@@ -439,7 +441,7 @@ def policies(trials, explained, room):
         with open(path, "w", encoding="utf-8") as file:
             file.write(sample.replace('rights = ["READ"]', "rights = []"))
         ended = run([explained.program, "run", SAMPLE, path, "--explain"], text(["grant bob region args READ", "reload 1", "grant bob region buf READ"]))
-        first, second = "line 1: no allow row of the policy covers READ on region args", f"line 3: no allow row of {path} covers READ on region buf"
+        first, second = "-:1:1: no allow row of the policy covers READ on region args", f"-:3:1: no allow row of {path} covers READ on region buf"
         return None if first in ended.err.decode() and second in ended.err.decode() else f"{ended}"
 
     trials.every("behind a reload the policy's file is named", reloaded, [0])
@@ -448,7 +450,7 @@ def policies(trials, explained, room):
         library = library_of("refuse.c", room)
         for at in range(1, 1000):
             ended = run([explained.program, "run", SAMPLE, "--explain"], text([*PRELUDE, "read alice 0000000100000000 8"]), {"LD_PRELOAD": library, "REFUSE_AT": str(at)})
-            if ended.out.endswith(b"refused 0 OutOfMemory\n") and b"line 8: memory was wanted and not to be had; all is as before" in ended.err:
+            if ended.out.endswith(b"refused 0 OutOfMemory\n") and b"-:8:1: memory was wanted and not to be had; all is as before" in ended.err:
                 return None
         return "no request of a read was refused, and told of"
 
@@ -457,7 +459,7 @@ def policies(trials, explained, room):
 
     def unread(command):
         told, wrong = explained.both(command, missing, [])
-        return wrong or explained.has(told, ["read fault\n", f"{missing}: there is no such file"])
+        return wrong or explained.has(told, ["read fault\n", f"{missing}:1:1: there is no such file"])
 
     trials.every("a policy that can't be read is named", unread, ["check", "run"])
 
@@ -545,7 +547,7 @@ def order(trials, explained):
         ran = subprocess.run(words, input=script, stdout=subprocess.PIPE, stderr=subprocess.STDOUT, timeout=DEADLINE)
         lines = ran.stdout.decode().split("\n")
         kinds = [re.sub(r"[: ].*", "", line) for line in lines if line]
-        wanted = ["list", "refused", "line", "line", "list", "refused", "line", "list"]
+        wanted = ["list", "refused", "-", "-", "list", "refused", "-", "list"]
         return None if kinds == wanted else f"{kinds}"
 
     trials.every("explanations stand behind their replies", trial, [0])
@@ -594,14 +596,15 @@ class Form:
     def wrong(self):
         """Lines with a fault, and what is told of each."""
         right, count, form = self.right(), len(self.words), f"the form is `{self.shown}`\n"
+        length = lambda words: len(" ".join(words))
         for at, of in enumerate(self.classes, 1):
             bad = WORDS[of][1] if of else None
             if bad:
-                yield [*right[:at], bad, *right[at + 1 :]], [f"`{bad[:32]}", f", word {at + 1}, isn't understood: there stands {of}\n", form]
-        yield [*right, "1"], [f"it has {count + 1} words, and its form {count}\n", form]
+                yield [*right[:at], bad, *right[at + 1 :]], [f"-:1:{length(right[:at]) + 2}: `{bad[:32]}", f", word {at + 1}, isn't understood: there stands {of}; ", form]
+        yield [*right, "1"], [f"-:1:{length(right) + 2}: it has {count + 1} words, and its form {count}; {form}"]
         if count > 1:
-            yield right[:-1], [f"it has {count - 1} word{'s' if count > 2 else ''}, and its form {count}\n", form]
-        yield [right[0] + "x", *right[1:]], [f"`{right[0]}x` is no word that a line begins with\n", f"the nearest form is `{right[0]}"]
+            yield right[:-1], [f"-:1:{length(right[:-1]) + 1}: it has {count - 1} word{'s' if count > 2 else ''}, and its form {count}; {form}"]
+        yield [right[0] + "x", *right[1:]], [f"-:1:1: `{right[0]}x` is no word that a line begins with; the nearest form is `{right[0]}"]
 
 
 def forms(trials, explained):
@@ -646,8 +649,39 @@ def later(trials, explained):
         ended = run([explained.program, "run", SAMPLE, *names, "--explain"], text(["reload 7"]))
         return explained.has(ended, words)
 
-    inputs = [([SAMPLE], ["names one further policy, number 1\n"]), ([SAMPLE] * 3, ["names 3 further policies, numbers 1 to 3\n"])]
+    inputs = [([SAMPLE], ["-:1:8: the command line names one further policy, number 1; "]), ([SAMPLE] * 3, ["names 3 further policies, numbers 1 to 3; "])]
     trials.every("the numbers of further policies are told", trial, inputs)
+
+
+def objects(trials, explained, room):
+    """With `--json` each explanation is an object that tells what the lines tell; replies stay as they are, and without the option none is explained."""
+
+    def trial(it):
+        policy, script, words = it
+        given = text(script)
+        told, made, plain = (run([explained.program, "run", policy, *words, *option], given) for option in (["--explain"], ["--explain", "--json"], ["--json"]))
+        if (made.status, made.out) != (plain.status, plain.out) or explanations(made.err) != explanations(told.err):
+            return f"{made}, and not {told}"
+        lines = [line for line in made.err.splitlines() if not re.fullmatch(rb"\{.*\}", line)]
+        bad = [line for line in plain.err.splitlines()]
+        return None if lines == bad[:1] and len(bad) in (0, 2) else f"{plain}, {made}"
+
+    path = f"{room}/objects.toml"
+    with open(path, "w") as policy:
+        policy.write(access_policy(*FAULTS[3][1:3]))
+    inputs = [(SAMPLE, script, []) for _, script, *_ in [*DENIED, *MENDED, *REFUSED]] + [(SAMPLE, it[2], it[1]) for it in WALKED] + [(SAMPLE, ["list bob", line], []) for _, line, _ in BAD]
+    trials.every("explanations as JSON tell what their lines tell", trial, [*inputs, (path, access_script(), [])])
+    odd = f'{room}/odd "name"\\.toml'
+
+    def checked(command):
+        with open(odd, "wb") as policy:
+            policy.write(b'[[client]]\nname = "a\tb"\n')
+        ended = run([explained.program, command, odd, "--json", "--explain"])
+        first, _, rest = ended.err.partition(b"\n")
+        wanted = {"file": odd, "line": 2, "column": 8, "cause": "`name` is `a?b`, and there may stand a name: 1 to 64 letters, digits, _ or -", "mends": [], "shown": []}
+        return None if (ended.status, ended.out, first) == (1, b"", b"policy: 3 BadValue client 1") and json.loads(rest) == wanted else f"{ended}"
+
+    trials.every("and so does the cause of a policy's fault", checked, ["check", "run"])
 
 
 def privacy(trials, explained):
@@ -671,7 +705,7 @@ def privacy(trials, explained):
 
 # The kinds of refusals, denials and faults for which lines are proposed, and whether such a line can mend them: a size is another line's.
 KINDS = {"refused 3 Denied": True, "refused 11 BadSize": False, **{f"rule {it}": True for it in ("L4", "L6", "L8", "L9", "L10", "A1", "A2")}}
-TOLD = re.compile(r"line (\d+): ")
+TOLD = re.compile(r"-:(\d+):\d+: ")
 
 
 class Proposed:
@@ -812,6 +846,7 @@ def main(program):
         policies(trials, explained, room)
         faults(trials, explained, room)
         proposals(trials, explained, room)
+        objects(trials, explained, room)
     cost(trials, explained)
     audit(trials, explained)
     order(trials, explained)

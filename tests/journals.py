@@ -15,7 +15,7 @@ import tempfile
 import against
 import commands
 import packed
-from trial import FILL, PRELUDE, SAMPLE, TOP, Ended, Trials, program_given, run, text
+from trial import FILL, PRELUDE, SAMPLE, TOP, Ended, Trials, program_given, run, run_whole, text
 
 import replay  # (tests/packed.py makes examples/ known)
 
@@ -234,14 +234,14 @@ def shown(trials, program, room):
     def told(name):
         """The entries of the audit in order, and behind each that failed just what the run tells of it, but for the line's number."""
         script = [it for it in scripts[name] if it != "audit"]
-        ran = run([program, "run", SAMPLE, "--explain"], text([*script, "audit"]))
+        ran = run_whole([program, "run", SAMPLE, "--explain"], text([*script, "audit"]))
         replies = ran.out.decode().splitlines()
         entries = replies[max(place for place, it in enumerate(replies) if it.startswith("audit ")) + 1 :]
         came = run([program, "explain", SAMPLE, "--journal", file_of(name)])
         lines = came.out.decode().splitlines()
         left = [it for it in lines if it in entries]
         why = [it for it in lines if it not in entries]
-        bare = lambda it: it.split(": ", 1)[1] if it.startswith("line ") else it
+        bare = lambda it: it.split(": ", 1)[1] if it.startswith(("entry ", "-:")) else it
         ran_why = [bare(it) for it in ran.err.decode().splitlines()]
         missing = [it for it in map(bare, why) if it not in ran_why]
         failures = sum(any(f" {word} " in f" {it} " for word in ("denied", "faulted", "failed")) for it in entries)

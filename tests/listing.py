@@ -7,7 +7,7 @@ import sys
 import tempfile
 import tomllib
 
-from trial import SAMPLE, TOP, Ended, Trials, run
+from trial import SAMPLE, TOP, Ended, Trials, run, run_whole
 
 KINDS = ("agent", "region", "signal", "kernel")
 RIGHTS = ("USE", "READ", "WRITE", "WAIT", "CHANGE", "LAUNCH")
@@ -129,8 +129,8 @@ def main(program):
         trials.every("a policy on standard input", typed, [[], ["--list"], ["--json"]])
         refused = lambda words: None if (it := run([program, "check", wrong, *words])) == run([program, "check", wrong]) and it.status == 1 else f"{it}"
         trials.every("a policy that is refused isn't listed", refused, [["--list"], ["--json"], ["--list", "--explain=never"]])
-        told = lambda words: None if (it := run([program, "check", wrong, *words])).status == 1 and f"{wrong}, line 2".encode() in it.err else f"{it}"
-        trials.every("and with --explain the line is told", told, [["--list", "--explain"], ["--json", "--explain=always"]])
+        told = lambda words: None if (it := run_whole([program, "check", wrong, *words])).status == 1 and f"{wrong}:2:8: ".encode() in it.err else f"{it}"
+        trials.every("and its cause told", told, [["--list"], ["--json"], ["--list", "--explain"]])
         absent = lambda words: None if (it := run([program, "check", f"{room}/nothing", *words])) == Ended(3, b"", b"read fault\n") else f"{it}"
         trials.every("a file that isn't there", absent, [["--list"], ["--json"]])
     trials.end()

@@ -7,7 +7,7 @@ import sys
 import tempfile
 import tomllib
 
-from trial import SAMPLE, TOP, Ended, Trials, program_given, run
+from trial import SAMPLE, TOP, Ended, Trials, program_given, run, run_whole
 
 with open(f"{TOP}/cases/inc.hsail", encoding="ascii") as it:
     INC = it.read()
@@ -123,36 +123,36 @@ def try_faults(trials, program, room):
         folder = fresh(room)
         path = write(folder, "making.toml", MAKING.format(row))
         write(folder, "inc.hsail", text)
-        ended, plain = (run([program, "embed", path, *option]) for option in (["--explain"], []))
+        ended, plain, quiet = (run_whole([program, "embed", path, *option]) for option in (["--explain"], [], ["--quiet"]))
         wanted = wanted.format(room=folder)
         first = wanted.split("\n")[0] + "\n" if wanted.startswith(("read fault", "policy: ", "kernel 2: ")) else ended.err.decode()
         well = ended.status == status and not ended.out and ended.err.decode().startswith(wanted)
-        return None if well and plain == Ended(status, b"", first.encode()) else f"it ended otherwise: {ended}, {plain}"
+        return None if well and plain == ended and quiet == Ended(status, b"", first.encode()) else f"it ended otherwise: {ended}, {plain}, {quiet}"
 
     named = ROW + 'text_file = "inc.hsail"\n'
     trials.every("a fault is told by its own file, line and column, and nothing is written", told, [
-        (named, BROKEN, 1, "{room}/inc.hsail, line 4, column 20: the kernel's text has a fault:\nread 2 line 4 column 20: Syntax"),
-        (named, LOST, 1, "{room}/inc.hsail, line 4, column 2: the kernel's text has a fault:\ncheck 1 line 4"),
-        (named, "", 1, "{room}/inc.hsail, line 1, column 1: the kernel's text has a fault:\nread 2 line 1 column 1"),
-        (named, INC.encode() + b"//\xff\n", 1, f"{{room}}/inc.hsail, line {len(INC.splitlines()) + 1}, column 3: this isn't UTF-8"),
-        (named, INC + "//" + "a" * 65_536, 1, "{room}/inc.hsail, line 1, column 1: the kernel's text has a fault:\nread 4 line 1 column 1: TooLong"),
-        (named + 'text = ""\n', INC, 1, "{room}/making.toml, line 10, column 13: the row has a `text` too"),
-        (ROW + "text_file = 7\n", INC, 1, "{room}/making.toml, line 10, column 13: `text_file` is a file's name in quotes\n"),
-        (ROW + 'text_file = "nothing"\n', INC, 3, "read fault\n{room}/nothing: there is no such file\n"),
-        (ROW + 'text_file = "."\n', INC, 3, "read fault\n{room}/.: it is a directory"),
-        (named + 'colour = "red"\n', INC, 1, "policy: 3 BadValue kernel 1\n{room}/making.toml, line 11, column 1: the key `colour` is none"),
-        (named + named.replace('"&inc"', "7"), INC, 1, "policy: 3 BadValue kernel 2\n{room}/making.toml, line 13, column 9: `entry` is 7"),
-        (named + "x = [", INC, 1, "policy: 1 NotToml\n{room}/making.toml, line "),
-        (named.replace("&inc", "&ink") + ROW.replace('"inc"', '"b"') + "text = '''\n" + BROKEN + "'''\n", INC, 1, "kernel 2: read 2 line 4 column 20\n{room}/making.toml, line 18, column 20: kernel b"),
+        (named, BROKEN, 1, "{room}/inc.hsail:4:20: the kernel's text has a fault: Syntax"),
+        (named, LOST, 1, "{room}/inc.hsail:4:2: the kernel's text has a fault: UnknownLabel"),
+        (named, "", 1, "{room}/inc.hsail:1:1: the kernel's text has a fault: Syntax: no module goes on with this token; the text is empty"),
+        (named, INC.encode() + b"//\xff\n", 1, f"{{room}}/inc.hsail:{len(INC.splitlines()) + 1}:3: this isn't UTF-8"),
+        (named, INC + "//" + "a" * 65_536, 1, "{room}/inc.hsail:1:1: the kernel's text has a fault: TooLong"),
+        (named + 'text = ""\n', INC, 1, "{room}/making.toml:10:13: the row has a `text` too"),
+        (ROW + "text_file = 7\n", INC, 1, "{room}/making.toml:10:13: `text_file` is a file's name in quotes\n"),
+        (ROW + 'text_file = "nothing"\n', INC, 3, "read fault\n{room}/nothing:1:1: there is no such file\n"),
+        (ROW + 'text_file = "."\n', INC, 3, "read fault\n{room}/.:1:1: it is a directory"),
+        (named + 'colour = "red"\n', INC, 1, "policy: 3 BadValue kernel 1\n{room}/making.toml:11:1: the key `colour` is none"),
+        (named + named.replace('"&inc"', "7"), INC, 1, "policy: 3 BadValue kernel 2\n{room}/making.toml:13:9: `entry` is 7"),
+        (named + "x = [", INC, 1, "policy: 1 NotToml\n{room}/making.toml:"),
+        (named.replace("&inc", "&ink") + ROW.replace('"inc"', '"b"') + "text = '''\n" + BROKEN + "'''\n", INC, 1, "kernel 2: read 2 line 4 column 20\n{room}/making.toml:18:20: kernel b"),
     ])
     path = write(room, "making.toml", MAKING.format(named.replace("&inc", "&ink")))
     write(room, "inc.hsail", INC)
-    entry = lambda it: None if (ended := run([program, "embed", it])).status == 0 and ended.err.decode() == f"{it}, line 9, column 9: kernel inc: its text has no kernel `&ink`\n" else f"{ended}"
+    entry = lambda it: None if (ended := run_whole([program, "embed", it])).status == 0 and ended.err.decode() == f"{it}:9:9: kernel inc: its text has no kernel `&ink`\n" else f"{ended}"
     trials.every("and which text has none of its entry's name, though it is written", entry, [path])
     latin = write(room, "latin.toml", b'[[client]]\nname = "\xe9"\n')
-    trials.every("a policy that isn't UTF-8 is told as check tells it", lambda it: None if run([program, "embed", "--explain", it]) == run([program, "check", "--explain", it]) else f"{run([program, 'embed', '--explain', it])}", [latin])
-    asked = lambda words: None if (ended := run([program, *words, path])).status == 1 and ended.err.decode() == "policy: 3 BadValue kernel 1\n" + (f"{path}, line 10, column 1: the key `text_file` is none that a row of `kernel` has; it has name, entry, text: `brokerd embed {path} > FILE` writes the policy with the text in its place\n" if "--explain" in words else "") else f"{ended}"
-    trials.every("where another command meets the key, what embeds it is told behind the fault", asked, [[it, *option] for it in ("check", "run", "picture", "replay", "assemble") for option in ([], ["--explain"])])
+    trials.every("a policy that isn't UTF-8 is told as check tells it", lambda it: None if run_whole([program, "embed", it]) == run_whole([program, "check", it]) else f"{run([program, 'embed', '--explain', it])}", [latin])
+    asked = lambda words: None if (ended := run_whole([program, *words, path])).status == 1 and ended.err.decode() == "policy: 3 BadValue kernel 1\n" + (f"{path}:10:1: the key `text_file` is none that a row of `kernel` has; it has name, entry, text: `brokerd embed {path} > FILE` writes the policy with the text in its place\n" if "--quiet" not in words else "") else f"{ended}"
+    trials.every("where another command meets the key, what embeds it is told behind the fault", asked, [[it, *option] for it in ("check", "run", "picture", "replay", "assemble") for option in ([], ["--explain"], ["--quiet"])])
 
 
 def try_policy(trials, program, room):
@@ -192,11 +192,11 @@ def try_policy(trials, program, room):
     trials.every("and each right may be granted", granted, [write(room, "begun.toml", run([program, "policy", f"{room}/inc.hsail"]).out)])
     from_input = lambda it: None if run([program, "policy", "-"], INC.encode()).out == run([program, "policy", it]).out.replace(f"# from {it}".encode(), b"# from -") else "it is another"
     trials.every("- is standard input", from_input, [f"{room}/inc.hsail"])
-    refused = lambda it: None if (ended := run([program, "policy", "--explain", *(f"{room}/{file}" for file in it[0])])).status == it[1] and not ended.out and ended.err.decode().startswith(it[2].format(room=room)) else f"{ended}"
+    refused = lambda it: None if (ended := run_whole([program, "policy", *(f"{room}/{file}" for file in it[0])])).status == it[1] and not ended.out and ended.err.decode().startswith(it[2].format(room=room)) else f"{ended}"
     trials.every("a fault is told by its file, line and column", refused, [
-        (["inc.hsail", "broken.hsail"], 1, "{room}/broken.hsail, line 4, column 20: the kernel's text has a fault:\nread 2 line 4 column 20: Syntax"),
-        (["none.hsail"], 1, "{room}/none.hsail, line 1, column 1: the text has no kernel\n"),
-        (["nothing"], 3, "read fault\n{room}/nothing: there is no such file\n"), (["inc.hsail"] * 65, 2, "error: "), ([], 2, "error: "),
+        (["inc.hsail", "broken.hsail"], 1, "{room}/broken.hsail:4:20: the kernel's text has a fault: Syntax"),
+        (["none.hsail"], 1, "{room}/none.hsail:1:1: the text has no kernel\n"),
+        (["nothing"], 3, "read fault\n{room}/nothing:1:1: there is no such file\n"), (["inc.hsail"] * 65, 2, "error: "), ([], 2, "error: "),
         (["two.hsail"] * 64, 1, "policy: 6 TooMany kernel 0\n"),
     ])
 

@@ -15,13 +15,13 @@ import tempfile
 import commands
 from leaks import MODEL, MODULES, Model
 from leaks_scripts import made_script, policies
-from readable import replies, same_as_text
-from trial import PRELUDE, SAMPLE, Trials, program_given, run, text
+from readable import explanations, replies, same_as_text
+from trial import PRELUDE, SAMPLE, Trials, program_given, run, run_whole, text
 
 # how many scripts of each form are made at random
 COUNT = 100
 # the options of a run that change neither what is asked nor what is replied, but for its form and its end
-OPTIONS = ("--strict", "--readable", "--json", "--explain", "--audit", "--journal")
+OPTIONS = ("--strict", "--readable", "--json", "--explain", "--quiet", "--audit", "--journal")
 
 
 def words_of(options, journal):
@@ -50,7 +50,7 @@ class Manners:
         """A run with some options, and its journal."""
         self.journals += 1
         journal = f"{self.room}/{self.name}-{self.journals}.journal"
-        ended = run([self.program, "run", *self.policy, *words_of(options, journal)], text(self.lines))
+        ended = run_whole([self.program, "run", *self.policy, *words_of(options, journal)], text(self.lines))
         if "--journal" not in options:
             return ended, None
         with open(journal, "rb") as it:
@@ -67,7 +67,7 @@ class Manners:
         """What is wrong with a run with some options."""
         ended, journal = self.run(options)
         wanted, written = self.plain(is_readable, "--strict" in options, "--explain" in options)
-        if (ended.status, ended.err) != (wanted.status, wanted.err):
+        if (ended.status, explanations(ended.err)) != (wanted.status, explanations(wanted.err)):
             return f"it ended otherwise: {ended}, and not {wanted}"
         if journal is not None and journal != written:
             return "the journal differs"

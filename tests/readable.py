@@ -12,7 +12,7 @@ import sys
 import tempfile
 
 from commands import FORMS, GROUPS, KERNELS, READABLE, ROTATIONS, TYPED
-from trial import PRELUDE, SAMPLE, TOP, Ended, Trials, run, text
+from trial import PRELUDE, SAMPLE, TOP, Ended, Trials, run, run_whole, text
 
 KIND_OF = {"true": "test", "false": "test"}
 
@@ -74,6 +74,20 @@ def same_as_text(reply, told):
     return None if wanted == numbers else f"{reply}: {wanted} and not {numbers}"
 
 
+def explanations(err):
+    """What standard error tells: each line that is prescribed, and each explanation, in lines or as an object: its first line, the lines that mend it, and those of a kernel's text."""
+    found = []
+    for line in err.decode().splitlines():
+        if line.startswith("{"):
+            it = json.loads(line)
+            found.append((f"{it.pop('file')}:{it.pop('line')}:{it.pop('column')}: {it.pop('cause')}", it.pop("mends"), it.pop("shown"), *it))
+        elif found and re.match("grant |  ", line):
+            found[-1][1 if line.startswith("grant ") else 2].append(line)
+        else:
+            found.append((line, [], []))
+    return found
+
+
 def packet_line(it):
     """The line that tells what came of a packet, by its object."""
     what = {"kernel": f" kernel {it.get('kernel')}", None: ""}.get(it.get("kind"), f" {it.get('kind')}")
@@ -105,9 +119,9 @@ def told_as_json(trials, program):
     def trial(it):
         words, lines = it
         given = text(lines)
-        plain = run([program, "run", SAMPLE, *words], given)
-        ended = run([program, "run", SAMPLE, *words, "--json"], given)
-        if (ended.status, ended.err) != (plain.status, plain.err):
+        plain = run_whole([program, "run", SAMPLE, *words], given)
+        ended = run_whole([program, "run", SAMPLE, *words, "--json"], given)
+        if (ended.status, explanations(ended.err)) != (plain.status, explanations(plain.err)) or (b"\n{" in b"\n" + ended.err) != bool("--explain=always" in words and plain.err):
             return f"it ended otherwise: {ended} {plain}"
         asking = [number for number, line in enumerate(lines, 1) if line.split("#")[0].split()]
         objects = [json.loads(line) for line in ended.out.splitlines()]
@@ -148,37 +162,37 @@ def numbered(trials, program):
 
     def trial(it):
         lines, words, status, told = it
-        ended = run([program, "run", "--readable", SAMPLE, *words], text(lines))
+        ended = run_whole([program, "run", "--readable", SAMPLE, *words], text(lines))
         return None if ended.status == status and (ended.err.decode() == told if isinstance(told, str) else all(it in ended.err.decode() for it in told)) else f"{ended}"
 
-    wanted = "line 9: bad request\nline 9: buff: wanted is an address: a region as buf or buf+16, or a number\nline 9: the nearest region of the policy is buf\n"
+    wanted = "line 9: bad request\n-:9:10: buff: wanted is an address: a region as buf or buf+16, or a number; the nearest region of the policy is buf\n"
     rows = [
         ([*front, "fill 1 1 buff length 4 with 1"], [], 1, wanted),
         ([*front, "fill 1 1 buff length 4 with 1 # no buff"], ["--explain"], 1, wanted),
-        ([*front, "fils 1 1"], [], 1, "line 9: bad request\nline 9: fils: wanted is a word that lines begin with, as fill\n"),
-        ([*front, "?"], [], 1, "line 9: bad request\nline 9: ?: wanted is a word that lines begin with\n"),
-        ([*front, "", "serv 1"], [], 1, "line 10: bad request\nline 10: serv: wanted is a word that lines begin with, as serve\n"),
-        ([*front, "read alice buff 4"], [], 1, "line 9: bad request\nline 9: buff: wanted is an address: 16 hexadecimal digits, a region as buf or buf+16, or a number as 0x100000000\nline 9: the nearest region of the policy is buf\n"),
-        ([*front, "copy 1 1 buf to arggs+4 length 4"], [], 1, ["line 9: the nearest region of the policy is args\n"]),
-        ([*front, "dispatch alise 1 1 inc grid 4 group 2"], [], 1, ["line 9: the nearest client of the policy is alice\n"]),
-        ([*front, "args alise args inc p=1"], [], 1, ["line 9: the nearest client of the policy is alice\n"]),
-        ([*front, "args alice args inc q=1"], [], 1, ["line 9: q=1: wanted is the name of an argument, as `brokerd kernel FILE` lists them\n"]),
-        ([*front, "all-of 1 1 acquire=all"], [], 1, ["line 9: acquire=all: wanted is a signal of the policy, or ", "line 9: behind acquire= and release= stands none, agent or system\n"]),
-        ([*front, "fill 1 1 buf length 4 with 1 release=x"], [], 1, ["line 9: behind acquire= and release= stands none, agent or system\n"]),
-        ([*front, "dispatch 1 1 inc grid 4294967296 group 2"], [], 1, ["line 9: a size of the grid is 4294967295 at the most\n"]),
-        ([*front, "dispatch 1 1 inc grid 4 group 2 group-bytes 4294967296"], [], 1, ["line 9: a number of 32 bits is 0 to 4294967295\n"]),
-        ([*front, "fill 1 1 buf length 18446744073709551616 with 1"], [], 1, ["line 9: a number of 64 bits is 0 to 18446744073709551615\n"]),
-        ([*front, "dispatch alice 1 1 inc grid 4 group 2 arguments +99999999999999999999 at args"], [], 1, ["line 9: a value of 64 bits is -9223372036854775808 to 18446744073709551615\n"]),
-        ([*front, "dispatch 1 1 inka grid 4 group 2"], [], 1, ["line 9: each kernel of the policy: inc, spin\n"]),
-        ([*front, "dispatch 1 1 spinn grid 4 group 2"], [], 1, ["line 9: the nearest kernel of the policy is spin\n"]),
-        ([*front, "all-of 1 1 dune"], [], 1, ["line 9: the nearest signal of the policy is done\n"]),
-        ([*front, "quit"], [], 1, "line 9: bad request\nline 9: quit: wanted is a word that lines begin with\n"),
-        ([*front, "drain one"], [], 1, "line 9: bad request\nline 9: one: wanted is the number of a queue, or the end of the line\n"),
-        ([*front, "drain 1 2"], [], 1, "line 9: bad request\nline 9: 2: wanted is the end of the line\n"),
-        ([*front, "serve x"], [], 1, "line 9: bad request\n"),
+        ([*front, "fils 1 1"], [], 1, "line 9: bad request\n-:9:1: fils: wanted is a word that lines begin with, as fill\n"),
+        ([*front, "?"], [], 1, "line 9: bad request\n-:9:1: ?: wanted is a word that lines begin with\n"),
+        ([*front, "", "serv 1"], [], 1, "line 10: bad request\n-:10:1: serv: wanted is a word that lines begin with, as serve\n"),
+        ([*front, "read alice buff 4"], [], 1, "line 9: bad request\n-:9:12: buff: wanted is an address: 16 hexadecimal digits, a region as buf or buf+16, or a number as 0x100000000; the nearest region of the policy is buf\n"),
+        ([*front, "copy 1 1 buf to arggs+4 length 4"], [], 1, ["; the nearest region of the policy is args\n"]),
+        ([*front, "dispatch alise 1 1 inc grid 4 group 2"], [], 1, ["; the nearest client of the policy is alice\n"]),
+        ([*front, "args alise args inc p=1"], [], 1, ["; the nearest client of the policy is alice\n"]),
+        ([*front, "args alice args inc q=1"], [], 1, ["-:9:21: q=1: wanted is the name of an argument, as `brokerd kernel FILE` lists them\n"]),
+        ([*front, "all-of 1 1 acquire=all"], [], 1, ["-:9:12: acquire=all: wanted is a signal of the policy, or ", "; behind acquire= and release= stands none, agent or system\n"]),
+        ([*front, "fill 1 1 buf length 4 with 1 release=x"], [], 1, ["; behind acquire= and release= stands none, agent or system\n"]),
+        ([*front, "dispatch 1 1 inc grid 4294967296 group 2"], [], 1, ["; a size of the grid is 4294967295 at the most\n"]),
+        ([*front, "dispatch 1 1 inc grid 4 group 2 group-bytes 4294967296"], [], 1, ["; a number of 32 bits is 0 to 4294967295\n"]),
+        ([*front, "fill 1 1 buf length 18446744073709551616 with 1"], [], 1, ["; a number of 64 bits is 0 to 18446744073709551615\n"]),
+        ([*front, "dispatch alice 1 1 inc grid 4 group 2 arguments +99999999999999999999 at args"], [], 1, ["; a value of 64 bits is -9223372036854775808 to 18446744073709551615\n"]),
+        ([*front, "dispatch 1 1 inka grid 4 group 2"], [], 1, ["; each kernel of the policy: inc, spin\n"]),
+        ([*front, "dispatch 1 1 spinn grid 4 group 2"], [], 1, ["; the nearest kernel of the policy is spin\n"]),
+        ([*front, "all-of 1 1 dune"], [], 1, ["; the nearest signal of the policy is done\n"]),
+        ([*front, "quit"], [], 1, "line 9: bad request\n-:9:1: quit: wanted is a word that lines begin with\n"),
+        ([*front, "drain one"], [], 1, "line 9: bad request\n-:9:7: one: wanted is the number of a queue, or the end of the line\n"),
+        ([*front, "drain 1 2"], [], 1, "line 9: bad request\n-:9:9: 2: wanted is the end of the line\n"),
+        ([*front, "serve x"], [], 1, "line 9: bad request\n-:9:7: `x`, word 2, isn't understood: there stands a decimal number of 64 bits; the form is `serve Q`\n"),
         ([*front, "load bob done"], ["--strict"], 1, ""),
-        ([*front, "load bob done"], ["--explain"], 0, ["line 9: bob has no WAIT"]),
-        ([*front, "x" * 16385], [], 1, "line 9: bad request\n"),
+        ([*front, "load bob done"], ["--explain"], 0, ["-:9:1: bob has no WAIT"]),
+        ([*front, "x" * 16385], [], 1, "line 9: bad request\n-:9:1: it has over 16384 bytes, the most that a line has\n"),
     ]
     trials.every("what is told has the number of the line that was typed", trial, rows)
     script = lambda lines: None if (ended := run([program, "run", SAMPLE], text(lines))).status == 1 and ended.err == b"line %d: bad request\n" % len(lines) else f"{ended}"
@@ -190,6 +204,40 @@ def numbered(trials, program):
         ("drain", "line 1: drain: wanted is a line that comes to lines of a script: `run --readable` takes this one\n"),
         ("drain 2 # the second", "line 1: drain: wanted is a line that comes to lines of a script: `run --readable` takes this one\n"),
     ])
+
+
+# Lines of `args` with a fault: the word of it that is wrong, and what is told of it.
+ARGUMENTS = [
+    ("args alise args inc p=1", 2, "wanted is a client of the policy; the nearest client of the policy is alice"),
+    ("args alice argz inc p=1", 3, "wanted is where the block lies: a region as args, an address as args+16, or a number; the nearest region of the policy is args"),
+    ("args   alice args inka p=1", 4, "wanted is a kernel of the policy; each kernel of the policy: inc, spin"),
+    ("args alice args inc q=1", 5, "wanted is the name of an argument, as `brokerd kernel FILE` lists them"),
+    ("args alice args inc p=1  p=2 # twice", 6, "wanted is the end of the line"),
+    ("args alice args inc p=-1", 5, "wanted is a value of u64, a region as buf or buf+16, or a signal"),
+    ("args alice args inc p=bug+16", 5, "wanted is a value of u64, a region as buf or buf+16, or a signal"),
+    ("  args alice args inc", None, "wanted is NAME=VALUE of an argument that has no value yet"),
+    ("dispatch alice 1 1 inc grid 4 group 2 args args q=1", 12, "wanted is the name of an argument, as `brokerd kernel FILE` lists them"),
+]
+
+
+def arguments(trials, program):
+    """A fault of `args` is told with the column of the word that is wrong, by a run and by `assemble`."""
+
+    def trial(it):
+        line, number, wanted = it
+        given = text([*PRELUDE, line])
+        starts = [(found.start() + 1, found[0]) for found in re.finditer(r"\S+", line)]
+        column, word = starts[number - 1] if number else (len(line) + 1, "end of line")
+        number = len(PRELUDE) + 1
+        told = f"-:{number}:{column}: {word}: {wanted}\n"
+        ran, made = run_whole([program, "run", "--readable", SAMPLE], given), run_whole([program, "assemble", SAMPLE], given)
+        first = f"line {number}: {word}: {wanted.split('; ')[0]}\n"
+        well = ran.err.decode() == f"line {number}: bad request\n{told}" and made.err.decode() == first + told and (ran.status, made.status) == (1, 1)
+        return None if well else f"{ran.err.decode()}{made.err.decode()}and not {told}"
+
+    trials.every("a fault of args is told with the column of its word", trial, ARGUMENTS)
+    quiet = lambda it: None if [run_whole([program, *words, SAMPLE, "--quiet"], text([it])).err for words in (["run", "--readable"], ["assemble"])] == [b"line 1: bad request\n", b"line 1: q=1: wanted is the name of an argument, as `brokerd kernel FILE` lists them\n"] else "it is told"
+    trials.every("and with --quiet without it", quiet, ["args alice args inc q=1"])
 
 
 def drains(trials, program):
@@ -258,7 +306,7 @@ def drains(trials, program):
 
     many = [it for _ in range(2) for it in (fill, kernel.replace("1 1", "1 2"))]
     trials.every("a drain leaves the history of its requests one by one", one_by_one, [[fill], [kernel, fill], ["queue alice gpu 8 2", *(it.replace("1 1", "2 1") for it in many[:1]), fill], ["all-of 1 1 go", fill]])
-    stops = lambda it: None if (ended := run([program, "run", "--readable", *it, SAMPLE], text([*PRELUDE, "revoke alice region buf WRITE", fill, "drain", "list bob"]))).status == (1 if "--strict" in it else 0) and (b"list" in ended.out) == ("--strict" not in it) and (b"line 10: " in ended.err) == ("--explain" in it) else f"{ended}"
+    stops = lambda it: None if (ended := run_whole([program, "run", "--readable", *it, SAMPLE], text([*PRELUDE, "revoke alice region buf WRITE", fill, "drain", "list bob"]))).status == (1 if "--strict" in it else 0) and (b"list" in ended.out) == ("--strict" not in it) and (b"-:10:1: " in ended.err) == ("--explain" in it) else f"{ended}"
     trials.every("a fault of a drain ends a strict run, and is explained", stops, [[], ["--strict"], ["--explain"], ["--strict", "--explain"]])
     told = run([program, "run", "--readable", "--json", SAMPLE], text([*PRELUDE, "all-of 1 1 go", fill, "drain"])).out.splitlines()
     last = {"line": 10, "reply": "drained", "launched": 1, "denied": 0, "ran": 0, "faulted": 0, "ready": 0, "failed": 0, "finished": 0, "packets": [
@@ -320,10 +368,10 @@ def states(trials, program):
     rows = [f"memory r+{16 * it}: {'01' * 16}" for it in range(16)]
     wanted = ["state 19", "client a: region r WRITE", *rows, "memory r: 3 more of 16 bytes", audit(2)]
     trials.every("of each region sixteen rows", lambda it: None if it == wanted else f"{it}", [ended])
-    alone = lambda it: None if run([program, *it[0]], text([it[1]])) == Ended(1, b"", it[2].encode()) else f"{run([program, *it[0]], text([it[1]]))}"
+    alone = lambda it: None if run_whole([program, *it[0]], text([it[1]])) == Ended(1, b"", it[2].encode()) else f"{run_whole([program, *it[0]], text([it[1]]))}"
     trials.every("it is a word by itself, and a line of readable scripts alone", alone, [
-        (["run", "--readable", SAMPLE], "state 1", "line 1: bad request\nline 1: 1: wanted is the end of the line\n"),
-        (["assemble", SAMPLE], "state", "line 1: state: wanted is a line that comes to lines of a script: `run --readable` takes this one\n"),
+        (["run", "--readable", SAMPLE], "state 1", "line 1: bad request\n-:1:7: 1: wanted is the end of the line\n"),
+        (["assemble", SAMPLE], "state", "line 1: state: wanted is a line that comes to lines of a script: `run --readable` takes this one\n-:1:1: state: wanted is a line that comes to lines of a script: `run --readable` takes this one\n"),
     ])
     trials.every("a plain run takes it not", lambda it: None if (ended := run([program, "run", SAMPLE], text(it))).status == 1 and ended.err.startswith(b"line 1: bad request\n") else f"{ended}", [["state"], ["why"], ["quit"]])
 
@@ -346,6 +394,7 @@ def main(program):
     trials = Trials("readable")
     as_in_a_row(trials, program)
     numbered(trials, program)
+    arguments(trials, program)
     drains(trials, program)
     states(trials, program)
     told_as_json(trials, program)

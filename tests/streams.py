@@ -16,7 +16,8 @@ import tempfile
 import threading
 
 import commands
-from trial import DEADLINE, FILL, PRELUDE, SAMPLE, Ended, Trials, blocks, library_of, run, text
+from against import prescribed
+from trial import DEADLINE, FILL, PRELUDE, SAMPLE, Ended, Trials, blocks, library_of, run, run_whole, text
 
 MOST_POLICY_BYTES = 1 << 20
 MOST_LINE_BYTES = 16384
@@ -101,7 +102,7 @@ def policy_reads(trials, program):
             rest += len(some)
         feeder.join()
         os.close(read_end)
-        return child.returncode, out, err, length - rest
+        return child.returncode, out, prescribed(err), length - rest
 
     def trial(length):
         status, out, err, read = consumed(length)
@@ -124,7 +125,7 @@ def run_within(program, words, pieces):
         child.stdin.close()
     except BrokenPipeError:
         pass
-    err = child.stderr.read()
+    err = prescribed(child.stderr.read())
     return child.wait(60), err
 
 
@@ -158,7 +159,7 @@ def broken_pipe(trials, program):
         feeder.start()
         got = child.stdout.read(length)
         child.stdout.close()
-        err = child.stderr.read()
+        err = prescribed(child.stderr.read())
         feeder.join()
         status = child.wait(60)
         well = status == 3 and err == WRITE and b"ok\nok\nok\nok\nok\nok\nqueue 1\naudit 7\n".startswith(got[:32])
@@ -196,7 +197,7 @@ class Troubled:
     def __init__(self, program, library, room, row, most):
         self.program, self.library, self.room, self.row = program, library, room, row
         self.most, self.given = most, text(row.lines)
-        self.unhooked = run([program, *row.words], self.given)
+        self.unhooked = run_whole([program, *row.words], self.given)
         self.whole, self.calls = self.run()
         self.asked = [it for it in row.lines if it and not it.startswith("#")]
         self.replies = blocks(self.asked, self.whole.out) if row.form in ("script", "strict") else []
@@ -204,7 +205,7 @@ class Troubled:
     def run(self, trouble=None):
         log = f"{self.room}/calls{next(self.numbers)}"
         env = {"LD_PRELOAD": self.library, "TROUBLE_LOG": log, "TROUBLE_BYTES": str(self.most), **(trouble or {})}
-        ended = run([self.program, *self.row.words], self.given, env)
+        ended = run_whole([self.program, *self.row.words], self.given, env)
         with open(log, encoding="ascii") as it:
             calls = Calls(it.read())
         os.remove(log)
@@ -223,9 +224,10 @@ class Troubled:
         if len(calls.reads) < at or calls.reads[at - 1][1] != -1:
             return f"it made {len(calls.reads)} reads"
         if self.row.form not in ("script", "strict"):
-            well = (ended.status, ended.err) == (3, READ) and self.whole.out.startswith(ended.out)
+            well = (ended.status, prescribed(ended.err)) == (3, READ) and self.whole.out.startswith(ended.out)
             return None if well else f"it ended otherwise: {ended}"
         of_script = calls.reads[at - 1][0] == 0
+        ended.err = prescribed(ended.err)
         return wants(ended, 3, READ, self.owed(moved_before(calls.reads, at, 0)) if of_script else b"")
 
     def failed_write(self, given):
@@ -239,6 +241,7 @@ class Troubled:
             # (that the fault couldn't be told may be told)
             told = self.whole.err[:err] + (WRITE if not on and ended.err.endswith(WRITE) else b"")
             return wants(ended, 3, told, self.whole.out)
+        ended.err = prescribed(ended.err)
         return wants(ended, 3, b"" if on else WRITE, self.whole.out[:out])
 
     def interrupted(self, given):

@@ -12,7 +12,7 @@ import threading
 
 import commands
 import pages
-from trial import DEADLINE, FILL, SAMPLE, TOP, Ended, Trials, run, text
+from trial import DEADLINE, FILL, SAMPLE, TOP, Ended, Trials, run, run_whole, text
 
 KERNEL_TEXT = f"{TOP}/cases/inc.hsail"
 DENIED = text(["grant alice agent gpu USE", "queue alice gpu 2 1", f"submit 1 1 {FILL}", "serve 1"])
@@ -86,24 +86,24 @@ def explained(trials, program, room):
             it.write(given)
     wrong, script, absent, other = (f"{room}/{it}" for it in ("wrong.toml", "a.script", "nothing", "not.toml"))
     readable = f"{room}/readable.script"
-    why = [f"{wrong}, line 2"]
-    looks = [f"{script}: this looks like a script, as its line 3 begins with `grant`"]
+    why = [f"{wrong}:2:8: "]
+    looks = [f"{script}:3:7: ", "; this looks like a script, as its line 3 begins with `grant`"]
     rows = [
         (["run", SAMPLE], DENIED, 0, ["alice has no WRITE on region buf", "grant alice region buf WRITE"]),
-        (["run", SAMPLE], b"nonsense\n", 1, ["line 1: bad request", "line 1: `nonsense` is no word that a line begins with"]),
-        (["picture", SAMPLE], b"\ngrant alice\n", 1, ["line 2: bad request", "line 2: the form is `grant CLIENT KIND NAME RIGHT,RIGHT`"]),
+        (["run", SAMPLE], b"nonsense\n", 1, ["line 1: bad request", "-:1:1: `nonsense` is no word that a line begins with"]),
+        (["picture", SAMPLE], b"\ngrant alice\n", 1, ["line 2: bad request", "-:2:12: it has 2 words, and its form 5; the form is `grant CLIENT KIND NAME RIGHT,RIGHT`"]),
         *(([*it, wrong], b"", 1, ["policy: 3 BadValue client 1", *why]) for it in (["check"], ["check", "--list"], ["run"], ["run", "--strict"], ["picture"], ["assemble"], ["replay"])),
         (["threads", wrong, "--producers", "1"], b"", 1, why),
         *(([it, SAMPLE, SAMPLE, wrong], b"", 1, why) for it in ("run", "picture", "replay")),
         *(([*it, script], b"", 1, ["policy: 1 NotToml", *looks]) for it in (["check"], ["run"], ["picture"], ["assemble"], ["replay"])),
-        (["check", readable], b"", 1, ["policy: 1 NotToml", f"{readable}: this looks like a script, as its line 1 begins with `dispatch`"]),
-        *(([*it, absent], b"", 3, ["read fault", f"{absent}: there is no such file"]) for it in (["check"], ["check", "--json"], ["run"], ["picture"], ["assemble"], ["kernel"], ["decode", "--slots"], ["threads", "--producers", "1"], ["run", SAMPLE], ["replay"], ["replay", SAMPLE])),
-        *(([*it, room], b"", 3, ["read fault", f"{room}: it is a directory"]) for it in (["check"], ["run"], ["picture"], ["assemble"], ["kernel"], ["run", SAMPLE], ["replay"], ["replay", SAMPLE])),
+        (["check", readable], b"", 1, ["policy: 1 NotToml", f"{readable}:1:10: ", "; this looks like a script, as its line 1 begins with `dispatch`"]),
+        *(([*it, absent], b"", 3, ["read fault", f"{absent}:1:1: there is no such file"]) for it in (["check"], ["check", "--json"], ["run"], ["picture"], ["assemble"], ["kernel"], ["decode", "--slots"], ["threads", "--producers", "1"], ["run", SAMPLE], ["replay"], ["replay", SAMPLE])),
+        *(([*it, room], b"", 3, ["read fault", f"{room}:1:1: it is a directory"]) for it in (["check"], ["run"], ["picture"], ["assemble"], ["kernel"], ["run", SAMPLE], ["replay"], ["replay", SAMPLE])),
     ]
     told = lambda it: has(at_terminal([program, *it[0]], it[1]), it[2], None, it[3])
     trials.every("a fault is explained on a terminal", told, rows)
-    asked = lambda it: has(run([program, it[0][0], "--explain=always", *it[0][1:]], it[1]), it[2], None, it[3])
-    trials.every("and elsewhere where that is asked for", asked, rows)
+    asked = lambda it: has(run_whole([program, it[0][0], "--explain=always", *it[0][1:]], it[1]), it[2], None, it[3])
+    trials.every("and elsewhere where that is asked for", asked, [it for it in rows if "--json" not in it[0]])
 
     def never(it):
         """What is told then is just what is told without a terminal and without an option, but that a load runs."""
@@ -112,6 +112,17 @@ def explained(trials, program, room):
         return None if ended == run([program, *it[0]], it[1]) else f"it tells otherwise: {ended}"
 
     trials.every("never is never", never, rows)
+
+    def piped(it):
+        """A fault's cause is told elsewhere as on a terminal, and with --quiet nowhere."""
+        ended, quiet = (at_terminal([program, it[0][0], *option, *it[0][1:]], it[1]) for option in ([], ["--quiet"]))
+        ended.err, quiet.err = (each.err.removeprefix(b"running, with 1 producers a queue\n") for each in (ended, quiet))
+        whole, first = run_whole([program, *it[0]], it[1]), run([program, *it[0]], it[1])
+        return None if ended == whole != first == quiet else f"{ended}, {quiet}, elsewhere {whole}"
+
+    trials.every("a cause is told elsewhere as on a terminal, unless it is left out", piped, rows[1:])
+    silent = lambda it: None if run_whole([program, *it], DENIED) == Ended(0, REPLIES, b"") else f"{run_whole([program, *it], DENIED)}"
+    trials.every("a denial is explained elsewhere where that is asked for alone", silent, [["run", SAMPLE], ["run", SAMPLE, "--quiet"], ["run", SAMPLE, "--explain=never"]])
     trials.every("TOML with a fault is no script", lambda it: has(at_terminal([program, "check", it]), 1, b"", ["policy: 1 NotToml"], ["looks like"]), [other])
     same = lambda it: None if at_terminal([program, *it], DENIED).out == run([program, *it], DENIED).out == REPLIES else "the replies differ"
     trials.every("replies are the same on a terminal", same, [["run", SAMPLE], ["run", "--explain", SAMPLE]])
@@ -136,7 +147,7 @@ def sessions(trials, program):
         ([], [], 0, b"", ["help"], ["bad request"]),
         (["list alice", "grant alice agent gpu USE"], [], 0, b"list 0\nok\n", [], ["bad request"]),
         (["list alice", "nonsense", "list bob", "grant alice"], [], 1, b"list 0\nlist 0\n",
-         ["line 2: bad request", "line 2: `nonsense` is no word", "line 4: bad request", "line 4: it has 2 words"], []),
+         ["line 2: bad request", "-:2:1: `nonsense` is no word", "line 4: bad request", "-:4:12: it has 2 words"], []),
         (["nonsense", "list bob"], ["--explain=never"], 1, b"list 0\n", ["line 1: bad request"], ["is no word"]),
         (["help grant", "help serve", "list bob"], [], 0, b"list 0\n", [*row("grant"), *row("serve")], ["bad request"]),
         (["help L8", "help AuditFull"], [], 0, b"", ["rule L8:", "refused 10 AuditFull:"], []),
@@ -148,22 +159,22 @@ def sessions(trials, program):
         (["state", "why", " quit "], [], 0, b"", [NOTHING, "nothing was refused, denied or failed yet"], ["bad request"]),
         (["state"], ["--readable"], 0, NOTHING.encode(), [], ["bad request", "client alice"]),
         (["state alice", "why not", "quits"], [], 1, b"", ["line 1: bad request", "line 2: bad request", "line 3: bad request"], []),
-        ([*DENIED.decode().splitlines(), "load bob go", "serve 1", "why"], [], 0, REPLIES + b"refused 3 Denied WAIT\nempty\n", ["refused 3 Denied WAIT\nline 5: bob has no WAIT"], ["bad request"]),
-        ([*DENIED.decode().splitlines(), "list bob", "why"], [], 0, REPLIES + b"list 0\n", ["denied queue 1 packet 0 rule L8\nline 4: packet 0 of queue 1 breaks L8"], ["bad request"]),
+        ([*DENIED.decode().splitlines(), "load bob go", "serve 1", "why"], [], 0, REPLIES + b"refused 3 Denied WAIT\nempty\n", ["refused 3 Denied WAIT\n-:5:1: bob has no WAIT"], ["bad request"]),
+        ([*DENIED.decode().splitlines(), "list bob", "why"], [], 0, REPLIES + b"list 0\n", ["denied queue 1 packet 0 rule L8\n-:4:1: packet 0 of queue 1 breaks L8"], ["bad request"]),
         (["load alice done", "why"], ["--explain=never"], 0, b"refused 3 Denied WAIT\n", ["nothing is explained with `--explain=never`"], ["alice has no WAIT"]),
         (["\x1b[A", "serve 1\x1b[D"], [], 1, b"", ["line 1: bad request", "the line has a key that moves the cursor", "rlwrap", "line 2: bad request"], []),
         (["nonsense"], [], 1, b"", ["line 1: bad request"], ["a key that moves"]),
         (["load alice done", "x", "list bob"], ["--strict"], 1, b"refused 3 Denied WAIT\n", ["alice has no WAIT"], ["bad request"]),
         (["x", "list bob"], ["--strict"], 1, b"", ["line 1: bad request"], []),
         (["fill 1", "list bob # nobody", "drain"], ["--readable"], 1, b"list 0\ndrained launched 0 denied 0 ran 0 faulted 0 ready 0 failed 0 finished 0 waiting 0\n",
-         ["line 1: bad request", "line 1: end of line: wanted is the number of a producer"], ["line 2:"]),
+         ["line 1: bad request", "-:1:7: end of line: wanted is the number of a producer"], ["line 2:", "-:2:"]),
         (["help drain", "help drain 1", "help dispatch", "help fill 1 1 buf", "list bob"], ["--readable"], 0, b"list 0\n", ["`drain`", "`drain Q`", *readable_row("drain"), *readable_row("dispatch"), *readable_row("fill")], ["bad request", "nothing is called"]),
-        (["help drain", "load alice done", "list bob"], ["--json"], 0, b'{"line":2,"reply":"refused","number":3,"name":"Denied","right":"WAIT"}\n{"line":3,"reply":"list","objects":[]}\n', ["line 2: alice has no WAIT"], []),
-        ([*DENIED.decode().splitlines(), "y"], [], 1, REPLIES, ["line 4: alice has no WRITE", "line 5: bad request"], []),
+        (["help drain", "load alice done", "list bob"], ["--json"], 0, b'{"line":2,"reply":"refused","number":3,"name":"Denied","right":"WAIT"}\n{"line":3,"reply":"list","objects":[]}\n', ["-:2:1: alice has no WAIT"], []),
+        ([*DENIED.decode().splitlines(), "y"], [], 1, REPLIES, ["-:4:1: alice has no WRITE", "line 5: bad request"], []),
     ]
     trials.every("a person is prompted, helped, and goes on behind a bad line", session, rows)
-    piped = lambda it: None if (ended := at_terminal([program, "run", SAMPLE], it, typed=True, err=False)) == Ended(1, b"list 0\n", b"line 2: bad request\n") else f"{ended}"
-    trials.every("where standard error is no terminal nothing is added", piped, [b"list bob\nhelp\nlist bob\n"])
+    piped = lambda it: None if (ended := at_terminal([program, "run", SAMPLE], it, typed=True, err=False)) == Ended(1, b"list 0\n", b"line 2: bad request\n-:2:1: `help` is no word that a line begins with; `help` at a prompt, or `brokerd explain lines`, lists the forms of lines\n") else f"{ended}"
+    trials.every("where standard error is no terminal the cause alone is added", piped, [b"list bob\nhelp\nlist bob\n"])
 
 
 def counts(trials, program):

@@ -4,6 +4,8 @@ import subprocess
 import sys
 from concurrent.futures import ThreadPoolExecutor
 
+from against import prescribed
+
 HERE = os.path.dirname(os.path.abspath(__file__))
 TOP = os.path.dirname(HERE)
 SAMPLE = f"{TOP}/crates/brokerd/data/sample.toml"
@@ -49,6 +51,13 @@ def program_given():
 
 
 def run(words, given=b"", env=None):
+    """Runs a program on some input, and passes over the lines that tell causes."""
+    ended = run_whole(words, given, env)
+    ended.err = prescribed(ended.err)
+    return ended
+
+
+def run_whole(words, given=b"", env=None):
     """Runs a program on some input. A run that doesn't end in time, or by a signal, has no status of its own."""
     try:
         ran = subprocess.run(words, input=given, capture_output=True, env=env, timeout=DEADLINE)

@@ -6,7 +6,7 @@ import subprocess
 import sys
 import tempfile
 
-from trial import FILL, PRELUDE, SAMPLE, TOP, Ended, Trials, run, text
+from trial import FILL, PRELUDE, SAMPLE, TOP, Ended, Trials, run, run_whole, text
 
 KERNEL_TEXT = f"{TOP}/cases/inc.hsail"
 # how many entries an audit has place for at the most, and where none is named
@@ -87,6 +87,11 @@ def answer(program, words, given=b""):
     return run([program, *words], given)
 
 
+def told_by(program, words, given=b""):
+    """The same with the lines that tell causes."""
+    return run_whole([program, *words], given)
+
+
 def wants(ended, status, out, err=b""):
     return None if ended == Ended(status, out, err) else f"it ended otherwise: {ended}"
 
@@ -131,8 +136,13 @@ def policies(trials, program, room):
     readers = (["check"], ["check", "--list"], ["check", "--json"], ["run"], ["run", "--strict"], ["run", "--readable"], ["run", "--json"], ["picture"], ["replay"], ["assemble"], ["kernel"], ["policy"], ["embed"], ["decode", "--slots"])
     trials.every("a file that isn't there, or a directory, ends with 3", unread, [[*words, file] for words in readers for file in (f"{room}/nothing", room)])
     trials.every("and so does a further policy's", unread, [[*words, SAMPLE, f"{room}/nothing"] for words in (["run"], ["run", "--strict"], ["picture"], ["replay"])])
-    line = lambda it: wants(answer(program, [*it[0], wrong]), 1, b"", b"policy: 5 DoubleName client 2\n") if not it[1] else None if b"line 4" in answer(program, [*it[0], wrong]).err else "the line isn't told"
-    trials.every("it is told why a policy is refused where --explain asks for it", line, [([*words, *option], told) for words in (["check"], ["run"], ["embed"], ["assemble"], ["picture"]) for option, told in (([], False), (["--explain=never"], False), (["--explain=always"], True), (["--explain"], True))])
+    cause = f"{wrong}:4:8: row 1 of `client` has the name `alice` already\n".encode()
+    line = lambda it: wants(told_by(program, it[0]), 1, b"", b"policy: 5 DoubleName client 2\n" + (cause if it[1] else b""))
+    options = (([], True), (["--explain=never"], False), (["--explain=always"], True), (["--explain"], True), (["--quiet"], False), (["--quiet", "--explain"], False))
+    commands = (["check"], ["check", "--list"], ["run"], ["run", "--strict"], ["embed"], ["assemble"], ["picture"], ["replay"], ["threads", "--producers", "1"], ["decode", FILL, "--policy"])
+    named = [([words[0], *option, *words[1:], wrong], told) for words in commands for option, told in options]
+    named += [(["explain", *option, wrong, "--journal", SAMPLE], told) for option, told in (([], True), (["--quiet"], False))]
+    trials.every("behind the fault of a policy stands its cause, unless it is left out", line, named)
     counts = b"clients 2\nagents 1\nregions 2\nsignals 2\nkernels 2\nallows 6\nok\n"
     trials.every("check counts the sample's rows", lambda it: wants(answer(program, ["check", it]), 0, counts), [SAMPLE])
 
@@ -147,6 +157,11 @@ def lines(trials, program):
     asked = text([*PRELUDE, f"submit 1 1 {FILL}"]) + b"nonsense\nlist bob\n"
     bad = b"ok\n" * 6 + b"queue 1\npublished 0\n"
     trials.every("a line of no form ends a run with 1, by its number", lambda it: wants(answer(program, ["run", *it, SAMPLE], asked), 1, bad, b"line 9: bad request\n"), [[], ["--strict"]])
+    first = b"line 9: bad request\n"
+    why = first + b"-:9:1: `nonsense` is no word that a line begins with; `help` at a prompt, or `brokerd explain lines`, lists the forms of lines\n"
+    commands = (["run"], ["run", "--json"], ["run", "--journal", "/dev/null"], ["picture"], ["picture", "--explain"])
+    caused = lambda it: None if (ended := told_by(program, [*it[0], SAMPLE], asked)).status == 1 and ended.err == it[1] else f"it ended otherwise: {ended}"
+    trials.every("its cause stands behind it, with its place, unless it is left out", caused, [([*it, *option], told) for it in commands for option, told in (([], why), (["--quiet"], first))])
 
 
 def loads(trials, program, room):
@@ -177,8 +192,8 @@ def loads(trials, program, room):
         it.write(b'[[client]]\nname = "alice"\n[[client]]\nname = "alice"\n')
     refused = b"policy: 5 DoubleName client 2\n"
     trials.every("a load over a policy that is refused ends with 1", lambda it: wants(answer(program, ["threads", it, "--producers", "1"]), 1, b"", refused), [wrong])
-    told = lambda it: None if (ended := answer(program, ["threads", it, "--producers", "1", "--explain"])).status == 1 and ended.err.startswith(refused) and b"line 4" in ended.err else f"{ended}"
-    trials.every("and with --explain tells the line", told, [wrong])
+    told = lambda it: None if (ended := told_by(program, ["threads", it, "--producers", "1"])).status == 1 and ended.err == refused + f"{it}:4:8: row 1 of `client` has the name `alice` already\n".encode() else f"{ended}"
+    trials.every("and behind that tells the cause", told, [wrong])
     unread = lambda it: wants(answer(program, ["threads", it, "--producers", "1"]), 3, b"", b"read fault\n")
     trials.every("a load over a file that isn't there ends with 3", unread, [f"{room}/nothing"])
 
@@ -222,7 +237,7 @@ def walked(trials, program, room):
 
     def told(it):
         words, given, status, wanted = it
-        ended = answer(program, words, given)
+        ended = told_by(program, words, given)
         err = ended.err.decode()
         return None if ended.status == status and all(each in err for each in wanted) else f"it ended otherwise: {ended}"
 
@@ -234,14 +249,14 @@ def walked(trials, program, room):
     with open(SAMPLE, "rb") as it:
         sample = it.read()
     trials.every("what is wrong with the words of a command line is told", told, [
-        (["run", SAMPLE, script, "--explain"], b"", 1, [f"{script}: this looks like a script, as its line 2 begins with `grant`"]),
-        (["run", SAMPLE, other, "--explain"], b"", 1, [f"{other}, line 1, column 11: `version` is 3"]),
-        (["run", SAMPLE, "--explain", "never"], b"", 3, ["never: there is no such file\n", "`--explain=never`, with `=`\n"]),
+        (["run", SAMPLE, script, "--explain"], b"", 1, [f"{script}:2:7: ", "; this looks like a script, as its line 2 begins with `grant`"]),
+        (["run", SAMPLE, other, "--explain"], b"", 1, [f"{other}:1:11: `version` is 3"]),
+        (["run", SAMPLE, "--explain", "never"], b"", 3, ["never:1:1: there is no such file; the option is written `--explain=never`, with `=`\n"]),
         (["check", "always", "--explain"], b"", 3, ["`--explain=always`, with `=`\n"]),
-        (["run", "-", "--explain"], sample, 0, ["-: the policy is read from standard input, where no script is left: name the policy's file\n"]),
-        (["run", SAMPLE, "--explain", "--journal", nowhere], b"", 3, ["write fault\n", f"{nowhere}: there is no such folder\n"]),
-        (["run", SAMPLE, "--explain", "--journal", room], b"", 3, ["write fault\n", f"{room}: it is a directory, and a file is asked for\n"]),
-        (["threads", SAMPLE, "--producers", "1", "--explain", "--journal", nowhere], b"", 3, ["write fault\n", f"{nowhere}: there is no such folder\n"]),
+        (["run", "-", "--explain"], sample, 0, ["-:1:1: the policy is read from standard input, where no script is left: name the policy's file\n"]),
+        (["run", SAMPLE, "--explain", "--journal", nowhere], b"", 3, ["write fault\n", f"{nowhere}:1:1: there is no such folder\n"]),
+        (["run", SAMPLE, "--explain", "--journal", room], b"", 3, ["write fault\n", f"{room}:1:1: it is a directory, and a file is asked for\n"]),
+        (["threads", SAMPLE, "--producers", "1", "--explain", "--journal", nowhere], b"", 3, ["write fault\n", f"{nowhere}:1:1: there is no such folder\n"]),
         (["picture", SAMPLE, "--from", "3", "--to", "2"], b"", 2, ["the entry of --from is behind that of --to"]),
         (["picture", SAMPLE, "--from", "5", "--explain"], b"grant alice agent gpu USE\nqueue alice gpu 2 1\n", 0, ["--from 5: the last entry is 2\n"]),
         (["picture", SAMPLE, "--from", "1", "--explain"], b"", 0, [""]),
@@ -259,9 +274,9 @@ def walked(trials, program, room):
     counts = answer(program, ["check", SAMPLE]).out
     path = f"{room}/entry.toml"
     line = sample.decode().splitlines().index('entry = "&spin"') + 1
-    missing = f"{path}, line {line}, column 9: kernel spin: its text has no kernel `&spun`\n".encode()
-    entry = lambda it: None if (ended := answer(program, ["check", path, *it[0]])).status == 0 and ended.err == it[1] and (it[0][:1] == ["--list"] or ended.out == counts) else f"it ended otherwise: {ended}"
-    trials.every("check tells on standard error of a kernel that run would find no entry of", entry, [([], missing), (["--explain"], missing), (["--list"], missing), (["--explain=never"], b"")])
+    missing = f"{path}:{line}:9: kernel spin: its text has no kernel `&spun`\n".encode()
+    entry = lambda it: None if (ended := told_by(program, ["check", path, *it[0]])).status == 0 and ended.err == it[1] and (it[0][:1] == ["--list"] or ended.out == counts) else f"it ended otherwise: {ended}"
+    trials.every("check tells on standard error of a kernel that run would find no entry of", entry, [([], missing), (["--explain"], missing), (["--list"], missing), (["--explain=never"], b""), (["--quiet"], b"")])
 
     def streamed(it):
         how, given, wanted = it
@@ -269,8 +284,12 @@ def walked(trials, program, room):
         return None if (ran.returncode, ran.stderr.decode()) == (3, wanted) else f"it ended otherwise: {ran}"
 
     trials.every("which stream of a run failed is told", streamed, [
-        ('< "$2"', b"", "read fault\nstandard input: the script can't be read: a file or a pipe is asked for, and no directory\n"),
-        ("> /dev/full", b"audit\n", "write fault\nstandard output: what is replied can't be written there\n"),
+        ('< "$2"', b"", "read fault\n-:1:1: the script can't be read: a file or a pipe is asked for, and no directory\n"),
+        ("> /dev/full", b"audit\n", "write fault\nstandard output:1:1: what is replied can't be written there\n"),
+    ])
+    limited = lambda it: None if run_whole(["sh", "-c", f'ulimit -v 65536; exec "$0" run "$1" --audit {it[0]}', program, SAMPLE], b"audit\n") == it[1] else f"{it}"
+    trials.every("where memory is wanted, the option is named by which a run takes less", limited, [
+        (DEFAULT, Ended(0, b"audit 0\n", b"")), (MOST, Ended(3, b"", b"no memory\n-:1:1: with a smaller `--audit N` it takes less memory\n")),
     ])
 
     def listed(it):
@@ -325,13 +344,13 @@ def files(trials, program, room):
     out = lambda it: None if answer(program, ["picture", SAMPLE, "-o", it], script) == answer(program, ["picture", SAMPLE], script) else "it is another"
     trials.every("-o - is standard output", out, ["-"])
     nothing, nowhere = f"{room}/nothing", f"{room}/nowhere/run.svg"
-    fails = lambda it: None if answer(program, it[0], script) == Ended(3, b"", it[1].encode()) and answer(program, [*it[0], "--explain"], script) == Ended(3, b"", (it[1] + it[2]).encode()) else f"{answer(program, [*it[0], '--explain'], script)}"
-    trials.every("a file that can't be read or written ends with 3, and is named where --explain asks for it", fails, [
-        *((([*words, "-f", nothing], "read fault\n", f"{nothing}: there is no such file\n") for words in (["run", SAMPLE], ["picture", SAMPLE], ["assemble", SAMPLE]))),
-        (["run", SAMPLE, "-f", room], "read fault\n", f"{room}: the script can't be read: a file or a pipe is asked for, and no directory\n"),
-        (["replay", SAMPLE, "--journal", nothing], "read fault\n", f"{nothing}: there is no such file\n"),
-        (["picture", SAMPLE, "-o", nowhere], "write fault\n", f"{nowhere}: what is replied can't be written there\n"),
-        (["picture", SAMPLE, "--journal", journal, "-o", nowhere], "write fault\n", f"{nowhere}: there is no such folder\n"),
+    fails = lambda it: None if answer(program, it[0], script) == Ended(3, b"", it[1].encode()) and told_by(program, it[0], script) == told_by(program, [*it[0], "--explain"], script) == Ended(3, b"", (it[1] + it[2]).encode()) else f"{told_by(program, it[0], script)}"
+    trials.every("a file that can't be read or written ends with 3, and is named behind that", fails, [
+        *((([*words, "-f", nothing], "read fault\n", f"{nothing}:1:1: there is no such file\n") for words in (["run", SAMPLE], ["picture", SAMPLE], ["assemble", SAMPLE]))),
+        (["run", SAMPLE, "-f", room], "read fault\n", f"{room}:1:1: the script can't be read: a file or a pipe is asked for, and no directory\n"),
+        (["replay", SAMPLE, "--journal", nothing], "read fault\n", f"{nothing}:1:1: there is no such file\n"),
+        (["picture", SAMPLE, "-o", nowhere], "write fault\n", f"{nowhere}:1:1: what is replied can't be written there\n"),
+        (["picture", SAMPLE, "--journal", journal, "-o", nowhere], "write fault\n", f"{nowhere}:1:1: there is no such folder\n"),
     ])
     before = lambda it: None if answer(program, ["run", it, "-f", nothing]) == Ended(1, b"", b"policy: 5 DoubleName client 2\n") else f"{answer(program, ['run', it, '-f', nothing])}"
     trials.every("a fault of the policy is told before a script that can't be read", before, [f"{room}/double.toml"])

@@ -4,10 +4,12 @@ use crate::book::Book;
 use crate::comments::without_comment;
 use crate::fault::{Fault, LineError, Want};
 use crate::forms::{Turned, put_lines};
+use crate::help::cause_text;
 use crate::places::Places;
+use policy::Policy;
 use script::LONGEST_LINE;
 use std::alloc::{AllocError, AllocFailed, Global};
-use std::io;
+use std::{fmt, io};
 use words::{skip_blanks, split_word};
 
 // The most reads, and the most writes for what one of them gave (own).
@@ -16,15 +18,30 @@ const MOST_CALLS: u64 = 1 << 40;
 // The most bytes of a read (own).
 const BLOCK: usize = 4096;
 
+/// A line of no form: its number, what is said of it, which has that and the word at which it isn't, and behind the column of
+/// that word the cause in full (own).
+#[derive(Debug, Drop)]
+pub struct Unassembled {
+    pub number: u64,
+    pub said: String,
+    pub cause: String,
+}
+
+impl fmt::Display for Unassembled {
+    fn fmt<W: fmt::Write>(&self, f: &mut fmt::Formatter<W>) -> fmt::Result {
+        f.write_str(self.said.as_str())
+    }
+}
+
 /// Why a script isn't assembled to its end (own).
 #[derive(Debug, Drop, thiserror::Error)]
 pub enum AssembleError {
     /// Memory was wanted and not to be had.
     #[error("out of memory")]
     OutOfMemory,
-    /// A line is of no form: this text says which, and the word at which it isn't.
+    /// A line is of no form.
     #[error("{0}")]
-    Refused(String),
+    Refused(Unassembled),
     /// The script can't be read.
     #[error("reading failed")]
     Read,
@@ -76,28 +93,43 @@ fn show_word(text: &mut String, word: &[u8]) -> Result<(), AllocError> {
     Ok(())
 }
 
-/// What is said of the fault of a line of a number, without the comment at its end: as `line 3: buff: wanted is a region`.
-pub fn fault_text(
+/// Puts the first word of what is left of a line, and what is wanted in its place, behind a text: as `buff: wanted is a region`.
+pub fn put_wanted(text: &mut String, left: &[u8], want: Want) -> Result<(), AllocError> {
+    match split_word(left) {
+        Some((word, _)) => show_word(text, word)?,
+        None => text.push_str("end of line")?,
+    }
+    write!(text, ": wanted is {want}")
+}
+
+// What is told of the fault of a line of a number, without the comment at its end.
+fn refusal(
     alloc: Global,
+    policy: &Policy,
     number: u64,
     line: &[u8],
     fault: Fault,
-) -> Result<String, AllocError> {
+) -> Result<Unassembled, AllocError> {
     let before = line.len().saturating_sub(fault.left);
-    let mut text = format!(in alloc; "line {number}: ")?;
-    match split_word(line.split_at(before).1) {
-        Some((word, _)) => show_word(&mut text, word)?,
-        None => text.push_str("end of line")?,
-    }
-    let want = fault.want;
-    write!(text, ": wanted is {want}")?;
-    Ok(text)
+    let mut said = format!(in alloc; "line {number}: ")?;
+    put_wanted(&mut said, line.split_at(before).1, fault.want)?;
+    Ok(Unassembled {
+        number,
+        said,
+        cause: cause_text(alloc, policy, line, fault)?,
+    })
 }
 
 // The error of a line of a number.
-fn refused(alloc: Global, number: u64, line: &[u8], fault: Fault) -> AssembleError {
-    match fault_text(alloc, number, line, fault) {
-        Ok(text) => AssembleError::Refused(text),
+fn refused(
+    alloc: Global,
+    policy: &Policy,
+    number: u64,
+    line: &[u8],
+    fault: Fault,
+) -> AssembleError {
+    match refusal(alloc, policy, number, line, fault) {
+        Ok(unassembled) => AssembleError::Refused(unassembled),
         Err(_) => AssembleError::OutOfMemory,
     }
 }
@@ -114,7 +146,7 @@ fn turn_line(
     match put_lines(alloc, book, places, line, out) {
         Ok(turned) => Ok(turned),
         Err(LineError::OutOfMemory) => Err(AssembleError::OutOfMemory),
-        Err(LineError::Fault(fault)) => Err(refused(alloc, number, line, fault)),
+        Err(LineError::Fault(fault)) => Err(refused(alloc, &book.policy, number, line, fault)),
     }
 }
 
@@ -140,7 +172,8 @@ fn put_line(
         Turned::Drain(_) | Turned::State => {
             let left = skip_blanks(line).len();
             let want = Want::Run;
-            Err(refused(alloc, session.number, line, Fault { left, want }))
+            let fault = Fault { left, want };
+            Err(refused(alloc, &book.policy, number, line, fault))
         }
     }
 }
@@ -173,7 +206,8 @@ fn take_byte(
                 left: session.line.len(),
                 want: Want::ShorterLine,
             };
-            return Err(refused(alloc, session.number, session.line.as_slice(), fault));
+            let line = session.line.as_slice();
+            return Err(refused(alloc, &book.policy, session.number, line, fault));
         }
         return Ok(session.line.push(byte)?);
     }

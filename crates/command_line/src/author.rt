@@ -1,15 +1,14 @@
 //! The commands for authors of kernels, scripts and policies.
 
+use crate::causes::Causes;
 use crate::explaining::{PolicyFile, tell};
 use crate::meanings::{Unknown, explained, nearest};
-use crate::perform::{failed, read_most, unread};
+use crate::perform::{STANDARD_INPUT, failed, read_most, unread};
 use crate::policies::{judge, name_blame};
-use crate::writers::Nowhere;
-use assemble::{AssembleError, Book, BookError, assemble_script};
-use commands::{Status, check_policy};
-use explain::text_help;
+use assemble::{AssembleError, Book, BookError, Unassembled, assemble_script};
+use commands::Status;
+use explain::file_fault;
 use kernel_listing::{Form, Listing, TextFault, list, told as fault_told};
-use script::Noted;
 use std::alloc::{AllocError, Global};
 use std::fs::File;
 use std::io;
@@ -57,26 +56,29 @@ fn write_listing<O: io::Write, E: io::Write>(
     }
 }
 
-// Lists the kernels of a text on `out` in a form, or tells the text's fault on `err`.
-fn list_plainly<O: io::Write, E: io::Write>(
+// What is told of the fault of the text in a file, if causes are told.
+fn cause_told(
     alloc: Global,
+    file: &str,
     text: &[u8],
-    form: Form,
-    out: &mut O,
-    err: &mut E,
-) -> Status {
-    match list(alloc, text, form) {
-        Ok(listing) => write_listing(alloc, text, &listing, out, err),
-        Err(_) => fails(err, "no memory\n"),
+    fault: TextFault,
+    causes: Causes,
+) -> Result<String, AllocError> {
+    if causes.are_told() {
+        file_fault(alloc, file, text, "", fault)
+    } else {
+        Ok(String::new(alloc))
     }
 }
 
-// Lists the kernels of the text in a file as `list_plainly` does, and tells after a fault what helps.
-fn list_explaining<O: io::Write, E: io::Write>(
+// Lists the kernels of the text in a file on `out` in a form, or tells the text's fault on `err`, and behind it, if causes are
+// told, what helps, and where.
+fn list_told<O: io::Write, E: io::Write>(
     alloc: Global,
     file: &str,
     text: &[u8],
     form: Form,
+    causes: Causes,
     out: &mut O,
     err: &mut E,
 ) -> Status {
@@ -85,41 +87,73 @@ fn list_explaining<O: io::Write, E: io::Write>(
     };
     match (write_listing(alloc, text, &listing, out, err), listing) {
         (Status::Refused, Listing::Fault(fault)) => {
-            tell(err, text_help(alloc, file, text, fault), Status::Refused)
+            let told = cause_told(alloc, file, text, fault, causes);
+            tell(err, told, Status::Refused)
         }
         (status, _) => status,
     }
 }
 
-// Lists the kernels of the text in a file, and tells after a fault what helps, if it explains.
-fn list_file(rt: &HostRuntime, file: &str, form: Form, explains: bool, text: &[u8]) -> Status {
+// Lists the kernels of the text in a file.
+fn list_file(rt: &HostRuntime, file: &str, form: Form, causes: Causes, text: &[u8]) -> Status {
     let mut out = rt.stdout();
     let mut err = rt.stderr();
-    if explains {
-        list_explaining(rt.alloc(), file, text, form, &mut out, &mut err)
-    } else {
-        list_plainly(rt.alloc(), text, form, &mut out, &mut err)
+    list_told(rt.alloc(), file, text, form, causes, &mut out, &mut err)
+}
+
+/// Lists the kernels of the text in a file in a form, or tells the text's fault, and where it lies, if causes are told.
+pub fn kernel(rt: &HostRuntime, file: &str, form: Form, causes: Causes) -> Status {
+    match read_most(rt, file, MOST_TEXT) {
+        Ok(text) => list_file(rt, file, form, causes, text.as_slice()),
+        Err(error) => unread(rt, file, causes, &error),
     }
 }
 
-/// Lists the kernels of the text in a file in a form, and tells why it has a fault, if it explains.
-pub fn kernel(rt: &HostRuntime, file: &str, form: Form, explains: bool) -> Status {
-    match read_most(rt, file, MOST_TEXT) {
-        Ok(text) => list_file(rt, file, form, explains, text.as_slice()),
-        Err(error) => unread(rt, file, explains, &error),
+// What is told behind what is said of a line of no form: the cause with its place, if causes in the script's file are told and
+// there is memory for it.
+fn behind_line(alloc: Global, line: &Unassembled, named: Option<&str>) -> String {
+    let Unassembled { number, .. } = line;
+    let cause = line.cause.as_str();
+    match named {
+        Some(file) => match format!(in alloc; "\n{file}:{number}:{cause}\n") {
+            Ok(text) => text,
+            Err(_) => String::new(alloc),
+        },
+        None => String::new(alloc),
+    }
+}
+
+// Tells a line of no form.
+fn tell_line<E: io::Write>(
+    alloc: Global,
+    line: &Unassembled,
+    named: Option<&str>,
+    err: &mut E,
+) -> Status {
+    let behind = behind_line(alloc, line, named);
+    let behind = if behind.is_empty() {
+        "\n"
+    } else {
+        behind.as_str()
+    };
+    match told(err, line.said.as_str(), Status::Refused) {
+        Status::Refused => told(err, behind, Status::Refused),
+        status => status,
     }
 }
 
 // Tells why a script wasn't assembled to its end.
-fn unassembled<E: io::Write>(err: &mut E, error: &AssembleError) -> Status {
+fn unassembled<E: io::Write>(
+    alloc: Global,
+    error: &AssembleError,
+    named: Option<&str>,
+    err: &mut E,
+) -> Status {
     match error {
         AssembleError::OutOfMemory => fails(err, "no memory\n"),
         AssembleError::Read => fails(err, "read fault\n"),
         AssembleError::Write => fails(err, "write fault\n"),
-        AssembleError::Refused(text) => match told(err, text.as_str(), Status::Refused) {
-            Status::Refused => told(err, "\n", Status::Refused),
-            status => status,
-        },
+        AssembleError::Refused(line) => tell_line(alloc, line, named, err),
     }
 }
 
@@ -127,6 +161,7 @@ fn unassembled<E: io::Write>(err: &mut E, error: &AssembleError) -> Status {
 fn assemble_checked<R: io::Read, O: io::Write, E: io::Write>(
     alloc: Global,
     policy: &[u8],
+    named: Option<&str>,
     script: &mut R,
     out: &mut O,
     err: &mut E,
@@ -134,77 +169,47 @@ fn assemble_checked<R: io::Read, O: io::Write, E: io::Write>(
     match Book::read(alloc, policy) {
         Ok(book) => match assemble_script(alloc, &book, script, out) {
             Ok(()) => Status::Done,
-            Err(error) => unassembled(err, &error),
+            Err(error) => unassembled(alloc, &error, named, err),
         },
         Err(BookError::OutOfMemory) => fails(err, "no memory\n"),
         Err(BookError::Refused) => Status::Refused,
     }
 }
 
-/// Assembles a script by the policy in a text, or tells the first fault of the policy and its kernels as `check_policy`
-/// does.
-pub fn assemble_policy<R: io::Read, O: io::Write, E: io::Write>(
-    alloc: Global,
-    policy: &[u8],
-    script: &mut R,
-    out: &mut O,
-    err: &mut E,
-) -> Status {
-    match check_policy(
-        alloc,
-        policy,
-        &mut Noted::new(Nowhere),
-        &mut Noted::new(&mut *err),
-    ) {
-        Status::Done => assemble_checked(alloc, policy, script, out, err),
-        status => status,
-    }
-}
-
-/// Assembles the same as `assemble_policy`, and tells after a fault of the policy where it lies and what may stand there.
-pub fn assemble_explaining<R: io::Read, O: io::Write, E: io::Write>(
-    alloc: Global,
-    file: PolicyFile<'_>,
-    script: &mut R,
-    out: &mut O,
-    err: &mut E,
-) -> Status {
-    match judge(alloc, file, true) {
-        Ok(_) => assemble_checked(alloc, file.text, script, out, err),
-        Err(blame) => name_blame(alloc, blame, err),
-    }
-}
-
-// Assembles a script by the policy in a file, and tells why it has a fault, if it explains.
+// Assembles the script of a name by the policy in a file, or tells the first fault of the policy and its kernels, or the first line
+// of no form, and behind that the cause, if causes are told.
 fn assemble_read<R: io::Read>(
     rt: &HostRuntime,
     file: PolicyFile<'_>,
-    explains: bool,
+    causes: Causes,
+    name: &str,
     script: &mut R,
 ) -> Status {
-    let mut out = rt.stdout();
+    let alloc = rt.alloc();
     let mut err = rt.stderr();
-    if explains {
-        assemble_explaining(rt.alloc(), file, script, &mut out, &mut err)
-    } else {
-        assemble_policy(rt.alloc(), file.text, script, &mut out, &mut err)
+    match judge(alloc, file, causes) {
+        Ok(_) => {
+            let named = causes.named(name);
+            assemble_checked(alloc, file.text, named, script, &mut rt.stdout(), &mut err)
+        }
+        Err(blame) => name_blame(alloc, blame, &mut err),
     }
 }
 
-/// Assembles the script in a file, or that on standard input, by the policy in another, and tells why it has a fault, if it
-/// explains.
+/// Assembles the script in a file, or that on standard input, by the policy in another, and tells the causes of faults, if they
+/// are told.
 pub fn assemble_from(
     rt: &HostRuntime,
     file: PolicyFile<'_>,
     script: Option<&str>,
-    explains: bool,
+    causes: Causes,
 ) -> Status {
     let Some(name) = script else {
-        return assemble_read(rt, file, explains, &mut rt.stdin());
+        return assemble_read(rt, file, causes, STANDARD_INPUT, &mut rt.stdin());
     };
     match File::open(rt, name) {
-        Ok(mut opened) => assemble_read(rt, file, explains, &mut opened),
-        Err(error) => unread(rt, name, explains, &error),
+        Ok(mut opened) => assemble_read(rt, file, causes, name, &mut opened),
+        Err(error) => unread(rt, name, causes, &error),
     }
 }
 

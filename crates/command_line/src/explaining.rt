@@ -1,5 +1,6 @@
-//! A check that tells beside a policy's fault where it lies, and what mends it.
+//! A check that tells behind a policy's fault where it lies, and what mends it.
 
+use crate::causes::Causes;
 use crate::policies::{entries_told, judge, name_blame};
 use commands::{KernelCause, KernelFault, Setup, Status, count_rows};
 use explain::{kernel_fault, policy_fault};
@@ -56,7 +57,7 @@ fn first_line(text: &str) -> Option<(usize, &str)> {
 }
 
 // What is told of a file that looks like a script, as its first line begins with a word that a script's lines begin with.
-fn script_told(alloc: Global, file: PolicyFile<'_>, text: &str) -> Result<String, AllocError> {
+fn script_told(alloc: Global, text: &str) -> Result<String, AllocError> {
     let Some((number, line)) = first_line(text) else {
         return Ok(String::new(alloc));
     };
@@ -64,9 +65,8 @@ fn script_told(alloc: Global, file: PolicyFile<'_>, text: &str) -> Result<String
     if line.contains('=') || rows_of(alloc, word)?.is_empty() {
         return Ok(String::new(alloc));
     }
-    let name = file.name;
     format!(in alloc;
-        "{name}: this looks like a script, as its line {number} begins with `{word}`: a policy is asked for here, and a script on standard input\n"
+        "; this looks like a script, as its line {number} begins with `{word}`: a policy is asked for here, and a script on standard input"
     )
 }
 
@@ -76,13 +76,16 @@ pub fn fault_told(
     file: PolicyFile<'_>,
     fault: &PolicyFault,
 ) -> Result<String, AllocError> {
-    let mut told = policy_fault(alloc, file.name, file.text, fault)?;
-    if fault.cause == PolicyCause::NotToml {
-        if let Ok(text) = std::str::from_utf8(file.text) {
-            told.push_str(script_told(alloc, file, text)?.as_str())?;
+    let told = policy_fault(alloc, file.name, file.text, fault)?;
+    match std::str::from_utf8(file.text) {
+        Ok(text) if fault.cause == PolicyCause::NotToml => {
+            let told = told.as_str().trim();
+            let looks = script_told(alloc, text)?;
+            let looks = looks.as_str();
+            format!(in alloc; "{told}{looks}\n")
         }
+        _ => Ok(told),
     }
-    Ok(told)
 }
 
 /// Writes an explanation, if there was memory for it, and tells how the command ends.
@@ -98,23 +101,16 @@ pub fn tell<E: io::Write>(err: &mut E, told: Result<String, AllocError>, status:
     }
 }
 
-/// What is told of a policy beside its counts: of a fault where it lies, and of one without a fault which kernel's text has
-/// none of its entry's name.
-#[derive(Clone, Copy)]
-pub struct Tells {
-    pub faults: bool,
-    pub entries: bool,
-}
-
-/// Tells which kernel's text of a policy has none of its entry's name, behind what was written of it.
+/// Tells which kernel's text of a policy has none of its entry's name, behind what was written of it, if causes are told.
 pub fn tell_entries<E: io::Write>(
     alloc: Global,
     file: PolicyFile<'_>,
     judged: &Setup,
+    causes: Causes,
     err: &mut E,
-    status: Status,
 ) -> Status {
-    tell(err, entries_told(alloc, file, judged), status)
+    let told = causes.form(alloc, entries_told(alloc, file, judged));
+    tell(err, told, Status::Done)
 }
 
 // Counts a policy that was let pass.
@@ -122,7 +118,7 @@ fn count<O: io::Write, E: io::Write>(
     alloc: Global,
     file: PolicyFile<'_>,
     judged: &Setup,
-    tells: Tells,
+    causes: Causes,
     out: &mut O,
     err: &mut E,
 ) -> Status {
@@ -132,21 +128,22 @@ fn count<O: io::Write, E: io::Write>(
         &mut Noted::new(&mut *out),
         &mut Noted::new(&mut *err),
     ) {
-        Status::Done if tells.entries => tell_entries(alloc, file, judged, err, Status::Done),
+        Status::Done => tell_entries(alloc, file, judged, causes, err),
         status => status,
     }
 }
 
-/// Checks the policy in a file as `check_policy` does, and tells beside what is to be told.
+/// Checks the policy in a file as `check_policy` does, and tells behind a fault where it lies, and of a policy without one which
+/// kernel's text has none of its entry's name, if causes are told.
 pub fn check_telling<O: io::Write, E: io::Write>(
     alloc: Global,
     file: PolicyFile<'_>,
-    tells: Tells,
+    causes: Causes,
     out: &mut O,
     err: &mut E,
 ) -> Status {
-    match judge(alloc, file, tells.faults) {
-        Ok(judged) => count(alloc, file, &judged, tells, out, err),
+    match judge(alloc, file, causes) {
+        Ok(judged) => count(alloc, file, &judged, causes, out, err),
         Err(blame) => name_blame(alloc, blame, err),
     }
 }

@@ -1,20 +1,22 @@
 //! Runs a script over the policy in a file, with the policies in further files after it.
 
+use crate::causes::Causes;
 use crate::explaining::PolicyFile;
 use crate::going_on::{RunPolicies, begin_behind_journal, go_on};
 use crate::journal_files::{AskedJournal, JournalFile, OtherFiles, open_journal};
 use crate::perform::{STANDARD_INPUT, failed, read_file, unread};
-use crate::policies::{Further, name_blame, open_run};
+use crate::policies::{Blame, Further, name_blame, open_run};
 use crate::request::Reads;
 use crate::session::GREETING;
 use crate::terminal::{Beside, TerminalReader};
-use crate::watchers::{Recorder, Teller, Telling};
+use crate::watchers::{Lines, Noter, Recorder, Teller, Telling};
 use assemble::{Book, BookError};
 use commands::{Opened, PolicyText, Span, Status, draw_audit, run_over, tell_run, tell_unwatched};
+use explain::Why;
 use journal_commands::{EntryWriter, JournalFault, digests_of, policy_digest};
 use json_replies::Json;
 use readable::Readable;
-use script::{Both, Nobody, Noted, Plain, RunFault, ScriptFault, Silent, Strict, Style, Text};
+use script::{Both, Noted, Plain, RunFault, ScriptFault, Silent, Strict, Style, Text};
 use std::alloc::Global;
 use std::fs::File;
 use std::io::{self, IsTerminal};
@@ -22,17 +24,21 @@ use world::World;
 
 /// What is told where standard input has a policy, and a script is asked of it.
 const NO_SCRIPT: &str =
-    "-: the policy is read from standard input, where no script is left: name the policy's file";
+    "the policy is read from standard input, where no script is left: name the policy's file";
+
+/// What is told where a run wants memory.
+const LESS_MEMORY: &str = "with a smaller `--audit N` it takes less memory";
 
 /// How a script is run: with places for so many entries in the audit, up to the first line that isn't done, if it is
-/// strict, and with a text beside its replies that tells why, if it is explaining; or with a picture of these entries in
+/// strict, and with causes told beside its replies and behind faults, as is said; or with a picture of these entries in
 /// place of its replies. In a session with a person it goes on after a line of no form. Its lines may be readable, and
 /// its replies JSON. It has these files.
 #[derive(Clone, Copy)]
 pub struct Manner<'a> {
     pub places: usize,
     pub is_strict: bool,
-    pub is_explaining: bool,
+    pub replies: Causes,
+    pub causes: Causes,
     pub is_session: bool,
     pub reads: Reads,
     pub drawn: Option<Span>,
@@ -58,13 +64,27 @@ pub fn read_files(rt: &HostRuntime, files: &[&str], texts: &mut Vec<PolicyText>)
     Ok(())
 }
 
-// What is told of a run beside its replies.
-fn telling_of(manner: Manner<'_>) -> Telling {
-    Telling {
-        of_replies: manner.is_explaining && manner.drawn.is_none(),
-        of_lines: manner.is_explaining,
-        goes_on: manner.is_session && !manner.is_strict,
+// What is told of the lines of a run that are of no form.
+fn lines_of<'p>(alloc: Global, manner: Manner<'p>) -> Lines<'p> {
+    Lines {
+        alloc,
+        script: manner.files.script.unwrap_or(STANDARD_INPUT),
+        later: manner.files.further.texts.len(),
         is_readable: manner.reads.is_readable,
+        causes: manner.causes,
+    }
+}
+
+// What is told of a run beside its replies.
+fn telling_of<'p>(alloc: Global, manner: Manner<'p>) -> Telling<'p> {
+    Telling {
+        replies: if manner.drawn.is_none() {
+            manner.replies
+        } else {
+            Causes::Untold
+        },
+        lines: lines_of(alloc, manner),
+        goes_on: manner.is_session && !manner.is_strict,
     }
 }
 
@@ -107,7 +127,7 @@ fn draw_behind<F: Drop>(
 ) -> Result<(), RunFault<F>> {
     match (ended, manner.drawn) {
         (Ok(()), Some(span)) => {
-            tell_outside(rt, world, span, manner.is_explaining);
+            tell_outside(rt, world, span, manner.replies.are_told());
             match draw_into(rt, world, span, manner.files.output) {
                 Ok(()) => Ok(()),
                 Err(fault) => Err(RunFault::Script(fault)),
@@ -117,40 +137,30 @@ fn draw_behind<F: Drop>(
     }
 }
 
-/// What is told of what ended a run early: of which stream, and what.
-#[derive(Clone, Copy)]
-struct Streamed<'a> {
-    stream: &'a str,
-    told: &'static str,
-}
-
-// What is told of what ended a run early, where a stream failed or memory was wanted; no text where neither did.
-fn stream_told<'a, F: Drop>(ended: &Result<(), RunFault<F>>, files: RunFiles<'a>) -> Streamed<'a> {
+// Why a run ended early, where a stream failed or memory was wanted.
+fn stream_why<'a, F: Drop>(
+    ended: &Result<(), RunFault<F>>,
+    files: RunFiles<'a>,
+) -> Option<Why<'a>> {
+    let script = files.script.unwrap_or(STANDARD_INPUT);
     match ended {
-        Err(RunFault::Script(ScriptFault::Read)) => Streamed {
-            stream: files.script.unwrap_or("standard input"),
-            told: ": the script can't be read: a file or a pipe is asked for, and no directory",
-        },
-        Err(RunFault::Script(ScriptFault::Write)) => Streamed {
-            stream: files.output.unwrap_or("standard output"),
-            told: ": what is replied can't be written there",
-        },
-        Err(RunFault::Script(ScriptFault::OutOfMemory)) => Streamed {
-            stream: "",
-            told: "with a smaller `--audit N` it takes less",
-        },
-        _ => Streamed {
-            stream: "",
-            told: "",
-        },
+        Err(RunFault::Script(ScriptFault::Read)) => Some(Why::of_file(
+            script,
+            "the script can't be read: a file or a pipe is asked for, and no directory",
+        )),
+        Err(RunFault::Script(ScriptFault::Write)) => Some(Why::of_file(
+            files.output.unwrap_or("standard output"),
+            "what is replied can't be written there",
+        )),
+        Err(RunFault::Script(ScriptFault::OutOfMemory)) => Some(Why::of_file(script, LESS_MEMORY)),
+        _ => None,
     }
 }
 
-// Tells it, if it is told why.
-fn tell_stream(rt: &HostRuntime, streamed: Streamed<'_>, explains: bool) {
-    let Streamed { stream, told } = streamed;
-    if explains && !told.is_empty() {
-        let _ = eprintln!(rt; "{stream}{told}");
+// Tells it, if causes are told.
+fn tell_stream(rt: &HostRuntime, why: Option<Why<'_>>, causes: Causes) {
+    if let Some(why) = why {
+        causes.tell(rt.alloc(), why, &mut rt.stderr());
     }
 }
 
@@ -168,15 +178,16 @@ fn run_in<L: Style, R: io::Read>(
     let mut err = rt.stderr();
     let strict = if manner.is_strict { Some(Strict) } else { None };
     let further = manner.files.further;
-    let teller = Teller::new(alloc, telling_of(manner), further, &mut beside);
+    let telling = telling_of(alloc, manner);
+    let teller = Teller::new(alloc, telling, further, &mut beside);
     let mut watcher = Both::new(teller, Both::new(recorder, strict));
     let out = &mut Noted::new(rt.stdout());
     let script = &mut Noted::new(&mut *script);
     let ended = run_over(alloc, opened, style, &mut watcher, script, out);
     let ended = draw_behind(rt, &opened.world, manner, ended);
-    let streamed = stream_told(&ended, manner.files);
+    let why = stream_why(&ended, manner.files);
     let status = tell_run(alloc, ended, &mut Noted::new(&mut err));
-    tell_stream(rt, streamed, manner.is_explaining);
+    tell_stream(rt, why, manner.causes);
     let status = watcher.first.end(status);
     match &mut watcher.second.first {
         Some(recorder) => recorder.end(alloc, &opened.world, &mut err, status),
@@ -186,21 +197,27 @@ fn run_in<L: Style, R: io::Read>(
 
 // Whether nothing is told beside the replies of a run, and nothing ends it before its script does.
 fn is_unwatched(manner: Manner<'_>) -> bool {
-    !(manner.is_explaining || manner.is_session || manner.is_strict)
+    !(manner.replies.are_told() || manner.is_session || manner.is_strict)
 }
 
-// Runs a script in a style over a world that was opened, with nobody who watches.
+// Runs a script in a style over a world that was opened, with nobody who watches but for a line of no form.
 fn run_unwatched<L: Style, R: io::Read>(
     rt: &HostRuntime,
+    manner: Manner<'_>,
     opened: &mut Opened,
     style: &mut L,
     script: &mut R,
 ) -> Status {
     let alloc = rt.alloc();
+    let mut noter = Noter::new(lines_of(alloc, manner));
+    let mut err = rt.stderr();
     let out = &mut Noted::new(rt.stdout());
     let script = &mut Noted::new(script);
-    let ended = run_over(alloc, opened, style, &mut Nobody, script, out);
-    tell_unwatched(alloc, ended, &mut Noted::new(rt.stderr()))
+    let ended = run_over(alloc, opened, style, &mut noter, script, out);
+    let why = stream_why(&ended, manner.files);
+    let status = tell_unwatched(alloc, ended, &mut Noted::new(&mut err));
+    tell_stream(rt, why, manner.causes);
+    noter.end(&mut err, status)
 }
 
 // Runs a script each of whose lines is one of a script: with nobody who watches, unless something else is asked for.
@@ -213,7 +230,7 @@ fn run_plain<L: Style, R: io::Read>(
     script: &mut R,
 ) -> Status {
     if recorder.is_none() && is_unwatched(manner) {
-        run_unwatched(rt, opened, style, script)
+        run_unwatched(rt, manner, opened, style, script)
     } else {
         run_in(rt, manner, opened, style, recorder, script)
     }
@@ -271,11 +288,25 @@ fn run_as_asked<R: io::Read>(
 
 // Opens a world over the policies in texts.
 fn open(rt: &HostRuntime, file: PolicyFile<'_>, manner: Manner<'_>) -> Result<Opened, Status> {
-    let explains = manner.is_explaining;
     let further = manner.files.further;
-    match open_run(rt.alloc(), file, further, explains, manner.places) {
+    match open_run(rt.alloc(), file, further, manner.causes, manner.places) {
         Ok(opened) => Ok(opened),
-        Err(blame) => Err(name_blame(rt.alloc(), blame, &mut rt.stderr())),
+        Err(blame) => {
+            let why = memory_why(manner, &blame);
+            let status = name_blame(rt.alloc(), blame, &mut rt.stderr());
+            tell_stream(rt, why, manner.causes);
+            Err(status)
+        }
+    }
+}
+
+// Why no world was opened, where memory was wanted for it.
+fn memory_why<'a>(manner: Manner<'a>, blame: &Blame) -> Option<Why<'a>> {
+    if blame.wants_memory() {
+        let script = manner.files.script.unwrap_or(STANDARD_INPUT);
+        Some(Why::of_file(script, LESS_MEMORY))
+    } else {
+        None
     }
 }
 
@@ -329,7 +360,7 @@ fn run_behind_journal<R: io::Read>(
     let policies = RunPolicies {
         file,
         further: manner.files.further,
-        explains: manner.is_explaining,
+        causes: manner.causes,
     };
     let mut opened = opened;
     let gone = match go_on(rt, name, policies, journal) {
@@ -361,7 +392,7 @@ fn run_with_journal<R: io::Read>(
         script: manner.files.script,
     };
     let mut opened = opened;
-    let mut journal = match open_journal(rt, asked, others, manner.is_explaining) {
+    let mut journal = match open_journal(rt, asked, others, manner.causes) {
         Ok(journal) => journal,
         Err(status) => return status,
     };
@@ -398,7 +429,7 @@ fn tell_unread(
     error: &io::Error,
 ) -> Status {
     match open(rt, file, manner) {
-        Ok(_) => unread(rt, name, manner.is_explaining, error),
+        Ok(_) => unread(rt, name, manner.causes, error),
         Err(status) => status,
     }
 }
@@ -494,8 +525,9 @@ fn run_from(rt: &HostRuntime, file: PolicyFile<'_>, manner: Manner<'_>) -> Statu
 // Tells that a policy was on standard input, where no script is left then.
 fn tell_no_script(rt: &HostRuntime, policy: &str, further: &[&str], manner: Manner<'_>) {
     let is_there = policy == STANDARD_INPUT || further.contains(&STANDARD_INPUT);
-    if manner.is_explaining && manner.files.script.is_none() && is_there {
-        let _ = eprintln!(rt; "{NO_SCRIPT}");
+    if manner.replies.are_told() && manner.files.script.is_none() && is_there {
+        let why = Why::of_file(STANDARD_INPUT, NO_SCRIPT);
+        manner.causes.tell(rt.alloc(), why, &mut rt.stderr());
     }
 }
 
@@ -516,6 +548,6 @@ pub fn run<'a>(
             tell_no_script(rt, policy, further, manner);
             run_behind(rt, file, further, manner)
         }
-        Err(error) => unread(rt, policy, manner.is_explaining, &error),
+        Err(error) => unread(rt, policy, manner.causes, &error),
     }
 }

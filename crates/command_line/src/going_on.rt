@@ -1,5 +1,6 @@
 //! A run that goes on behind a journal.
 
+use crate::causes::Causes;
 use crate::explaining::PolicyFile;
 use crate::journal_files::JournalFile;
 use crate::perform::failed;
@@ -23,12 +24,12 @@ pub struct GoneOn {
     bytes: Vec<u8>,
 }
 
-/// The policies of a run that goes on, and whether it is told why one is refused.
+/// The policies of a run that goes on, and how causes are told.
 #[derive(Clone, Copy)]
 pub struct RunPolicies<'a> {
     pub file: PolicyFile<'a>,
     pub further: Further<'a>,
-    pub explains: bool,
+    pub causes: Causes,
 }
 
 /// The texts of all its policies.
@@ -57,10 +58,10 @@ fn open_world(rt: &HostRuntime, policies: RunPolicies<'_>, room: u64) -> Result<
     let RunPolicies {
         file,
         further,
-        explains,
+        causes,
     } = policies;
     let places = usize::try_from(room).unwrap_or(0);
-    match open_run(alloc, file, further, explains, places) {
+    match open_run(alloc, file, further, causes, places) {
         Ok(opened) => Ok(opened),
         Err(blame) => Err(name_blame(alloc, blame, &mut rt.stderr())),
     }

@@ -1,5 +1,6 @@
 //! The files that journals are written into.
 
+use crate::causes::Causes;
 use crate::perform::{STANDARD_INPUT, failed, unmade_file};
 use commands::Status;
 use std::fs::{self, File, Metadata};
@@ -178,14 +179,14 @@ fn open_known(
     asked: AskedJournal<'_>,
     there: &Metadata,
     others: OtherFiles<'_>,
-    explains: bool,
+    causes: Causes,
 ) -> Result<JournalFile, Status> {
     if let Some(why) = why_not(rt, asked, there, others) {
         return Err(misused(rt, asked.name, why));
     }
     match open_there(rt, asked, there) {
         Ok(file) => Ok(file),
-        Err(error) => Err(unmade_file(rt, asked.name, explains, &error)),
+        Err(error) => Err(unmade_file(rt, asked.name, causes, &error)),
     }
 }
 
@@ -194,7 +195,7 @@ pub fn open_journal(
     rt: &HostRuntime,
     asked: AskedJournal<'_>,
     others: OtherFiles<'_>,
-    explains: bool,
+    causes: Causes,
 ) -> Result<JournalFile, Status> {
     let name = asked.name;
     if name == STANDARD_INPUT {
@@ -212,17 +213,17 @@ pub fn open_journal(
         ));
     }
     match fs::metadata(rt, name) {
-        Ok(there) => open_known(rt, asked, &there, others, explains),
+        Ok(there) => open_known(rt, asked, &there, others, causes),
         Err(error) if error.kind() == io::ErrorKind::NotFound => match open_new(rt, asked) {
             Ok(file) => Ok(file),
             Err(error) if error.kind() == io::ErrorKind::AlreadyExists => {
                 Err(misused(rt, name, "it is there already"))
             }
-            Err(error) => Err(unmade_file(rt, name, explains, &error)),
+            Err(error) => Err(unmade_file(rt, name, causes, &error)),
         },
         Err(error) => match error.kind() {
             io::ErrorKind::OutOfMemory => Err(failed(rt, "no memory")),
-            _ => Err(unmade_file(rt, name, explains, &error)),
+            _ => Err(unmade_file(rt, name, causes, &error)),
         },
     }
 }

@@ -9,6 +9,7 @@
 #![tactic(auto)]
 
 mod author;
+mod causes;
 mod completions;
 mod decoding;
 mod explaining;
@@ -31,6 +32,5 @@ mod syntax;
 mod terminal;
 mod threads;
 mod watchers;
-mod writers;
 
 pub use perform::{obey, out_of_memory};

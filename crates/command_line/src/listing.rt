@@ -1,7 +1,8 @@
 //! A check that lists what the policy declares and allows.
 
 use crate::author::{fails, told};
-use crate::explaining::{PolicyFile, Tells, tell_entries};
+use crate::causes::Causes;
+use crate::explaining::{PolicyFile, tell_entries};
 use crate::policies::{judge, name_blame};
 use commands::Status;
 use policy::Policy;
@@ -46,13 +47,13 @@ pub fn list_policy<O: io::Write, E: io::Write>(
     alloc: Global,
     file: PolicyFile<'_>,
     form: ListForm,
-    tells: Tells,
+    causes: Causes,
     out: &mut O,
     err: &mut E,
 ) -> Status {
-    match judge(alloc, file, tells.faults) {
+    match judge(alloc, file, causes) {
         Ok(judged) => match write_list(listed(alloc, &judged.policy, form), out, err) {
-            Status::Done if tells.entries => tell_entries(alloc, file, &judged, err, Status::Done),
+            Status::Done => tell_entries(alloc, file, &judged, causes, err),
             status => status,
         },
         Err(blame) => name_blame(alloc, blame, err),

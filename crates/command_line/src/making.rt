@@ -1,9 +1,10 @@
 //! Policies that are made of kernels' files: one with the texts in their place, and one to begin with.
 
 use crate::author::{MOST_TEXT, told};
-use crate::explaining::{PolicyFile, tell};
+use crate::causes::Causes;
+use crate::explaining::{PolicyFile, tell_entries};
 use crate::perform::{failed, read_file, read_most, unread};
-use crate::policies::{entries_told, judge_made, name_blame};
+use crate::policies::{judge_made, name_blame};
 use commands::Status;
 use explain::{file_fault, said_at};
 use kernel_listing::{Entries, entry_names};
@@ -75,7 +76,8 @@ fn checked(rt: &HostRuntime, file: &str, bytes: &[u8]) -> Result<Vec<String>, St
     match entry_names(rt.alloc(), bytes) {
         Ok(Entries::Names(names)) => Ok(names),
         Ok(Entries::Fault(fault)) => {
-            let why = file_fault(rt.alloc(), file, bytes, fault);
+            let said = "the kernel's text has a fault: ";
+            let why = file_fault(rt.alloc(), file, bytes, said, fault);
             Err(refused(rt, why))
         }
         Err(_) => Err(failed(rt, "no memory")),
@@ -97,7 +99,7 @@ fn kernel_file(rt: &HostRuntime, name: String, bytes: &[u8]) -> Result<KernelFil
 fn text_of(
     rt: &HostRuntime,
     policy: &str,
-    explains: bool,
+    causes: Causes,
     file: &TextFile<'_>,
 ) -> Result<String, Status> {
     let Ok(name) = beside(rt.alloc(), policy, file.name.as_str()) else {
@@ -105,7 +107,7 @@ fn text_of(
     };
     match read_named(rt, name.as_str()) {
         Ok(bytes) => Ok(kernel_file(rt, name, bytes.as_slice())?.text),
-        Err(error) => Err(unread(rt, name.as_str(), explains, &error)),
+        Err(error) => Err(unread(rt, name.as_str(), causes, &error)),
     }
 }
 
@@ -113,12 +115,12 @@ fn text_of(
 fn texts_of(
     rt: &HostRuntime,
     policy: &str,
-    explains: bool,
+    causes: Causes,
     files: &[TextFile<'_>],
 ) -> Result<Vec<String>, Status> {
     let mut texts = Vec::new(rt.alloc());
     for file in files {
-        let text = text_of(rt, policy, explains, file)?;
+        let text = text_of(rt, policy, causes, file)?;
         if texts.push(text).is_err() {
             return Err(failed(rt, "no memory"));
         }
@@ -135,14 +137,10 @@ fn write_policy(rt: &HostRuntime, made: &str) -> Status {
 }
 
 // Writes what a policy in a file was made into, if it is let pass, and else tells its first fault.
-fn write_made(rt: &HostRuntime, file: PolicyFile<'_>, explains: bool, made: &str) -> Status {
-    match judge_made(rt.alloc(), file, explains, made.as_bytes()) {
+fn write_made(rt: &HostRuntime, file: PolicyFile<'_>, causes: Causes, made: &str) -> Status {
+    match judge_made(rt.alloc(), file, causes, made.as_bytes()) {
         Ok(judged) => match write_policy(rt, made) {
-            Status::Done => tell(
-                &mut rt.stderr(),
-                entries_told(rt.alloc(), file, &judged),
-                Status::Done,
-            ),
+            Status::Done => tell_entries(rt.alloc(), file, &judged, causes, &mut rt.stderr()),
             status => status,
         },
         Err(blame) => name_blame(rt.alloc(), blame, &mut rt.stderr()),
@@ -153,24 +151,24 @@ fn write_made(rt: &HostRuntime, file: PolicyFile<'_>, explains: bool, made: &str
 fn embed_files(
     rt: &HostRuntime,
     file: PolicyFile<'_>,
-    explains: bool,
+    causes: Causes,
     policy: &str,
     files: &[TextFile<'_>],
 ) -> Status {
-    let texts = match texts_of(rt, file.name, explains, files) {
+    let texts = match texts_of(rt, file.name, causes, files) {
         Ok(texts) => texts,
         Err(status) => return status,
     };
     match embedded(rt.alloc(), policy, files, texts.as_slice()) {
-        Ok(made) => write_made(rt, file, explains, made.as_str()),
+        Ok(made) => write_made(rt, file, causes, made.as_str()),
         Err(_) => failed(rt, "no memory"),
     }
 }
 
 // Writes the policy in a text with the texts of its files in their place.
-fn embed_letters(rt: &HostRuntime, file: PolicyFile<'_>, explains: bool, policy: &str) -> Status {
+fn embed_letters(rt: &HostRuntime, file: PolicyFile<'_>, causes: Causes, policy: &str) -> Status {
     match text_files(rt.alloc(), policy) {
-        Ok(files) => embed_files(rt, file, explains, policy, files.as_slice()),
+        Ok(files) => embed_files(rt, file, causes, policy, files.as_slice()),
         Err(NoFiles::NoName(position)) => refused_at(
             rt,
             file.name,
@@ -188,30 +186,30 @@ fn embed_letters(rt: &HostRuntime, file: PolicyFile<'_>, explains: bool, policy:
 }
 
 // Tells the fault of a policy that is no text.
-fn tell_fault(rt: &HostRuntime, file: PolicyFile<'_>, explains: bool) -> Status {
-    match judge_made(rt.alloc(), file, explains, file.text) {
+fn tell_fault(rt: &HostRuntime, file: PolicyFile<'_>, causes: Causes) -> Status {
+    match judge_made(rt.alloc(), file, causes, file.text) {
         Ok(_) => Status::Refused,
         Err(blame) => name_blame(rt.alloc(), blame, &mut rt.stderr()),
     }
 }
 
 // Writes the policy in a text, if it is UTF-8, and else tells that it isn't.
-fn embed_text(rt: &HostRuntime, file: PolicyFile<'_>, explains: bool) -> Status {
+fn embed_text(rt: &HostRuntime, file: PolicyFile<'_>, causes: Causes) -> Status {
     match std::str::from_utf8(file.text) {
-        Ok(policy) => embed_letters(rt, file, explains, policy),
-        Err(_) => tell_fault(rt, file, explains),
+        Ok(policy) => embed_letters(rt, file, causes, policy),
+        Err(_) => tell_fault(rt, file, causes),
     }
 }
 
 /// Writes the policy in a file with the texts of kernels in the place of the files that it names, or tells what is wrong
-/// with it, or with such a file; if it explains, also where a fault of the policy lies, and which file can't be read.
-pub fn embed(rt: &HostRuntime, policy: &str, explains: bool) -> Status {
+/// with it, or with such a file; if causes are told, also where a fault of the policy lies, and which file can't be read.
+pub fn embed(rt: &HostRuntime, policy: &str, causes: Causes) -> Status {
     match read_file(rt, policy) {
         Ok(text) => {
             let text = text.as_slice();
-            embed_text(rt, PolicyFile { name: policy, text }, explains)
+            embed_text(rt, PolicyFile { name: policy, text }, causes)
         }
-        Err(error) => unread(rt, policy, explains, &error),
+        Err(error) => unread(rt, policy, causes, &error),
     }
 }
 
@@ -240,10 +238,10 @@ fn begun_of(alloc: Global, files: &[KernelFile]) -> Result<String, AllocError> {
 }
 
 // The kernels in a file, or how the command ends; `-` is standard input.
-fn kernels_in(rt: &HostRuntime, name: &str, explains: bool) -> Result<KernelFile, Status> {
+fn kernels_in(rt: &HostRuntime, name: &str, causes: Causes) -> Result<KernelFile, Status> {
     let bytes = match read_most(rt, name, MOST_TEXT) {
         Ok(bytes) => bytes,
-        Err(error) => return Err(unread(rt, name, explains, &error)),
+        Err(error) => return Err(unread(rt, name, causes, &error)),
     };
     let Ok(copy) = format!(in rt.alloc(); "{name}") else {
         return Err(failed(rt, "no memory"));
@@ -256,10 +254,10 @@ fn kernels_in(rt: &HostRuntime, name: &str, explains: bool) -> Result<KernelFile
 }
 
 // The files of kernels of these names, in order.
-fn files_of(rt: &HostRuntime, names: &[&str], explains: bool) -> Result<Vec<KernelFile>, Status> {
+fn files_of(rt: &HostRuntime, names: &[&str], causes: Causes) -> Result<Vec<KernelFile>, Status> {
     let mut files = Vec::new(rt.alloc());
     for name in names {
-        let file = kernels_in(rt, name, explains)?;
+        let file = kernels_in(rt, name, causes)?;
         if files.push(file).is_err() {
             return Err(failed(rt, "no memory"));
         }
@@ -267,10 +265,10 @@ fn files_of(rt: &HostRuntime, names: &[&str], explains: bool) -> Result<Vec<Kern
     Ok(files)
 }
 
-/// Writes a policy to begin with that has the kernels in these files, or tells the first fault of the files; if it explains,
-/// also which can't be read.
-pub fn begin(rt: &HostRuntime, names: &[&str], explains: bool) -> Status {
-    let files = match files_of(rt, names, explains) {
+/// Writes a policy to begin with that has the kernels in these files, or tells the first fault of the files; if causes are
+/// told, also which can't be read.
+pub fn begin(rt: &HostRuntime, names: &[&str], causes: Causes) -> Status {
+    let files = match files_of(rt, names, causes) {
         Ok(files) => files,
         Err(status) => return status,
     };
@@ -280,7 +278,7 @@ pub fn begin(rt: &HostRuntime, names: &[&str], explains: bool) -> Status {
                 name: "what is made",
                 text: made.as_bytes(),
             };
-            write_made(rt, file, explains, made.as_str())
+            write_made(rt, file, causes, made.as_str())
         }
         Err(_) => failed(rt, "no memory"),
     }

@@ -1,9 +1,10 @@
 //! Does what a command line asks.
 
 use crate::author::{assemble_from, explain, kernel, told};
+use crate::causes::Causes;
 use crate::completions::{Shell, completions};
 use crate::decoding::{MOST_DUMP, decode_digits, decode_slots};
-use crate::explaining::{PolicyFile, Tells, check_telling};
+use crate::explaining::{PolicyFile, check_telling};
 use crate::further::run;
 use crate::journal_files::{AskedJournal, OtherFiles, open_journal};
 use crate::listing::{ListForm, list_policy};
@@ -16,6 +17,7 @@ use crate::syntax::{ALWAYS, MOST_NEXT, NEVER};
 use crate::threads::{AskedLoad, run_threads};
 use clap::Error;
 use commands::{Setup, Status};
+use explain::Why;
 use pages::{Page, rows_of};
 use policy::{MOST_POLICY_BYTES, Policy};
 use std::fs::File;
@@ -72,38 +74,32 @@ pub fn read_file(rt: &HostRuntime, policy: &str) -> io::Result<Vec<u8>> {
     read_most(rt, policy, (MOST_POLICY_BYTES as u64).saturating_add(1))
 }
 
-/// Tells which file couldn't be read, and why.
-pub fn unread_policy(rt: &HostRuntime, file: &str, error: &io::Error) -> Status {
-    let status = unread_file(rt, error);
-    let why = match error.kind() {
+// Why a file can't be read; of a name that is a value of the option that says whether it is told why, how that is written.
+fn why_unread(file: &str, error: &io::Error) -> &'static str {
+    match error.kind() {
+        io::ErrorKind::NotFound if file == ALWAYS => {
+            "there is no such file; the option is written `--explain=always`, with `=`"
+        }
+        io::ErrorKind::NotFound if file == NEVER => {
+            "there is no such file; the option is written `--explain=never`, with `=`"
+        }
         io::ErrorKind::NotFound => "there is no such file",
         io::ErrorKind::PermissionDenied => "it may not be read",
         io::ErrorKind::IsADirectory => "it is a directory, and a file is asked for",
         _ => "reading it failed",
-    };
-    let _ = eprintln!(rt; "{file}: {why}");
-    if is_value_of_explain(file) && error.kind() == io::ErrorKind::NotFound {
-        let _ = eprintln!(rt; "{file}: the option is written `--explain={file}`, with `=`");
     }
+}
+
+/// Tells that a file couldn't be read, and if causes are told, why.
+pub fn unread(rt: &HostRuntime, file: &str, causes: Causes, error: &io::Error) -> Status {
+    let status = unread_file(rt, error);
+    let why = Why::of_file(file, why_unread(file, error));
+    causes.tell(rt.alloc(), why, &mut rt.stderr());
     status
 }
 
-// Whether a file's name is a value of the option that says whether it is told why.
-fn is_value_of_explain(file: &str) -> bool {
-    file == ALWAYS || file == NEVER
-}
-
-/// The same, where it is told why; else that it failed.
-pub fn unread(rt: &HostRuntime, file: &str, explains: bool, error: &io::Error) -> Status {
-    if explains {
-        unread_policy(rt, file, error)
-    } else {
-        unread_file(rt, error)
-    }
-}
-
 // Checks the policy in a file.
-fn check(rt: &HostRuntime, policy: &str, tells: Tells) -> Status {
+fn check(rt: &HostRuntime, policy: &str, causes: Causes) -> Status {
     match read_file(rt, policy) {
         Ok(text) => check_telling(
             rt.alloc(),
@@ -111,30 +107,30 @@ fn check(rt: &HostRuntime, policy: &str, tells: Tells) -> Status {
                 name: policy,
                 text: text.as_slice(),
             },
-            tells,
+            causes,
             &mut rt.stdout(),
             &mut rt.stderr(),
         ),
-        Err(error) => unread(rt, policy, tells.faults, &error),
+        Err(error) => unread(rt, policy, causes, &error),
     }
 }
 
 // Assembles a script by the policy in a file.
-fn assemble_by(rt: &HostRuntime, policy: &str, script: Option<&str>, explains: bool) -> Status {
+fn assemble_by(rt: &HostRuntime, policy: &str, script: Option<&str>, causes: Causes) -> Status {
     match read_file(rt, policy) {
         Ok(text) => {
             let file = PolicyFile {
                 name: policy,
                 text: text.as_slice(),
             };
-            assemble_from(rt, file, script, explains)
+            assemble_from(rt, file, script, causes)
         }
-        Err(error) => unread(rt, policy, explains, &error),
+        Err(error) => unread(rt, policy, causes, &error),
     }
 }
 
 // Lists what the policy in a file declares.
-fn list(rt: &HostRuntime, policy: &str, form: ListForm, tells: Tells) -> Status {
+fn list(rt: &HostRuntime, policy: &str, form: ListForm, causes: Causes) -> Status {
     match read_file(rt, policy) {
         Ok(text) => list_policy(
             rt.alloc(),
@@ -143,16 +139,16 @@ fn list(rt: &HostRuntime, policy: &str, form: ListForm, tells: Tells) -> Status 
                 text: text.as_slice(),
             },
             form,
-            tells,
+            causes,
             &mut rt.stdout(),
             &mut rt.stderr(),
         ),
-        Err(error) => unread(rt, policy, tells.faults, &error),
+        Err(error) => unread(rt, policy, causes, &error),
     }
 }
 
 // Tells the slots in a file.
-fn decode_file(rt: &HostRuntime, slots: &str, policy: Option<&Policy>, explains: bool) -> Status {
+fn decode_file(rt: &HostRuntime, slots: &str, policy: Option<&Policy>, causes: Causes) -> Status {
     match read_most(rt, slots, MOST_DUMP) {
         Ok(dump) => decode_slots(
             rt.alloc(),
@@ -161,7 +157,7 @@ fn decode_file(rt: &HostRuntime, slots: &str, policy: Option<&Policy>, explains:
             &mut rt.stdout(),
             &mut rt.stderr(),
         ),
-        Err(error) => unread(rt, slots, explains, &error),
+        Err(error) => unread(rt, slots, causes, &error),
     }
 }
 
@@ -182,7 +178,7 @@ fn decode_by(
 ) -> Option<Status> {
     let alloc = rt.alloc();
     match packets.slots {
-        Some(file) => Some(decode_file(rt, file, policy, packets.explains)),
+        Some(file) => Some(decode_file(rt, file, policy, packets.causes)),
         None => decode_digits(alloc, policy, digits, &mut rt.stdout(), &mut rt.stderr()),
     }
 }
@@ -196,10 +192,10 @@ fn decode_named(
 ) -> Option<Status> {
     let text = match read_file(rt, name) {
         Ok(text) => text,
-        Err(error) => return Some(unread(rt, name, packets.explains, &error)),
+        Err(error) => return Some(unread(rt, name, packets.causes, &error)),
     };
     let text = text.as_slice();
-    match judge(rt.alloc(), PolicyFile { name, text }, packets.explains) {
+    match judge(rt.alloc(), PolicyFile { name, text }, packets.causes) {
         Ok(judged) => decode_by(rt, packets, Some(&judged.policy), digits),
         Err(blame) => Some(name_blame(rt.alloc(), blame, &mut rt.stderr())),
     }
@@ -231,13 +227,11 @@ fn why_unmade(error: &io::Error) -> &'static str {
     }
 }
 
-/// The same, and which file it is and why, if that is told.
-pub fn unmade_file(rt: &HostRuntime, file: &str, explains: bool, error: &io::Error) -> Status {
+/// The same, and which file it is and why, if causes are told.
+pub fn unmade_file(rt: &HostRuntime, file: &str, causes: Causes, error: &io::Error) -> Status {
     let status = unmade(rt, error);
-    if explains {
-        let why = why_unmade(error);
-        let _ = eprintln!(rt; "{file}: {why}");
-    }
+    let why = Why::of_file(file, why_unmade(error));
+    causes.tell(rt.alloc(), why, &mut rt.stderr());
     status
 }
 
@@ -270,7 +264,7 @@ fn run_load_over<R: Threads + Wait + Sync>(
         further: &[],
         script: None,
     };
-    match open_journal(rt, wanted, others, asked.explains) {
+    match open_journal(rt, wanted, others, asked.causes) {
         Ok(mut journal) => run_threads(
             threads,
             rt,
@@ -294,7 +288,7 @@ fn run_load_in<R: Threads + Wait + Sync>(
     asked: AskedLoad,
     journal: Option<AskedJournal<'_>>,
 ) -> Status {
-    match judge(rt.alloc(), file, asked.explains) {
+    match judge(rt.alloc(), file, asked.causes) {
         Ok(judged) => run_load_over(rt, threads, file, judged, asked, journal),
         Err(blame) => name_blame(rt.alloc(), blame, &mut rt.stderr()),
     }
@@ -317,7 +311,7 @@ fn run_load_of<R: Threads + Wait + Sync>(
             };
             run_load_in(rt, threads, file, asked, journal)
         }
-        Err(error) => unread(rt, policy, asked.explains, &error),
+        Err(error) => unread(rt, policy, asked.causes, &error),
     }
 }
 
@@ -347,23 +341,23 @@ fn print_completions(rt: &HostRuntime, shell: Shell) -> Status {
 
 // Draws a journal, or tells it.
 fn perform_shown(rt: &HostRuntime, asked: &Asked<'_>) -> Option<Status> {
-    let (policy, shown, explains, journal) = match asked.request {
+    let (policy, shown, causes, journal) = match asked.request {
         Invocation::PictureOfJournal {
             policy,
             span,
             output,
-            explains,
+            causes,
             journal,
-        } => (policy, Shown::Drawn { span, output }, explains, journal),
+        } => (policy, Shown::Drawn { span, output }, causes, journal),
         Invocation::ExplainJournal {
             policy,
-            explains,
+            causes,
             journal,
-        } => (policy, Shown::Told, explains, journal),
+        } => (policy, Shown::Told, causes, journal),
         _ => return None,
     };
     let further = asked.further.as_slice();
-    Some(show_journal(rt, policy, further, shown, explains, journal))
+    Some(show_journal(rt, policy, further, shown, causes, journal))
 }
 
 // Runs a script or draws its run, replays a journal, or shows one.
@@ -376,13 +370,13 @@ fn perform_run(rt: &HostRuntime, asked: &Asked<'_>) -> Option<Status> {
             journal,
             tells_state,
             has,
-            explains,
+            causes,
         } => {
             let asked = Replayed {
                 journal,
                 tells_state,
                 has,
-                explains,
+                causes,
             };
             Some(replay_telling(rt, policy, further, asked))
         }
@@ -393,24 +387,20 @@ fn perform_run(rt: &HostRuntime, asked: &Asked<'_>) -> Option<Status> {
 // Does what is asked of a file that isn't run, of a word or of digits, and tells the exit status.
 fn perform_alone(rt: &HostRuntime, asked: &Asked<'_>) -> u8 {
     match asked.request {
-        Invocation::Check { policy, tells } => check(rt, policy, tells).number(),
+        Invocation::Check { policy, causes } => check(rt, policy, causes).number(),
         Invocation::List {
             policy,
             form,
-            tells,
-        } => list(rt, policy, form, tells).number(),
-        Invocation::Kernel {
-            file,
-            form,
-            explains,
-        } => kernel(rt, file, form, explains).number(),
+            causes,
+        } => list(rt, policy, form, causes).number(),
+        Invocation::Kernel { file, form, causes } => kernel(rt, file, form, causes).number(),
         Invocation::Assemble {
             policy,
             script,
-            explains,
-        } => assemble_by(rt, policy, script, explains).number(),
-        Invocation::Embed { policy, explains } => embed(rt, policy, explains).number(),
-        Invocation::Begin { explains } => { begin(rt, asked.further.as_slice(), explains).number() }
+            causes,
+        } => assemble_by(rt, policy, script, causes).number(),
+        Invocation::Embed { policy, causes } => embed(rt, policy, causes).number(),
+        Invocation::Begin { causes } => begin(rt, asked.further.as_slice(), causes).number(),
         Invocation::Explain { word } => number_of(explain(rt, word)),
         Invocation::Decode(packets) => decode(rt, packets, asked.further.as_slice()),
         Invocation::Completions { shell } => print_completions(rt, shell).number(),
@@ -428,12 +418,14 @@ fn perform<R: Threads + Wait + Sync>(rt: &HostRuntime, threads: &R, asked: &Aske
         packets,
         journal,
         explains,
+        causes,
     } = asked.request
     {
         let load = AskedLoad {
             producers,
             packets,
             explains,
+            causes,
             is_counted: rt.stderr().is_terminal(),
         };
         return run_load_of(rt, threads, policy, load, journal).number();
@@ -488,7 +480,7 @@ fn misused(rt: &HostRuntime, why: &str) -> u8 {
 /// Reads the words of a command line, the program's own name first, does what they ask or says how they are to be
 /// written, and tells the exit status: that of the command (`Status::number`), 0 for the help and the version, 2 for
 /// words that aren't understood, 3 where the text that says so can't be written. The second runtime is the one whose
-/// threads a load runs on. Where standard error is a terminal and the words don't say otherwise, faults are explained.
+/// threads a load runs on. Where standard error is a terminal and the words don't say otherwise, replies are explained.
 pub fn obey<R: Threads + Wait + Sync>(rt: &HostRuntime, threads: &R, words: &[String]) -> u8 {
     let unasked = rt.stderr().is_terminal();
     match read_words(rt.alloc(), words, unasked) {

@@ -1,5 +1,6 @@
 //! The policies of a command that may tell why: where they keep it from its work, what is wrong is looked for once more.
 
+use crate::causes::Causes;
 use crate::explaining::{PolicyFile, fault_told, kernel_told, tell};
 use crate::read_journals::PolicyFiles;
 use access_core::Kernel;
@@ -44,11 +45,18 @@ impl<'a> Further<'a> {
     }
 }
 
-/// Why its policies keep a command from its work, and what is told of that, if it is told why.
+/// Why its policies keep a command from its work, and what is told of that, if causes are told.
 #[derive(Drop)]
 pub struct Blame {
     failure: Failure,
     told: Result<String, AllocError>,
+}
+
+impl Blame {
+    /// Whether memory was wanted and not to be had.
+    pub fn wants_memory(&self) -> bool {
+        self.failure == Failure::OutOfMemory
+    }
 }
 
 // What is told of the fault of the policy of a place.
@@ -110,11 +118,11 @@ fn blame_with(
     alloc: Global,
     file: PolicyFile<'_>,
     further: Further<'_>,
-    explains: bool,
+    causes: Causes,
     why: Unopened,
 ) -> Blame {
-    let told = if explains {
-        told_of(alloc, file, further, why)
+    let told = if causes.are_told() {
+        causes.form(alloc, told_of(alloc, file, further, why))
     } else {
         Ok(String::new(alloc))
     };
@@ -125,16 +133,16 @@ fn blame_with(
 }
 
 // The same of the first policy alone.
-fn blame_first(alloc: Global, file: PolicyFile<'_>, explains: bool, failure: Failure) -> Blame {
+fn blame_first(alloc: Global, file: PolicyFile<'_>, causes: Causes, failure: Failure) -> Blame {
     let why = Unopened { failure, place: 0 };
-    blame_with(alloc, file, Further::none(), explains, why)
+    blame_with(alloc, file, Further::none(), causes, why)
 }
 
 /// Reads the policy in a file, and checks its kernels.
-pub fn judge(alloc: Global, file: PolicyFile<'_>, explains: bool) -> Result<Setup, Blame> {
+pub fn judge(alloc: Global, file: PolicyFile<'_>, causes: Causes) -> Result<Setup, Blame> {
     match judge_text(alloc, file.text) {
         Ok(setup) => Ok(setup),
-        Err(failure) => Err(blame_first(alloc, file, explains, failure)),
+        Err(failure) => Err(blame_first(alloc, file, causes, failure)),
     }
 }
 
@@ -152,18 +160,18 @@ fn made_told(
     }
 }
 
-/// Reads what a policy in a file was made into, and checks its kernels. If it explains, it is told where a fault lies in the
+/// Reads what a policy in a file was made into, and checks its kernels. If causes are told, it is told where a fault lies in the
 /// file.
 pub fn judge_made(
     alloc: Global,
     file: PolicyFile<'_>,
-    explains: bool,
+    causes: Causes,
     made: &[u8],
 ) -> Result<Setup, Blame> {
     match judge_text(alloc, made) {
         Ok(setup) => Ok(setup),
         Err(failure) => {
-            let told = if explains {
+            let told = if causes.are_told() {
                 made_told(alloc, file, made, failure)
             } else {
                 Ok(String::new(alloc))
@@ -178,12 +186,12 @@ pub fn open_run(
     alloc: Global,
     file: PolicyFile<'_>,
     further: Further<'_>,
-    explains: bool,
+    causes: Causes,
     places: usize,
 ) -> Result<Opened, Blame> {
     match open_policies(alloc, file.text, further.texts, places) {
         Ok(opened) => Ok(opened),
-        Err(why) => Err(blame_with(alloc, file, further, explains, why)),
+        Err(why) => Err(blame_with(alloc, file, further, causes, why)),
     }
 }
 
@@ -215,7 +223,7 @@ pub fn entries_told(
 pub fn given_policies(
     alloc: Global,
     files: PolicyFiles<'_>,
-    explains: bool,
+    causes: Causes,
 ) -> Result<GivenPolicies, Blame> {
     match GivenPolicies::read(alloc, files.texts) {
         Ok(given) => Ok(given),
@@ -224,7 +232,7 @@ pub fn given_policies(
                 failure: Failure::of_reading(fault.why),
                 place: fault.place,
             };
-            Err(blame_with(alloc, files.file(0), files.further(), explains, why))
+            Err(blame_with(alloc, files.file(0), files.further(), causes, why))
         }
     }
 }
@@ -234,18 +242,18 @@ pub fn policies_at(
     alloc: Global,
     given: GivenPolicies,
     files: PolicyFiles<'_>,
-    explains: bool,
+    causes: Causes,
     place: usize,
 ) -> Result<JournalPolicies, Blame> {
     let file = files.file(place);
-    let Setup { policy, kernels } = judge(alloc, file, explains)?;
+    let Setup { policy, kernels } = judge(alloc, file, causes)?;
     if let Some(kernel) = without_entry(kernels.as_slice()) {
         let failure = Failure::NoEntry(kernel);
-        return Err(blame_first(alloc, file, explains, failure));
+        return Err(blame_first(alloc, file, causes, failure));
     }
     match given.open(alloc, place, policy, kernels) {
         Ok(policies) => Ok(policies),
-        Err(failure) => Err(blame_first(alloc, file, explains, failure)),
+        Err(failure) => Err(blame_first(alloc, file, causes, failure)),
     }
 }
 

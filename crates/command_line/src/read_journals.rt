@@ -1,5 +1,6 @@
 //! Journals as they are read: their heads first, which tell the policies that they want.
 
+use crate::causes::Causes;
 use crate::explaining::PolicyFile;
 use crate::perform::{read_file, unread};
 use crate::policies::{Blame, Further, given_policies, name_blame, policies_at};
@@ -53,7 +54,7 @@ pub fn names_of<'a>(
 pub fn texts_of(
     rt: &HostRuntime,
     names: &[&str],
-    explains: bool,
+    causes: Causes,
 ) -> Result<Vec<PolicyText>, Status> {
     let mut texts = Vec::new(rt.alloc());
     for name in names {
@@ -63,7 +64,7 @@ pub fn texts_of(
                     return Err(crate::perform::failed(rt, "no memory"));
                 }
             }
-            Err(error) => return Err(unread(rt, name, explains, &error)),
+            Err(error) => return Err(unread(rt, name, causes, &error)),
         }
     }
     Ok(texts)
@@ -73,9 +74,9 @@ pub fn texts_of(
 pub fn read_given(
     rt: &HostRuntime,
     files: PolicyFiles<'_>,
-    explains: bool,
+    causes: Causes,
 ) -> Result<GivenPolicies, Status> {
-    match given_policies(rt.alloc(), files, explains) {
+    match given_policies(rt.alloc(), files, causes) {
         Ok(given) => Ok(given),
         Err(blame) => Err(name_blame(rt.alloc(), blame, &mut rt.stderr())),
     }
@@ -93,14 +94,14 @@ fn open_policies(
     rt: &HostRuntime,
     given: GivenPolicies,
     files: PolicyFiles<'_>,
-    explains: bool,
+    causes: Causes,
     digest: &[u8; 32],
 ) -> Result<JournalPolicies, Unbegun> {
     let alloc = rt.alloc();
     let Some(place) = given.place_of(digest) else {
         return Err(Unbegun::Fault(Fault::of_policy(alloc, digest)));
     };
-    match policies_at(alloc, given, files, explains, place) {
+    match policies_at(alloc, given, files, causes, place) {
         Ok(policies) => Ok(policies),
         Err(blame) => Err(Unbegun::Blame(blame)),
     }
@@ -111,13 +112,13 @@ fn begin<'a, R: io::Read>(
     rt: &HostRuntime,
     given: GivenPolicies,
     files: PolicyFiles<'_>,
-    explains: bool,
+    causes: Causes,
     journal: &'a mut R,
 ) -> Result<(JournalPolicies, JournalEntries<'a, R>), Unbegun> {
     match JournalEntries::begin(rt.alloc(), journal) {
         Ok(Begun::Headed(entries)) => {
             let digest = entries.head().policy;
-            let policies = open_policies(rt, given, files, explains, &digest)?;
+            let policies = open_policies(rt, given, files, causes, &digest)?;
             Ok((policies, entries))
         }
         Ok(Begun::Cut) => Err(Unbegun::Headless),
@@ -130,12 +131,12 @@ pub fn begin_reading<'a, R: io::Read>(
     rt: &HostRuntime,
     given: GivenPolicies,
     files: PolicyFiles<'_>,
-    explains: bool,
+    causes: Causes,
     journal: &'a mut R,
 ) -> Result<(JournalPolicies, JournalEntries<'a, R>), Status> {
     let alloc = rt.alloc();
     let mut err = rt.stderr();
-    match begin(rt, given, files, explains, journal) {
+    match begin(rt, given, files, causes, journal) {
         Ok(begun) => Ok(begun),
         Err(Unbegun::Fault(fault)) => Err(tell_fault(alloc, fault, &mut err)),
         Err(Unbegun::Blame(blame)) => Err(name_blame(alloc, blame, &mut err)),

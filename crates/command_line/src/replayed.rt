@@ -1,5 +1,6 @@
 //! Journals in files, and on standard input.
 
+use crate::causes::Causes;
 use crate::perform::{STANDARD_INPUT, failed, unmade_file, unread};
 use crate::read_journals::{PolicyFiles, begin_reading, names_of, read_given, texts_of};
 use commands::{Span, Status};
@@ -16,20 +17,13 @@ pub enum Shown<'a> {
     Told,
 }
 
-impl Shown<'_> {
-    // Whether all is told, and so of a policy's fault what is wrong there.
-    fn is_told(self) -> bool {
-        matches!(self, Shown::Told)
-    }
-}
-
 // Draws a journal, into a file, if one is named.
 fn draw_into<R: io::Read>(
     rt: &HostRuntime,
     policies: JournalPolicies,
     span: Span,
     output: Option<&str>,
-    explains: bool,
+    causes: Causes,
     journal: &mut JournalEntries<'_, R>,
 ) -> Status {
     let alloc = rt.alloc();
@@ -39,7 +33,7 @@ fn draw_into<R: io::Read>(
     };
     match File::create(rt, name) {
         Ok(mut file) => draw_journal(alloc, policies, span, journal, &mut file, &mut err),
-        Err(error) => unmade_file(rt, name, explains, &error),
+        Err(error) => unmade_file(rt, name, causes, &error),
     }
 }
 
@@ -49,11 +43,11 @@ fn show_over<R: io::Read>(
     given: GivenPolicies,
     files: PolicyFiles<'_>,
     shown: Shown<'_>,
-    explains: bool,
+    causes: Causes,
     journal: &mut R,
 ) -> Status {
     let alloc = rt.alloc();
-    let begun = begin_reading(rt, given, files, explains || shown.is_told(), journal);
+    let begun = begin_reading(rt, given, files, causes, journal);
     let (policies, mut entries) = match begun {
         Ok(begun) => begun,
         Err(status) => return status,
@@ -64,7 +58,7 @@ fn show_over<R: io::Read>(
             policies,
             span,
             output,
-            explains,
+            causes,
             &mut entries,
         ),
         Shown::Told => tell_journal(
@@ -83,32 +77,32 @@ fn show_in(
     given: GivenPolicies,
     files: PolicyFiles<'_>,
     shown: Shown<'_>,
-    explains: bool,
+    causes: Causes,
     journal: &str,
 ) -> Status {
     if journal == STANDARD_INPUT {
-        return show_over(rt, given, files, shown, explains, &mut rt.stdin());
+        return show_over(rt, given, files, shown, causes, &mut rt.stdin());
     }
     match File::open(rt, journal) {
-        Ok(mut opened) => show_over(rt, given, files, shown, explains, &mut opened),
-        Err(error) => unread(rt, journal, explains, &error),
+        Ok(mut opened) => show_over(rt, given, files, shown, causes, &mut opened),
+        Err(error) => unread(rt, journal, causes, &error),
     }
 }
 
-/// Shows the journal in a file over policies in others, without making its calls. If it explains, it tells which file can't
+/// Shows the journal in a file over policies in others, without making its calls. If causes are told, it tells which file can't
 /// be read, and why.
 pub fn show_journal(
     rt: &HostRuntime,
     policy: &str,
     further: &[&str],
     shown: Shown<'_>,
-    explains: bool,
+    causes: Causes,
     journal: &str,
 ) -> Status {
     let Some(names) = names_of(rt, policy, further) else {
         return failed(rt, "no memory");
     };
-    let texts = match texts_of(rt, names.as_slice(), explains) {
+    let texts = match texts_of(rt, names.as_slice(), causes) {
         Ok(texts) => texts,
         Err(status) => return status,
     };
@@ -116,8 +110,8 @@ pub fn show_journal(
         names: names.as_slice(),
         texts: texts.as_slice(),
     };
-    match read_given(rt, files, explains || shown.is_told()) {
-        Ok(given) => show_in(rt, given, files, shown, explains, journal),
+    match read_given(rt, files, causes) {
+        Ok(given) => show_in(rt, given, files, shown, causes, journal),
         Err(status) => status,
     }
 }

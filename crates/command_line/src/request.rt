@@ -1,7 +1,7 @@
 //! What the words of a command line ask for.
 
+use crate::causes::Causes;
 use crate::completions::Shell;
-use crate::explaining::Tells;
 use crate::further::{Manner, RunFiles};
 use crate::help::further_help;
 use crate::journal_files::{AskedJournal, WhereThere};
@@ -12,8 +12,8 @@ use crate::policies::Further;
 use crate::syntax::{
     ALWAYS, ASSEMBLE, AUDIT, BEGIN, CHECK, COMMANDS, COMPLETIONS, CONTINUE, DECODE, DIGITS, EMBED,
     EXPLAIN, FILE, FORCE, FROM, HAS, HELP, JOURNAL, JSON, KERNEL, KERNEL_FILES, LIST, MOST_NEXT,
-    NAMES, NEVER, NEXT, OUTPUT, PACKETS, PICTURE, POLICY, PRODUCERS, READABLE, REPLAY, RUN, SCRIPT,
-    SHELL, SLOTS, STATE, STEPS, STRICT, SYNC, THREADS, TO, WORD, program,
+    NAMES, NEVER, NEXT, OUTPUT, PACKETS, PICTURE, POLICY, PRODUCERS, QUIET, READABLE, REPLAY, RUN,
+    SCRIPT, SHELL, SLOTS, STATE, STEPS, STRICT, SYNC, THREADS, TO, WORD, program,
 };
 use clap::error::ErrorKind;
 use clap::{ArgMatches, Error};
@@ -36,12 +36,12 @@ pub struct Reads {
 }
 
 /// What packets are told: those in the slots of this file, or else that of the further words; by the names of the policy in
-/// a file, if one is named; and whether it is told why a file can't be read.
+/// a file, if one is named; and whether causes are told.
 #[derive(Clone, Copy)]
 pub struct Packets<'a> {
     pub slots: Option<&'a str>,
     pub policy: Option<&'a str>,
-    pub explains: bool,
+    pub causes: Causes,
 }
 
 /// What a command line asks for (own).
@@ -50,13 +50,13 @@ pub enum Invocation<'a> {
     /// `check POLICY [--explain]`: to check the policy in this file, and to tell this beside its counts.
     Check {
         policy: &'a str,
-        tells: Tells,
+        causes: Causes,
     },
     /// `check POLICY --list [--json]`: to check it, and to list what it declares and allows.
     List {
         policy: &'a str,
         form: ListForm,
-        tells: Tells,
+        causes: Causes,
     },
     /// `run POLICY [NEXT..] ..`: to run a script over the policy in this file, in this manner. `picture POLICY [NEXT..] ..` with a picture in place of its replies.
     Run {
@@ -70,7 +70,7 @@ pub enum Invocation<'a> {
         journal: &'a str,
         tells_state: bool,
         has: Option<DigestAsked>,
-        explains: bool,
+        causes: Causes,
     },
     /// `picture POLICY [NEXT..] --journal FILE [--from N] [--to N] [-o FILE]`: to draw the journal in a file, without running
     /// it.
@@ -78,39 +78,39 @@ pub enum Invocation<'a> {
         policy: &'a str,
         span: Span,
         output: Option<&'a str>,
-        explains: bool,
+        causes: Causes,
         journal: &'a str,
     },
     /// `kernel FILE [--steps]`: to list the kernels of the text in this file.
     Kernel {
         file: &'a str,
         form: Form,
-        explains: bool,
+        causes: Causes,
     },
     /// `embed POLICY`: to write a policy with kernels' texts in the place of the files that it names.
     Embed {
         policy: &'a str,
-        explains: bool,
+        causes: Causes,
     },
     /// `policy KERNEL..`: to write a policy to begin with that has the kernels in the files of the further words.
     Begin {
-        explains: bool,
+        causes: Causes,
     },
     /// `assemble POLICY [-f FILE]`: to turn a script into one without readable packets, by the policy in this file.
     Assemble {
         policy: &'a str,
         script: Option<&'a str>,
-        explains: bool,
+        causes: Causes,
     },
     /// `explain WORD`: to tell what a rule, a refusal or a cause means.
     Explain {
         word: &'a str,
     },
     /// `explain POLICY [NEXT..] --journal FILE`: to tell the journal in a file, and why of what failed, without running it; and,
-    /// if it explains, why a file can't be read.
+    /// if causes are told, those of faults.
     ExplainJournal {
         policy: &'a str,
-        explains: bool,
+        causes: Causes,
         journal: &'a str,
     },
     /// `decode DIGITS..`: to tell the packet of the further words field by field, `decode --slots FILE` those in the slots of
@@ -130,13 +130,14 @@ pub enum Invocation<'a> {
     },
     /// `threads POLICY --producers N [--packets N] [--journal FILE [--force] [--sync]] [--explain]`: to run the load of threads over the policy
     /// in this file, with so many producers a queue, 1 to 16, and so many packets of each, 1 to 1,000,000, if it says; to
-    /// write its history into a file, if one is named; and, if it explains, to tell beside a fault or the report why.
+    /// write its history into a file, if one is named; to tell causes of faults; and, if it explains, behind the report why.
     Threads {
         policy: &'a str,
         producers: u64,
         packets: Option<u64>,
         journal: Option<AskedJournal<'a>>,
         explains: bool,
+        causes: Causes,
     },
 }
 
@@ -197,7 +198,7 @@ fn span_in(asked: &ArgMatches<'_>) -> Span {
     }
 }
 
-// Whether it is told why: as the command line says, or else where that is done unasked.
+// Whether replies are explained: as the command line says, or else where that is done unasked.
 fn explains_in(asked: &ArgMatches<'_>, unasked: bool) -> bool {
     match asked.get_str(EXPLAIN) {
         Some(ALWAYS) => true,
@@ -222,12 +223,35 @@ fn journal_in<'a>(asked: &ArgMatches<'a>, goes_on: bool) -> Option<AskedJournal<
     })
 }
 
+// How the causes of faults are told: not at all where the command line says so, as objects where explanations are asked for and
+// JSON too, and else in lines.
+fn causes_in(asked: &ArgMatches<'_>, is_json: bool) -> Causes {
+    if asked.get_flag(QUIET) {
+        return Causes::Untold;
+    }
+    match asked.get_str(EXPLAIN) {
+        Some(NEVER) => Causes::Untold,
+        Some(ALWAYS) if is_json => Causes::Objects,
+        _ => Causes::Lines,
+    }
+}
+
+// How replies are explained, where they are.
+fn replies_in(asked: &ArgMatches<'_>, unasked: bool) -> Causes {
+    match (explains_in(asked, unasked), asked.get_str(EXPLAIN)) {
+        (false, _) => Causes::Untold,
+        (true, Some(ALWAYS)) if asked.get_flag(JSON) => Causes::Objects,
+        (true, _) => Causes::Lines,
+    }
+}
+
 // The manner of a run: strict, explaining, by readable lines and with replies as JSON as is asked.
-fn manner_in<'a>(asked: &ArgMatches<'a>, explains: bool) -> Manner<'a> {
+fn manner_in<'a>(asked: &ArgMatches<'a>, unasked: bool) -> Manner<'a> {
     Manner {
         places: places_in(asked),
         is_strict: asked.get_flag(STRICT),
-        is_explaining: explains,
+        replies: replies_in(asked, unasked),
+        causes: causes_in(asked, asked.get_flag(JSON)),
         is_session: false,
         reads: Reads {
             is_readable: asked.get_flag(READABLE),
@@ -252,23 +276,24 @@ fn file_in<'a>(asked: &ArgMatches<'a>, option: &str) -> Option<&'a str> {
 }
 
 // The request of `run` with its arguments.
-fn run_request<'a>(policy: &'a str, asked: &ArgMatches<'a>, explains: bool) -> Invocation<'a> {
+fn run_request<'a>(policy: &'a str, asked: &ArgMatches<'a>, unasked: bool) -> Invocation<'a> {
     Invocation::Run {
         policy,
-        manner: manner_in(asked, explains),
+        manner: manner_in(asked, unasked),
     }
 }
 
 // The request of `picture` with its arguments.
-fn picture_request<'a>(policy: &'a str, asked: &ArgMatches<'a>, explains: bool) -> Invocation<'a> {
+fn picture_request<'a>(policy: &'a str, asked: &ArgMatches<'a>, unasked: bool) -> Invocation<'a> {
     let span = span_in(asked);
     let output = file_in(asked, OUTPUT);
+    let causes = causes_in(asked, false);
     match asked.get_str(JOURNAL) {
         Some(journal) => Invocation::PictureOfJournal {
             policy,
             span,
             output,
-            explains,
+            causes,
             journal,
         },
         None => Invocation::Run {
@@ -276,7 +301,12 @@ fn picture_request<'a>(policy: &'a str, asked: &ArgMatches<'a>, explains: bool) 
             manner: Manner {
                 places: places_in(asked),
                 is_strict: false,
-                is_explaining: explains,
+                replies: if explains_in(asked, unasked) {
+                    Causes::Lines
+                } else {
+                    Causes::Untold
+                },
+                causes,
                 is_session: false,
                 reads: Reads {
                     is_readable: asked.get_flag(READABLE),
@@ -295,11 +325,15 @@ fn picture_request<'a>(policy: &'a str, asked: &ArgMatches<'a>, explains: bool) 
 }
 
 // The request of `explain` with its arguments: with a journal, its word is a policy's file.
-fn explain_request<'a>(word: &'a str, asked: &ArgMatches<'a>, explains: bool) -> Invocation<'a> {
+fn explain_request<'a>(word: &'a str, asked: &ArgMatches<'a>) -> Invocation<'a> {
     match asked.get_str(JOURNAL) {
         Some(journal) => Invocation::ExplainJournal {
             policy: word,
-            explains,
+            causes: if asked.get_flag(QUIET) {
+                Causes::Untold
+            } else {
+                Causes::Lines
+            },
             journal,
         },
         None => Invocation::Explain { word },
@@ -318,18 +352,15 @@ fn list_form_in(asked: &ArgMatches<'_>) -> Option<ListForm> {
 }
 
 // The request of `check` with its arguments.
-fn check_request<'a>(policy: &'a str, asked: &ArgMatches<'a>, explains: bool) -> Invocation<'a> {
-    let tells = Tells {
-        faults: explains,
-        entries: asked.get_str(EXPLAIN) != Some(NEVER),
-    };
+fn check_request<'a>(policy: &'a str, asked: &ArgMatches<'a>) -> Invocation<'a> {
+    let causes = causes_in(asked, asked.get_flag(JSON));
     match list_form_in(asked) {
         Some(form) => Invocation::List {
             policy,
             form,
-            tells,
+            causes,
         },
-        None => Invocation::Check { policy, tells },
+        None => Invocation::Check { policy, causes },
     }
 }
 
@@ -342,32 +373,36 @@ fn digest_in(asked: &ArgMatches<'_>) -> Option<DigestAsked> {
 fn policy_request<'a>(
     command: &str,
     asked: &ArgMatches<'a>,
-    explains: bool,
+    unasked: bool,
 ) -> Option<Invocation<'a>> {
     let policy = asked.get_str(POLICY)?;
     match command {
-        CHECK => Some(check_request(policy, asked, explains)),
-        RUN => Some(run_request(policy, asked, explains)),
-        PICTURE => Some(picture_request(policy, asked, explains)),
+        CHECK => Some(check_request(policy, asked)),
+        RUN => Some(run_request(policy, asked, unasked)),
+        PICTURE => Some(picture_request(policy, asked, unasked)),
         ASSEMBLE => Some(Invocation::Assemble {
             policy,
             script: file_in(asked, SCRIPT),
-            explains,
+            causes: causes_in(asked, false),
         }),
-        EMBED => Some(Invocation::Embed { policy, explains }),
+        EMBED => Some(Invocation::Embed {
+            policy,
+            causes: causes_in(asked, false),
+        }),
         REPLAY => Some(Invocation::Replay {
             policy,
             journal: asked.get_str(JOURNAL).unwrap_or(STANDARD_INPUT),
             tells_state: asked.get_flag(STATE),
             has: digest_in(asked),
-            explains,
+            causes: causes_in(asked, false),
         }),
         THREADS => Some(Invocation::Threads {
             policy,
             producers: asked.get_one(PRODUCERS)?,
             packets: asked.get_one(PACKETS),
             journal: journal_in(asked, false),
-            explains,
+            explains: explains_in(asked, unasked),
+            causes: causes_in(asked, false),
         }),
         _ => None,
     }
@@ -385,14 +420,14 @@ fn form_in(asked: &ArgMatches<'_>) -> Form {
 // The request of a command with its arguments.
 fn request_of<'a>(command: &str, asked: &ArgMatches<'a>, unasked: bool) -> Option<Invocation<'a>> {
     match command {
-        EXPLAIN => Some(explain_request(asked.get_str(WORD)?, asked, unasked)),
+        EXPLAIN => Some(explain_request(asked.get_str(WORD)?, asked)),
         DECODE => Some(Invocation::Decode(Packets {
             slots: asked.get_str(SLOTS),
             policy: asked.get_str(NAMES),
-            explains: explains_in(asked, unasked),
+            causes: causes_in(asked, false),
         })),
         BEGIN => Some(Invocation::Begin {
-            explains: explains_in(asked, unasked),
+            causes: causes_in(asked, false),
         }),
         COMPLETIONS => Some(Invocation::Completions {
             shell: Shell::named(asked.get_str(SHELL)?)?,
@@ -400,9 +435,9 @@ fn request_of<'a>(command: &str, asked: &ArgMatches<'a>, unasked: bool) -> Optio
         KERNEL => Some(Invocation::Kernel {
             file: asked.get_str(FILE)?,
             form: form_in(asked),
-            explains: explains_in(asked, unasked),
+            causes: causes_in(asked, false),
         }),
-        _ => policy_request(command, asked, explains_in(asked, unasked)),
+        _ => policy_request(command, asked, unasked),
     }
 }
 
@@ -627,7 +662,7 @@ fn asked_in<'a>(
     }
 }
 
-/// Reads the words of a command line, the program's own name first. Where they don't say whether faults are explained, they
+/// Reads the words of a command line, the program's own name first. Where they don't say whether replies are explained, they
 /// are if `unasked`.
 pub fn read_words<'a>(
     alloc: Global,

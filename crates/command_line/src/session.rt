@@ -18,7 +18,7 @@ pub const NOTHING_EXPLAINED: &str = "nothing is explained with `--explain=never`
 
 /// What is told of a line with the bytes that a key which moves the cursor sends.
 const KEYS: &str =
-    "the line has a key that moves the cursor, as an arrow: nothing edits a line here, rlwrap does (docs/terminal.md)\n";
+    "; the line has a key that moves the cursor, as an arrow: nothing edits a line here, rlwrap does (docs/terminal.md)";
 
 // What such a key's bytes begin with.
 const ESCAPE: u8 = 0x1b;

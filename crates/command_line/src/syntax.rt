@@ -78,6 +78,9 @@ pub const ALWAYS: &str = "always";
 /// That it is never told why, on a terminal too.
 pub const NEVER: &str = "never";
 
+/// The option by which no cause is told behind the line that names a fault.
+pub const QUIET: &str = "quiet";
+
 /// The argument that names the file of a kernel's text.
 pub const FILE: &str = "FILE";
 
@@ -234,7 +237,13 @@ const AUDIT_PLACES: Argument = argument!(
 const EXPLAINING: Argument = argument!(
     EXPLAIN,
     Takes::When,
-    "Tells on standard error after each fault, refusal and denial why, and\nwhat mends it; if not given, where standard error is a\nterminal"
+    "Tells on standard error after each refusal and denial why, and what\nmends it; if not given, where standard error is a\nterminal"
+);
+
+const QUIETLY: Argument = argument!(
+    QUIET,
+    Takes::Nothing,
+    "Leaves out the cause of a fault, the line FILE:LINE:COLUMN: behind it on\nstandard error"
 );
 
 const SCRIPT_FILE: Argument = argument!(
@@ -249,7 +258,7 @@ const JOURNAL_FILE: Argument = argument!(
     "The file of the journal; standard input if not given"
 );
 
-const CHECK_ARGUMENTS: [Argument; 4] = [
+const CHECK_ARGUMENTS: [Argument; 5] = [
     POLICY_FILE,
     argument!(
         LIST,
@@ -262,6 +271,7 @@ const CHECK_ARGUMENTS: [Argument; 4] = [
         "Lists it as JSON, on one line (docs/json.md)"
     ),
     EXPLAINING,
+    QUIETLY,
 ];
 
 const BEGINNING_ANEW: Argument = argument!(
@@ -276,7 +286,7 @@ const SYNCING: Argument = argument!(
     "Makes the journal durable before what it has is told"
 );
 
-const RUN_ARGUMENTS: [Argument; 12] = [
+const RUN_ARGUMENTS: [Argument; 13] = [
     POLICY_FILE,
     FURTHER_FILES,
     SCRIPT_FILE,
@@ -310,9 +320,10 @@ const RUN_ARGUMENTS: [Argument; 12] = [
     ),
     SYNCING,
     EXPLAINING,
+    QUIETLY,
 ];
 
-const REPLAY_ARGUMENTS: [Argument; 6] = [
+const REPLAY_ARGUMENTS: [Argument; 7] = [
     POLICY_FILE,
     FURTHER_FILES,
     JOURNAL_FILE,
@@ -327,9 +338,10 @@ const REPLAY_ARGUMENTS: [Argument; 6] = [
         "Tells at which block of the journal this digest stands, 128 digits"
     ),
     EXPLAINING,
+    QUIETLY,
 ];
 
-const PICTURE_ARGUMENTS: [Argument; 10] = [
+const PICTURE_ARGUMENTS: [Argument; 11] = [
     POLICY_FILE,
     FURTHER_FILES,
     SCRIPT_FILE,
@@ -362,9 +374,10 @@ const PICTURE_ARGUMENTS: [Argument; 10] = [
         not with [AUDIT, SCRIPT]
     ),
     EXPLAINING,
+    QUIETLY,
 ];
 
-const KERNEL_ARGUMENTS: [Argument; 3] = [
+const KERNEL_ARGUMENTS: [Argument; 4] = [
     argument!(FILE, Takes::Word, "The file of the kernel's text"),
     argument!(
         STEPS,
@@ -372,29 +385,32 @@ const KERNEL_ARGUMENTS: [Argument; 3] = [
         "Lists in place of the text the steps that it was turned into, as cases\nhave them"
     ),
     EXPLAINING,
+    QUIETLY,
 ];
 
-const EMBED_ARGUMENTS: [Argument; 2] = [
+const EMBED_ARGUMENTS: [Argument; 3] = [
     argument!(
         POLICY,
         Takes::Word,
         "The policy file; a row of kernels may name a file by `text_file`, from its folder on"
     ),
     EXPLAINING,
+    QUIETLY,
 ];
 
-const BEGIN_ARGUMENTS: [Argument; 2] = [
+const BEGIN_ARGUMENTS: [Argument; 3] = [
     argument!(
         KERNEL_FILES,
         Takes::Some(MOST_FILES),
         "The files of kernels' texts, at most 64; - is standard input"
     ),
     EXPLAINING,
+    QUIETLY,
 ];
 
-const ASSEMBLE_ARGUMENTS: [Argument; 3] = [POLICY_FILE, SCRIPT_FILE, EXPLAINING];
+const ASSEMBLE_ARGUMENTS: [Argument; 4] = [POLICY_FILE, SCRIPT_FILE, EXPLAINING, QUIETLY];
 
-const EXPLAIN_ARGUMENTS: [Argument; 3] = [
+const EXPLAIN_ARGUMENTS: [Argument; 4] = [
     argument!(
         WORD,
         Takes::Word,
@@ -410,9 +426,10 @@ const EXPLAIN_ARGUMENTS: [Argument; 3] = [
         Takes::Value("FILE"),
         "Tells the journal in this file, - for standard input, over the policy\nin WORD: its entries, and why packets were denied or failed"
     ),
+    QUIETLY,
 ];
 
-const DECODE_ARGUMENTS: [Argument; 4] = [
+const DECODE_ARGUMENTS: [Argument; 5] = [
     argument!(
         DIGITS,
         Takes::Words(MOST_PARTS),
@@ -430,9 +447,10 @@ const DECODE_ARGUMENTS: [Argument; 4] = [
         "The policy file: what its kernels, signals and addresses are called is\ntold, too"
     ),
     EXPLAINING,
+    QUIETLY,
 ];
 
-const THREADS_ARGUMENTS: [Argument; 7] = [
+const THREADS_ARGUMENTS: [Argument; 8] = [
     POLICY_FILE,
     argument!(
         PRODUCERS,
@@ -452,6 +470,7 @@ const THREADS_ARGUMENTS: [Argument; 7] = [
     BEGINNING_ANEW,
     SYNCING,
     EXPLAINING,
+    QUIETLY,
 ];
 
 // An argument that takes a word, which must be given.

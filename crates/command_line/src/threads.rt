@@ -1,6 +1,7 @@
 //! The command that runs the load of threads over a policy.
 
 use crate::author::{fails, told};
+use crate::causes::Causes;
 use crate::explaining::tell;
 use access_core::Kernel;
 use aql_packet::{PacketId, QueueId};
@@ -43,8 +44,9 @@ pub struct AskedLoad {
     pub producers: u64,
     /// How many packets each publishes, if it is said; else 8.
     pub packets: Option<u64>,
-    /// Whether it is told beside a fault or the report why.
+    /// Whether it is told behind the report why it ended so, and how causes of faults are.
     pub explains: bool,
+    pub causes: Causes,
     /// Whether it is told now and then how far the load is.
     pub is_counted: bool,
 }

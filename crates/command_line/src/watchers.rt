@@ -1,30 +1,131 @@
-//! The watchers of a run: one tells why beside its replies, and of lines of no form; another writes its history.
+//! The watchers of a run: one tells why beside its replies, and of lines of no form; one of such a line alone; another writes
+//! its history.
 
 use crate::author::told as write_told;
+use crate::causes::Causes;
 use crate::policies::Further;
 use crate::session::{
     NOTHING_EXPLAINED, NOTHING_REFUSED, Prompted, help_told, keys_told, read_prompted, state_told,
 };
 use commands::{Failure, Status, Stop, Stops, name_failure};
-use explain::{Asked, asked_by, bad_line, retold};
+use explain::{Asked, Site, asked_by, bad_line, retold};
 use journal_commands::{EntryWriter, JournalFault};
-use script::{Command, Flow, LineReply, Noted, Turn, Watch, strictly, write_line};
+use script::{Command, Flow, LineReply, Never, Noted, Turn, Watch, strictly, write_line};
 use std::alloc::{AllocError, Global};
 use std::io;
 use std::io::Write;
 use world::{Refusal, World};
 
+/// A script whose lines may be of no form: the name of its file, how many further policies its lines may name, whether they may
+/// be readable, and how it is told why such a line is none.
+#[derive(Clone, Copy)]
+pub struct Lines<'p> {
+    pub alloc: Global,
+    pub script: &'p str,
+    pub later: usize,
+    pub is_readable: bool,
+    pub causes: Causes,
+}
+
+impl Lines<'_> {
+    // Why a line has no form, of which this is told, and what is said behind that, as a line with its place.
+    fn told(
+        &self,
+        number: u64,
+        line: &[u8],
+        wanted: &str,
+        behind: &str,
+    ) -> Result<String, AllocError> {
+        let script = self.script;
+        if !self.causes.are_told() {
+            return Ok(String::new(self.alloc));
+        }
+        if !wanted.is_empty() {
+            return format!(in self.alloc; "{script}:{number}:{wanted}{behind}\n");
+        }
+        let cause = bad_line(self.alloc, line, self.later, self.is_readable)?;
+        let cause = cause.as_str();
+        format!(in self.alloc; "{script}:{number}:{cause}{behind}\n")
+    }
+
+    // The same, as it is told.
+    fn form(
+        &self,
+        number: u64,
+        line: &[u8],
+        wanted: &str,
+        behind: &str,
+    ) -> Result<String, AllocError> {
+        self.causes
+            .form(self.alloc, self.told(number, line, wanted, behind))
+    }
+}
+
+/// A watcher of a run to which nothing else is asked: it keeps what is told of a line of no form.
+#[derive(Drop)]
+pub struct Noter<'p> {
+    lines: Lines<'p>,
+    told: String,
+}
+
+impl<'p> Noter<'p> {
+    /// One that has seen nothing yet, of a script.
+    pub fn new(lines: Lines<'p>) -> Noter<'p> {
+        Noter {
+            lines,
+            told: String::new(lines.alloc),
+        }
+    }
+
+    /// How the command ends after the run that ended so: what is known of a line of no form that ended it is told.
+    pub fn end<E: io::Write>(&self, err: &mut E, status: Status) -> Status {
+        match status {
+            Status::Refused => write_told(err, self.told.as_str(), status),
+            status => status,
+        }
+    }
+}
+
+impl<'p> Watch for Noter<'p> {
+    ghost use Rattle.script.specs.Watchers.{nobody};
+    ghost use Rattle.std.specs.Prelude.{refl};
+
+    type Fault = Never;
+
+    ghost watching = { nobody };
+
+    ghost passes_audits = { λ before entries. refl };
+
+    fn asks(&mut self, _command: &Command) {}
+
+    fn seen(&mut self, _world: &World, _number: u64, _reply: &LineReply) -> Result<Flow, Never> {
+        Ok(Flow::GoOn)
+    }
+
+    fn goes_by(&self) -> bool {
+        false
+    }
+
+    fn unread(&mut self, number: u64, line: &[u8], wanted: &str, _ends: bool) {
+        if let Ok(told) = self.lines.form(number, line, wanted, "") {
+            self.told = told;
+        }
+    }
+
+    fn told(&mut self, _world: &World, _said: Flow) -> Result<Turn, Never> {
+        Ok(Turn::GoOn)
+    }
+}
+
 /// What a watcher tells.
 #[derive(Clone, Copy)]
-pub struct Telling {
-    /// Of a reply that is refused, denied, failed, waits or found nothing, why that is so.
-    pub of_replies: bool,
+pub struct Telling<'p> {
+    /// Of a reply that is refused, denied, failed, waits or found nothing, how it is told why that is so.
+    pub replies: Causes,
     /// Of a line of no form, what is wrong there.
-    pub of_lines: bool,
+    pub lines: Lines<'p>,
     /// Whether the run goes on behind such a line, and answers what a person asks who is prompted.
     pub goes_on: bool,
-    /// Whether its lines may be readable.
-    pub is_readable: bool,
 }
 
 /// A watcher that tells beside the replies what is asked.
@@ -32,7 +133,7 @@ pub struct Telling {
 pub struct Teller<'a, 'p, E> {
     alloc: Global,
     err: &'a mut E,
-    telling: Telling,
+    telling: Telling<'p>,
     // The further policies, which lines may name by their numbers.
     further: Further<'p>,
     // What the line asked that was asked last, and the further policy that it handed in.
@@ -85,7 +186,7 @@ impl<'a, 'p, E: io::Write> Teller<'a, 'p, E> {
     /// One that has seen nothing yet, in a run with these further policies.
     pub fn new(
         alloc: Global,
-        telling: Telling,
+        telling: Telling<'p>,
         further: Further<'p>,
         err: &'a mut E,
     ) -> Teller<'a, 'p, E> {
@@ -105,22 +206,9 @@ impl<'a, 'p, E: io::Write> Teller<'a, 'p, E> {
         }
     }
 
-    // What is told of a line of no form.
-    fn line_told(&self, number: u64, line: &[u8], wanted: &str) -> Result<String, AllocError> {
-        if !wanted.is_empty() {
-            format!(in self.alloc; "{wanted}\n")
-        } else if self.telling.of_lines {
-            let is_readable = self.telling.is_readable;
-            let later = self.further.texts.len();
-            bad_line(self.alloc, line, number, later, is_readable)
-        } else {
-            Ok(String::new(self.alloc))
-        }
-    }
-
-    // Puts what is told of a line of no form behind the rest, if there is memory for it.
-    fn put_line(&mut self, number: u64, line: &[u8], wanted: &str) {
-        if let Ok(told) = self.line_told(number, line, wanted) {
+    // Puts what is told of a line of no form behind the rest, and this behind it, if there is memory for it.
+    fn put_line(&mut self, number: u64, line: &[u8], wanted: &str, behind: &str) {
+        if let Ok(told) = self.telling.lines.form(number, line, wanted, behind) {
             let _ = self.told.push_str(told.as_str());
         }
     }
@@ -137,13 +225,13 @@ impl<'a, 'p, E: io::Write> Teller<'a, 'p, E> {
         self.has_gone_on = true;
         let failure = Failure::Line(number);
         writeln!(self.told, "{failure}")?;
-        self.put_line(number, line, wanted);
-        self.told.push_str(keys_told(line))
+        self.put_line(number, line, wanted, keys_told(line));
+        Ok(())
     }
 
     // What the last refusal is told as once more.
     fn refusal(&self) -> &str {
-        if !self.telling.of_replies {
+        if !self.telling.replies.are_told() {
             NOTHING_EXPLAINED
         } else if self.refused.is_empty() {
             NOTHING_REFUSED
@@ -191,6 +279,48 @@ impl<'a, 'p, E: io::Write> Teller<'a, 'p, E> {
         }
     }
 
+    // What is told of the reply to a line of a number, in lines.
+    fn reply_told(
+        &mut self,
+        world: &World,
+        number: u64,
+        reply: &LineReply,
+    ) -> Result<String, AllocError> {
+        let mut told = String::new(self.alloc);
+        let site = Site {
+            script: self.telling.lines.script,
+            line: number,
+            policy: self.in_force,
+        };
+        retold(self.alloc, &mut told, world, site, self.asked, reply)?;
+        if let Some(handed) = self.handed.take() {
+            self.put_reloaded(&mut told, world, handed, reply)?;
+        }
+        Ok(told)
+    }
+
+    // Puts behind a text what is told of a reload of the further policy of a place, and keeps the name of one that is done.
+    fn put_reloaded(
+        &mut self,
+        told: &mut String,
+        world: &World,
+        handed: usize,
+        reply: &LineReply,
+    ) -> Result<(), AllocError> {
+        match reply {
+            Ok(_) => {
+                self.in_force = self.further.names.get(handed).copied();
+                Ok(())
+            }
+            Err(Refusal::Core(core_model::Refusal::OtherObjects)) => {
+                let first = world.core().policy();
+                let others = self.further.others(self.alloc, first, handed)?;
+                told.push_str(others.as_str())
+            }
+            Err(_) => Ok(()),
+        }
+    }
+
     // Puts what is told of a reply behind the rest.
     fn put_reply(
         &mut self,
@@ -198,30 +328,9 @@ impl<'a, 'p, E: io::Write> Teller<'a, 'p, E> {
         number: u64,
         reply: &LineReply,
     ) -> Result<(), AllocError> {
-        let (asked, file) = (self.asked, self.in_force);
-        retold(
-            self.alloc,
-            &mut self.told,
-            world,
-            file,
-            number,
-            asked,
-            reply,
-        )?;
-        let Some(handed) = self.handed.take() else {
-            return Ok(());
-        };
-        match reply {
-            Ok(_) => self.in_force = self.further.names.get(handed).copied(),
-            Err(Refusal::Core(core_model::Refusal::OtherObjects)) => {
-                let others = self
-                    .further
-                    .others(self.alloc, world.core().policy(), handed)?;
-                self.told.push_str(others.as_str())?;
-            }
-            Err(_) => {}
-        }
-        Ok(())
+        let told = self.reply_told(world, number, reply);
+        let told = self.telling.replies.form(self.alloc, told)?;
+        self.told.push_str(told.as_str())
     }
 
     // Writes what is to be told.
@@ -251,7 +360,7 @@ impl<'a, 'p, E: io::Write> Watch for Teller<'a, 'p, E> {
     ghost passes_audits = { λ before entries. tt };
 
     fn asks(&mut self, command: &Command) {
-        if self.telling.of_replies {
+        if self.telling.replies.are_told() {
             self.asked = asked_by(command);
             self.handed = match command {
                 Command::Reload { number } => place_before(*number),
@@ -261,7 +370,7 @@ impl<'a, 'p, E: io::Write> Watch for Teller<'a, 'p, E> {
     }
 
     fn seen(&mut self, world: &World, number: u64, reply: &LineReply) -> Result<Flow, TellFault> {
-        if !self.telling.of_replies {
+        if !self.telling.replies.are_told() {
             return Ok(Flow::GoOn);
         }
         if self.put_reply(world, number, reply).is_err() {
@@ -281,7 +390,7 @@ impl<'a, 'p, E: io::Write> Watch for Teller<'a, 'p, E> {
 
     fn unread(&mut self, number: u64, line: &[u8], wanted: &str, ends: bool) {
         if ends {
-            self.put_line(number, line, wanted);
+            self.put_line(number, line, wanted, "");
         } else if self.put_and_go_on(number, line, wanted).is_err() {
             self.wants_memory = true;
         }

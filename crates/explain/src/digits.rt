@@ -45,19 +45,19 @@ fn put_hexadecimal(out: &mut String, word: &[u8], class: Class) -> Result<(), Al
     let count = word.len();
     if let Some((place, shown)) = first_strange(word) {
         if class != Class::Address || count == 16 {
-            return writeln!(
+            return write!(
                 out,
                 "of its {count} characters, number {place}, `{shown}`, is no hexadecimal digit"
             );
         }
         return out.push_str(
-            "`brokerd run --readable` takes a region's name there too, as buf or buf+16, or a number as 0x100000000\n",
+            "`brokerd run --readable` takes a region's name there too, as buf or buf+16, or a number as 0x100000000",
         );
     }
     let digits = if count == 1 { "digit" } else { "digits" };
     match digits_of(class) {
-        Some(wanted) => writeln!(out, "it has {count} {digits}, and {wanted} are wanted"),
-        None => writeln!(out, "it has {count} {digits}, and a byte has 2"),
+        Some(wanted) => write!(out, "it has {count} {digits}, and {wanted} are wanted"),
+        None => write!(out, "it has {count} {digits}, and a byte has 2"),
     }
 }
 
@@ -74,21 +74,21 @@ fn decimal_digits(word: &[u8]) -> Option<&[u8]> {
     }
 }
 
-/// Puts what is wrong with the digits of a word that isn't what its place wants behind a text, as a line; nothing where that
-/// isn't known.
+/// Puts what is wrong with the digits of a word that isn't what its place wants behind a text; nothing where that isn't
+/// known.
 pub fn put_digits(out: &mut String, word: &[u8], class: Class) -> Result<(), AllocError> {
     if is_hexadecimal(class) {
         return put_hexadecimal(out, word, class);
     }
     match (decimal_digits(word), word.first().copied(), class) {
         (Some(_), Some(b'0'..=b'9'), Class::Number) => {
-            out.push_str("it is past 64 bits: 18446744073709551615 is the most\n")
+            out.push_str("it is past 64 bits: 18446744073709551615 is the most")
         }
         (Some(_), Some(b'0'..=b'9' | b'-'), Class::Value) => out.push_str(
-            "it is past 64 bits: -9223372036854775808 is the least, and 9223372036854775807 the most\n",
+            "it is past 64 bits: -9223372036854775808 is the least, and 9223372036854775807 the most",
         ),
         (Some(_), _, Class::Number | Class::Value) => out.push_str(
-            "no number has `+` in front, and `-` stands before the value of a signal alone\n",
+            "no number has `+` in front, and `-` stands before the value of a signal alone",
         ),
         _ => Ok(()),
     }

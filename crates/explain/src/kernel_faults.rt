@@ -8,7 +8,7 @@ use crate::texts::put_word;
 use aql_packet::KernelObject;
 use hsail_reader::{ReadCause, ReadError, ReadFault, read_module};
 use kernel_check::CheckCause;
-use kernel_listing::{TextFault, told};
+use kernel_listing::{TextFault, meaning_of};
 use policy::{Object, Policy};
 use std::alloc::{AllocError, Global};
 
@@ -256,25 +256,37 @@ fn put_help(
     }
 }
 
-// Tells what helps with a fault of a text, if that is known, and where.
-fn tell_help(out: &mut String, source: &Source<'_>, fault: TextFault) -> Result<(), AllocError> {
+// Tells the fault of a text, which is told to be one of this: what its cause means, and behind it what helps, at the place
+// where that lies, if it is known.
+fn tell_text(
+    out: &mut String,
+    source: &Source<'_>,
+    said: &str,
+    fault: TextFault,
+) -> Result<(), AllocError> {
     let mut help = String::new(source.alloc);
-    let Some(at) = put_help(source.alloc, &mut help, source.text, fault)? else {
-        return Ok(());
-    };
+    let helped = put_help(source.alloc, &mut help, source.text, fault)?;
+    let at = helped.unwrap_or(position_in(source.text, fault));
     begin(out, source.file, source.place_of(at))?;
+    out.push_str(said)?;
     if source.first.is_none() {
         let line = at.line;
-        write!(out, "in line {line} of the text, ")?;
+        write!(out, "in line {line} of it, ")?;
     }
-    out.push_str(help.as_str())
+    out.push_str(meaning_of(fault))?;
+    let help = help.as_str().trim();
+    if !help.is_empty() {
+        write!(out, "; {help}")?;
+    }
+    out.push_str("\n")
 }
 
-/// What helps with a fault of the text of kernels in a file, and where that lies; no text where nothing is known to.
-pub fn text_help(
+/// What is wrong with the text of kernels in a file, which is told to be this: where that lies, and what helps.
+pub fn file_fault(
     alloc: Global,
     file: &str,
     text: &[u8],
+    said: &str,
     fault: TextFault,
 ) -> Result<String, AllocError> {
     let first = Position { line: 1, column: 1 };
@@ -286,7 +298,7 @@ pub fn text_help(
         place: Place::Unknown,
     };
     let mut out = String::new(alloc);
-    tell_help(&mut out, &source, fault)?;
+    tell_text(&mut out, &source, said, fault)?;
     Ok(out)
 }
 
@@ -300,21 +312,6 @@ pub fn said_at(
     let mut out = String::new(alloc);
     begin(&mut out, file, Place::At(position))?;
     writeln!(out, "{said}")?;
-    Ok(out)
-}
-
-/// What is wrong with the text of kernels in a file: where that lies, the line with a mark, and what helps.
-pub fn file_fault(
-    alloc: Global,
-    file: &str,
-    text: &[u8],
-    fault: TextFault,
-) -> Result<String, AllocError> {
-    let mut out = String::new(alloc);
-    begin(&mut out, file, Place::At(position_in(text, fault)))?;
-    out.push_str("the kernel's text has a fault:\n")?;
-    out.push_str(told(alloc, text, fault)?.as_str())?;
-    out.push_str(text_help(alloc, file, text, fault)?.as_str())?;
     Ok(out)
 }
 
@@ -359,8 +356,7 @@ fn put_name(out: &mut String, policy: &Policy, kernel: u32) -> Result<(), AllocE
     }
 }
 
-/// What is wrong with the text of a policy's kernel: where it lies in the file, its name, the line of the text with a mark,
-/// and what helps.
+/// What is wrong with the text of a policy's kernel: where it lies in the file, its name, and what helps.
 pub fn kernel_fault(
     alloc: Global,
     file: &str,
@@ -379,12 +375,10 @@ pub fn kernel_fault(
         text,
     };
     let source = source_of(file, kernel, source.text())?;
-    let at = position_in(source.text, fault);
-    begin(&mut out, source.file, source.place_of(at))?;
-    put_name(&mut out, policy, kernel)?;
-    out.push_str(", in its text:\n")?;
-    out.push_str(told(alloc, source.text, fault)?.as_str())?;
-    tell_help(&mut out, &source, fault)?;
+    let mut said = String::new(alloc);
+    put_name(&mut said, policy, kernel)?;
+    said.push_str(", in its text: ")?;
+    tell_text(&mut out, &source, said.as_str(), fault)?;
     Ok(out)
 }
 

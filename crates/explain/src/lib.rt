@@ -33,11 +33,12 @@ mod scene;
 mod state;
 mod texts;
 mod vocabulary;
+mod why;
 
 pub use asked::{Asked, asked_by};
 pub use digits::first_strange;
 pub use entries::failure_told;
-pub use kernel_faults::{file_fault, kernel_fault, no_entry, said_at, text_help};
+pub use kernel_faults::{file_fault, kernel_fault, no_entry, said_at};
 pub use lacks::{Lack, lack_of, was_in_force};
 pub use laws::{
     law_told_lacks_are_lacks, law_told_lacks_keep_from_a_launch, law_told_rights_are_in_force,
@@ -49,3 +50,4 @@ pub use policies::policy_fault;
 pub use replies::retold;
 pub use state::{State, state_of};
 pub use vocabulary::{Near, nearest_of, nearest_told, word_told};
+pub use why::{Site, Why, put_place, why_in};

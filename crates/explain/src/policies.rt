@@ -1,8 +1,7 @@
 //! What is wrong with a policy's file.
 
-use crate::kernel_texts::line_of;
 use crate::keys::{put_value, wanted};
-use crate::positions::{File, Place, Position, begin, position_at, small};
+use crate::positions::{File, Place, begin, position_at, small};
 use crate::texts::put_word;
 use aql_packet::MOST_REGIONS;
 use policy::{
@@ -28,26 +27,7 @@ fn tell_no_toml(out: &mut String, file: File<'_>) -> Result<(), AllocError> {
     let place = position_at(file.text, span.start);
     let message = error.message();
     begin(out, file.name, Place::At(place))?;
-    writeln!(out, "{message}")?;
-    put_marked_at(out, line_of(file.text, place.line), place)
-}
-
-// A line of a file, and a mark at a column of it.
-fn put_marked_at(out: &mut String, line: &[u8], place: Position) -> Result<(), AllocError> {
-    out.push_str("  ")?;
-    for byte in line {
-        out.push(match byte {
-            b' '..=b'~' | b'\t' => char::from(*byte),
-            _ => '?',
-        })?;
-    }
-    out.push_str("\n  ")?;
-    for (index, byte) in line.iter().enumerate() {
-        if small(index).saturating_add(1) < place.column {
-            out.push(if *byte == b'\t' { '\t' } else { ' ' })?;
-        }
-    }
-    out.push_str("^\n")
+    writeln!(out, "{message}")
 }
 
 /// A policy's file with a fault: its text, what it holds, and the fault.

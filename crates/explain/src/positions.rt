@@ -1,5 +1,6 @@
 //! Places in a policy's file, as explanations tell them.
 
+use crate::why::put_place;
 use policy_listing::find;
 pub use policy_listing::{Found, Place, Position, position_at, small};
 use std::alloc::{AllocError, Global};
@@ -41,16 +42,12 @@ impl<'a> File<'a> {
     }
 }
 
-/// Adds the beginning of an explanation to the output: the file, and the place where it is known.
+/// Adds the beginning of an explanation to the output: the file, and the place, as far as it is known.
 pub fn begin(out: &mut String, file: &str, place: Place) -> Result<(), AllocError> {
-    out.push_str(file)?;
-    match place {
-        Place::At(position) => {
-            let line = position.line;
-            let column = position.column;
-            write!(out, ", line {line}, column {column}: ")
-        }
-        Place::Line(line) => write!(out, ", line {line}: "),
-        Place::Unknown => out.push_str(": "),
-    }
+    let Position { line, column } = match place {
+        Place::At(position) => position,
+        Place::Line(line) => Position { line, column: 1 },
+        Place::Unknown => Position { line: 1, column: 1 },
+    };
+    put_place(out, file, u64::from(line), u64::from(column))
 }

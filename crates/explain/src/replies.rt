@@ -10,6 +10,7 @@ use crate::rings::{
     is_never_ready, tell_busy, tell_dependencies, tell_empty, tell_never_ready, tell_waiting,
 };
 use crate::scene::{Scene, begin};
+use crate::why::Site;
 use aql_packet::{PacketId, QueueId};
 use core_model::{Answer, Outcome, Polled, Taken, Worked};
 use script::{LineAnswer, LineReply};
@@ -186,21 +187,20 @@ fn tell(
     }
 }
 
-/// Puts behind a text what is told beside the reply to a line of a script, the line of this number, by the world after
-/// it: why it was refused or denied, failed, waits, never ends or found nothing, in lines; nothing where none of that happened.
-/// Behind a reload, the rows on rights are those of this file.
+/// Puts behind a text what is told beside the reply to a line of a script by the world after it: why it was refused or denied,
+/// failed, waits, never ends or found nothing, in lines; nothing where none of that happened.
 pub fn retold(
     alloc: Global,
     out: &mut String,
     world: &World,
-    file: Option<&str>,
-    line: u64,
+    site: Site<'_>,
     asked: Asked,
     reply: &LineReply,
 ) -> Result<(), AllocError> {
     let scene = Scene {
-        file,
-        ..Scene::of(Known::Now(world.core()), line)
+        file: site.policy,
+        script: Some(site.script),
+        ..Scene::of(Known::Now(world.core()), site.line)
     };
     tell(alloc, out, &scene, world, asked, reply)
 }

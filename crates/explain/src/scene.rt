@@ -4,6 +4,7 @@ use crate::keys::rights_of;
 use crate::known::Known;
 use crate::lacks::Lack;
 use crate::texts::{put_client, put_grant, put_object, put_objects};
+use crate::why::put_place;
 use access_core::AccessCore;
 use core_model::Opening;
 use policy::{Object, Policy, PolicyRows};
@@ -11,7 +12,8 @@ use queue_error::QueueError;
 use std::alloc::AllocError;
 
 /// What is known, the core that knows it, its policy, the rows on rights that are in force, the name of the file that they
-/// are from behind a reload, if it is known, and the number of the line that is explained.
+/// are from behind a reload, if it is known, and the line that is explained: its number, and the file of its script, if it
+/// is one of a script.
 #[derive(Clone, Copy)]
 pub struct Scene<'a> {
     pub known: Known<'a>,
@@ -19,11 +21,12 @@ pub struct Scene<'a> {
     pub policy: &'a Policy,
     pub rows: &'a PolicyRows,
     pub file: Option<&'a str>,
+    pub script: Option<&'a str>,
     pub line: u64,
 }
 
 impl<'a> Scene<'a> {
-    /// Where a line of this number is explained by what is known.
+    /// Where a line of this number, or of a journal an entry, is explained by what is known.
     pub fn of(known: Known<'a>, line: u64) -> Scene<'a> {
         let core = known.core();
         Scene {
@@ -32,6 +35,7 @@ impl<'a> Scene<'a> {
             policy: core.policy(),
             rows: known.rows(),
             file: None,
+            script: None,
             line,
         }
     }
@@ -45,7 +49,10 @@ impl<'a> Scene<'a> {
 /// Begins a line of an explanation.
 pub fn begin(out: &mut String, scene: &Scene<'_>) -> Result<(), AllocError> {
     let line = scene.line;
-    write!(out, "line {line}: ")
+    match scene.script {
+        Some(script) => put_place(out, script, line, 1),
+        None => write!(out, "entry {line}: "),
+    }
 }
 
 /// A line of an explanation.

@@ -14,9 +14,6 @@ use sequences::Sequence;
 use std::alloc::{AllocError, Global};
 use std::io;
 
-// Of a journal, the line of the first entry: the head stands before it.
-const LINE_BEHIND: u64 = 2;
-
 // An entry as `audit` shows it, after so many others.
 fn write_shown(
     alloc: Global,
@@ -57,8 +54,8 @@ fn tell_last(
         return Ok(());
     };
     write_shown(alloc, out, core, before, entry)?;
-    let line = before.saturating_add(LINE_BEHIND);
-    let told = failure_told(alloc, core, entries, line)?;
+    let number = before.saturating_add(1);
+    let told = failure_told(alloc, core, entries, number)?;
     out.push_str(told.as_str())
 }
 

@@ -9,6 +9,8 @@ mod outcomes;
 mod replies;
 mod voice;
 
-pub use members::{begin, end, put_bool, put_comma, put_name, put_number, put_text};
+pub use members::{
+    begin, end, put_any_text, put_bool, put_comma, put_name, put_number, put_quoted, put_text,
+};
 pub use outcomes::{outcome_name, put_outcome, put_refusal, put_taken, taken_name};
 pub use voice::Json;

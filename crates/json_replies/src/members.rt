@@ -1,5 +1,5 @@
-//! The members of objects, one behind the other. Names of a policy are letters, digits, `_` and `-`, so that no text here
-//! needs an escape.
+//! The members of objects, one behind the other. Names of a policy are letters, digits, `_` and `-`, so that no text of a
+//! reply needs an escape; texts for people do.
 
 use aql_packet::Address;
 use policy::{Right, Rights};
@@ -35,6 +35,34 @@ pub fn put_name(out: &mut String, name: &str) -> Result<(), AllocError> {
 pub fn put_text(out: &mut String, name: &str, text: &str) -> Result<(), AllocError> {
     put_name(out, name)?;
     write!(out, "\"{text}\"")
+}
+
+// Puts a letter of a text behind another, as it stands in quotes.
+fn put_letter(out: &mut String, letter: char) -> Result<(), AllocError> {
+    match letter {
+        '"' => out.push_str("\\\""),
+        '\\' => out.push_str("\\\\"),
+        '\0'..='\u{1f}' => {
+            let code = u32::from(letter);
+            write!(out, "\\u{code:04x}")
+        }
+        _ => out.push(letter),
+    }
+}
+
+/// Puts any text behind another, in quotes.
+pub fn put_quoted(out: &mut String, text: &str) -> Result<(), AllocError> {
+    out.push_str("\"")?;
+    for letter in text.chars() {
+        put_letter(out, letter)?;
+    }
+    out.push_str("\"")
+}
+
+/// A further member: any text.
+pub fn put_any_text(out: &mut String, name: &str, text: &str) -> Result<(), AllocError> {
+    put_name(out, name)?;
+    put_quoted(out, text)
 }
 
 /// A further member: a number.

@@ -1,5 +1,6 @@
 //! The fault of a text, with the line that it lies in and a mark under its place.
 
+use crate::TextFault;
 use crate::lines::{blanks, line, lines, show, without_end};
 use hsail_reader::{ReadCause, ReadFault};
 use kernel_check::{CheckCause, CheckFault};
@@ -28,6 +29,14 @@ fn meaning_of_checking(cause: CheckCause) -> &'static str {
             "UnknownArgument: no variable of this name is declared before",
         CheckCause::TooLarge => "TooLarge: a number or a limit is passed",
         CheckCause::BadAddress => "BadAddress: the segment has no such form of address",
+    }
+}
+
+/// What the cause of a text's fault means.
+pub fn meaning_of(fault: TextFault) -> &'static str {
+    match fault {
+        TextFault::Read(fault) => meaning_of_reading(fault.cause),
+        TextFault::Check(fault) => meaning_of_checking(fault.cause),
     }
 }
 

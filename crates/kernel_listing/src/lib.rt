@@ -9,6 +9,7 @@ mod lines;
 mod step_lines;
 mod steps;
 
+pub use faults::meaning_of;
 use hsail_reader::{Module, ReadError, ReadFault, read_module};
 use kernel_check::{CheckError, CheckFault, Checked, check};
 use std::alloc::{AllocError, Global};

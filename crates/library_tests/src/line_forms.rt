@@ -37,7 +37,7 @@ fn check_told(
     line: &str,
     wanted: &str,
 ) -> Result<(), Fail> {
-    let told = bad_line_among(rt.alloc(), forms, line.as_bytes(), 7, 0)?;
+    let told = bad_line_among(rt.alloc(), forms, line.as_bytes(), 0)?;
     assert_eq!(rt; told.as_str(), wanted, "{line}");
     Ok(())
 }
@@ -50,24 +50,24 @@ fn a_form_that_is_added_is_explained(rt: HostRuntime) -> Result<(), Fail> {
         &rt,
         forms,
         "paint alice two",
-        "line 7: `two`, word 3, isn't understood: there stands a decimal number of 64 bits\nline 7: the form is `paint CLIENT COATS`\n",
+        "13: `two`, word 3, isn't understood: there stands a decimal number of 64 bits; the form is `paint CLIENT COATS`",
     )?;
     check_told(
         &rt,
         forms,
         "paint alice",
-        "line 7: it has 2 words, and its form 3\nline 7: the form is `paint CLIENT COATS`\n",
+        "12: it has 2 words, and its form 3; the form is `paint CLIENT COATS`",
     )?;
     check_told(
         &rt,
         forms,
         "paimt alice 2",
-        "line 7: `paimt` is no word that a line begins with\nline 7: the nearest form is `paint CLIENT COATS`\n",
+        "1: `paimt` is no word that a line begins with; the nearest form is `paint CLIENT COATS`",
     )?;
     check_told(
         &rt,
         forms,
         "stop two",
-        "line 7: `two`, word 2, isn't understood: there stands a decimal number of 64 bits\nline 7: the form is `stop Q`\n",
+        "6: `two`, word 2, isn't understood: there stands a decimal number of 64 bits; the form is `stop Q`",
     )
 }

@@ -13,9 +13,7 @@ use crate::draining::drain;
 use crate::moves::{command_of, reply_of};
 use crate::states::{write_json, write_text};
 use aql_packet::QueueId;
-use assemble::{
-    Book, Fault, LineError, Places, Turned, fault_text, help_text, put_lines, without_comment,
-};
+use assemble::{Book, LineError, Places, Turned, cause_text, put_lines, without_comment};
 use explain::{State, state_of};
 use json_replies::Json;
 use policy::Policy;
@@ -393,28 +391,10 @@ impl<'a, S: DrainVoice> Readable<'a, S> {
         }
     }
 
-    // What is wanted in a line of no form, and behind it what may stand there, where that is known.
-    fn wanted_text(
-        &self,
-        alloc: Global,
-        number: u64,
-        line: &[u8],
-        fault: Fault,
-    ) -> Result<String, AllocError> {
-        let mut text = fault_text(alloc, number, line, fault)?;
-        let help = help_text(alloc, &self.book.policy, number, line, fault)?;
-        if !help.is_empty() {
-            text.push_str("\n")?;
-            text.push_str(help.as_str())?;
-        }
-        Ok(text)
-    }
-
-    // Keeps what is wanted in a line of no form.
+    // Keeps what is wanted in a line of no form, behind the column of the word in its place.
     fn refuse<F>(
         &mut self,
         alloc: Global,
-        number: u64,
         line: &[u8],
         error: LineError,
     ) -> Result<Option<Flow>, RunFault<F>>
@@ -423,7 +403,7 @@ impl<'a, S: DrainVoice> Readable<'a, S> {
         let LineError::Fault(fault) = error else {
             return Err(RunFault::Script(ScriptFault::OutOfMemory));
         };
-        match self.wanted_text(alloc, number, line, fault) {
+        match cause_text(alloc, &self.book.policy, line, fault) {
             Ok(text) => {
                 self.wanted = text;
                 Ok(None)
@@ -464,7 +444,7 @@ impl<'a, S: DrainVoice> Style for Readable<'a, S> {
                 self.do_drain(alloc, world, later, watcher, number, line, queue, out)
             }
             Ok(Turned::State) => self.do_state(alloc, world, later, watcher, number, line, out),
-            Err(error) => self.refuse(alloc, number, line, error),
+            Err(error) => self.refuse(alloc, line, error),
         }
     }
 
