@@ -15,6 +15,7 @@ import tempfile
 import against
 import commands
 import packed
+import picture
 from trial import FILL, PRELUDE, SAMPLE, TOP, Ended, Trials, program_given, run, run_whole, text
 
 import replay  # (tests/packed.py makes examples/ known)
@@ -218,7 +219,7 @@ def case_replays(trials, program, room):
 
 
 def shown(trials, program, room):
-    """A journal is drawn as the run that wrote it, and told as its audit, with why of what failed."""
+    """A journal is drawn as the run that wrote it but for the marks of refused lines, and told as its audit, with why of what failed."""
     scripts = {"fill": [*PRELUDE, f"submit 1 1 {FILL}", "serve 1", "run 1 0", "finish 1 0"], "forms": commands.FORMS, "kernels": commands.KERNELS, "nothing": []}
 
     for name, script in scripts.items():
@@ -228,6 +229,7 @@ def shown(trials, program, room):
     def drawn(it):
         name, words = it
         wanted = run([program, "picture", SAMPLE, *words], text(scripts[name]))
+        wanted.out = picture.unmarked(wanted.out)
         came = run([program, "picture", SAMPLE, *words, "--journal", file_of(name)])
         return None if came == wanted and came.status == 0 else f"{came}, and not {wanted}"
 
@@ -249,7 +251,7 @@ def shown(trials, program, room):
             return f"{missing} missing, {failures} failures: {came}"
         return None
 
-    trials.every("a journal is drawn as the run that wrote it", drawn, [(name, words) for name in scripts for words in ([], ["--from", "3"], ["--to", "6"], ["--from", "2", "--to", "4"])])
+    trials.every("a journal is drawn as the run that wrote it, without marks of refused lines", drawn, [(name, words) for name in scripts for words in ([], ["--from", "3"], ["--to", "6"], ["--from", "2", "--to", "4"])])
     trials.every("a journal is told as its audit, with why of what failed", told, scripts)
     fill = file_of("fill")
     with open(fill, "rb") as it:

@@ -96,7 +96,7 @@ class TextTrial:
             self.found["as ever"] += 1
             return None
         if self.row.form == "picture" and (ended.status, ended.err) == (0, b""):
-            # (a line was refused, and isn't drawn)
+            # (a line was refused, and has its mark)
             self.found["refused"] += 1
             return None if ended.out.endswith(b"</svg>\n") else f"it is no whole page: {ended}"
         if self.row.form == "strict" and ended.status == 1:

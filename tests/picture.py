@@ -27,7 +27,7 @@ SIGHTS = {
 # Marks that stand in one place, and so have to differ by colour.
 KINDS = (
     ("finished", "faulted", "failed", "stopped", "open"), ("group", "look", "completion", "fault", "failure"),
-    ("grant", "revocation", "write", "change", "reload"), ("stop", "close"),
+    ("grant", "revocation", "write", "change", "reload", "refused"), ("stop", "close"),
 )
 # How far colours of one kind are from each other at the least, in CIE 1976 L*a*b*: 2.3 is what an eye just tells.
 APART = 18
@@ -51,6 +51,11 @@ def drawn(program, script, *more):
     """The page of a script, or what went wrong in its place."""
     ended = run([program, "picture", SAMPLE, *more], script)
     return ended.out if ended.status == 0 and not ended.err else ended
+
+
+def unmarked(page):
+    """A page without the marks of refused lines."""
+    return re.sub(rb"<style>\.refused path.*(?=</svg>\n$)", b"", page, flags=re.S)
 
 
 def history(program, script, *more):
@@ -87,12 +92,24 @@ def closes_of(entries):
     return {entry.split(";")[0].split(" ")[1]: at + 1 for at, entry in enumerate(entries) if entry.startswith("close ")}
 
 
+def cross(path):
+    """Where a cross stands: left, top, width, height."""
+    x, y, wide, high, up, back, down = map(int, re.fullmatch(r"M(\d+) (\d+)l(\d+) (\d+)m0 -(\d+)l-(\d+) (\d+)", path).groups())
+    assert wide == back and high == up == down, path
+    return x, y, wide, high
+
+
 class Page:
     """A page, read."""
 
     def __init__(self, text):
         self.tree = xml.fromstring(text)
-        self.groups = [it for it in self.tree.iter(f"{SVG}g") if it.get("class")]
+        self.groups = [it for it in self.tree.iter(f"{SVG}g") if it.get("class") not in (None, "refused")]
+        # the marks of refused lines: left, top, width and height of each, and what is said under the pointer
+        marks = [it for it in self.tree.iter(f"{SVG}g") if it.get("class") == "refused"]
+        self.marks = [(cross(it.find(f"{SVG}path").get("d")), it.find(f"{SVG}title").text) for it in marks]
+        assert [box for box, _ in self.marks] == [box for it in marks for box in boxes(it)], "a mark isn't met by the pointer"
+        self.refusals = [it.find(f"{SVG}text").text for it in self.tree.iter(f"{SVG}g") if it.get("id") == "refusals"]
         self.titles = [it.find(f"{SVG}title").text.split(" ", 1) for it in self.groups]
         self.numbers = {it.text: (int(it.get("x")), int(it.get("y"))) for it in self.tree.iter(f"{SVG}text") if it.get("class") == "number"}
         self.lines = [(tuple(int(it.get(name)) for name in ("x1", "y1", "x2", "y2")), it.find(f"{SVG}title").text) for it in self.tree.iter(f"{SVG}line") if it.get("class") != "key"]
@@ -238,7 +255,12 @@ def wrong_look(page, grid):
         found = next(((a, b) for a in some for b in by_band.get(grid.band(a[1]), []) if a is not b and overlap(a, b)), None)
         if found:
             return f"{name} overlap: {found}"
-    out = [it for it in (*bars, *ticks, *words) if it[0] + it[2] > page.width or it[1] + it[3] > page.height]
+    marks = [box for box, _ in page.marks]
+    beside = [box for it in page.groups if it.get("class") in ("grant", "revocation", "write", "change", "reload", "stop", "close") or it.get("class").startswith("bar") for box in boxes(it)]
+    found = next(((a, b) for a in marks for b in (*marks, *beside, *words) if a is not b and overlap(a, b)), None)
+    if found:
+        return f"the mark of a refused line overlaps: {found}"
+    out = [it for it in (*bars, *ticks, *words, *marks) if it[0] + it[2] > page.width or it[1] + it[3] > page.height]
     return f"off the page: {out[:3]}" if out else None
 
 
@@ -268,6 +290,42 @@ def wrong_head(page, grid, before):
             return f"{name!r} stands in the bands {found}, not in all of {grid.bands}"
     bare = set(range(grid.count // grid.columns)) - {grid.band(y) for _, y in page.numbers.values()}
     return f"no number in the bands {bare}" if bare else None
+
+
+def refusals(program, script, *more):
+    """The lines of a script that are refused: how many entries came before each, its number, and the refusal's name."""
+    lines, found, count, at = script.decode().split("\n"), [], 0, 0
+    asked = [(number, it) for number, it in enumerate(lines, 1) if it.split("#")[0].strip()]
+    ran = run([program, "run", SAMPLE, *more], text([it for _, line in asked for it in (line, "audit")]))
+    replies = ran.out.decode().splitlines()
+    for number, _ in asked:
+        for _ in range(2):
+            if told := re.fullmatch(r"refused \d+ (\w+).*", replies[at]):
+                found.append((count, number, told[1]))
+            counted = re.fullmatch(r"(list|errors|audit|rotated) (\d+)", replies[at])
+            some = replies[at + 1 : at + 1 + int(counted[2])] if counted else []
+            if counted and counted[1] in ("audit", "rotated") and some:
+                count = int(some[-1].split(" ")[0])
+            at += 1 + len(some)
+    assert at == len(replies), (at, replies)
+    return found
+
+
+def wrong_marks(page, grid, refused, before):
+    """Why the marks of refused lines aren't one behind each entry that is drawn and just before the first, where lines were refused there."""
+    wanted = {}
+    for behind, number, name in refused:
+        if before + grid.skipped <= behind <= before + grid.skipped + grid.count:
+            wanted.setdefault(behind, []).append(f"line {number} refused {name}")
+    wanted = [(behind, "; ".join(told)) for behind, told in wanted.items()]
+    if [told for _, told in wanted] != [told for _, told in page.marks] or page.refusals != (["refused line"] if wanted else []):
+        return f"the marks are {page.marks} under {page.refusals}, not {wanted}"
+    for (behind, _), ((x, y, width, _), told) in zip(wanted, page.marks):
+        at = behind - before - grid.skipped
+        place = MARGIN + grid.step * (at % grid.columns) + grid.step // 2, at // grid.columns
+        if ((x, grid.band(y)), width, (y - BANDS) % grid.pitch) != (place, grid.step // 2, 36):
+            return f"the mark of {told} stands at {(x, y)}, {width} wide, and not {place}"
+    return None
 
 
 def wrong_page(parts, text, skipped=0):
@@ -374,8 +432,12 @@ def colours(trials, program):
     tree = Page(drawn(program, example("two_queues"))).tree
     style = "".join(it.text for it in tree.iter(f"{SVG}style"))
     fills = {name: fill for names, fill in re.findall(r"([^{}]+)\{fill:(#[0-9a-f]{6})", style) for name in re.findall(r"\.(\w+) rect", names)}
+    marked = xml.fromstring(drawn(program, b"load alice done\n"))
+    of_marks = re.fullmatch(r"\.refused path,#refusals path\{stroke:(#[0-9a-f]{6});stroke-width:1.5\}\.refused rect\{fill-opacity:0\}#refusals text\{fill:#444\}", list(marked.iter(f"{SVG}style"))[1].text)
+    fills["refused"] = of_marks[1]
     legend = next(it for it in tree.iter(f"{SVG}g") if it.get("id") == "legend")
     keys = [it.get("fill") for it in legend.iter(f"{SVG}rect")]
+    keys += [of_marks[1] for it in marked.iter(f"{SVG}g") if it.get("id") == "refusals" and it.find(f"{SVG}path") is not None]
 
     def apart(case):
         kind, sight = case
@@ -408,6 +470,42 @@ def pages(trials, program):
     fill = text([*PRELUDE, f"submit 1 1 {FILL}", "serve 1"])
     parts = text([*PRELUDE, "# in parts", "list alice", "reserve 1 1", f"publish 1 1 0 {FILL}", "read alice 0000000100000000 4", "peek 1", "take 1", "audit"])
     trials.every("scripts of one audit are drawn as one page", same, [(fill, parts, fill.rstrip(b"\n"), fill.replace(b" ", b"  "))])
+
+
+def marks(trials, program):
+    """The marks of the lines that were refused, each between the entries where it came; all else is as without these lines."""
+    counts = {"lines": 0, "marks": 0}
+
+    def marked(case):
+        script, (first, last) = case
+        page = Page(drawn(program, script, SAMPLE, "--from", str(first), "--to", str(last)))
+        found, (handed, entries) = refusals(program, script, SAMPLE), history(program, script, SAMPLE)
+        count = min(len(entries), max(0, last - len(handed)))
+        skipped = max(0, min(count - 1, first - 1 - len(handed)))
+        grid = Grid(page, skipped, count - skipped)
+        counts["lines"] += len(found)
+        counts["marks"] += len(page.marks)
+        return wrong_marks(page, grid, found, len(handed)) or wrong_look(page, grid)
+
+    def beside(script):
+        lines = script.decode().split("\n")
+        for _, number, _ in refusals(program, script, SAMPLE):
+            lines[number - 1] = "# it was refused"
+        found, wanted = drawn(program, script, SAMPLE), drawn(program, text(lines), SAMPLE)
+        return None if unmarked(found) == wanted else f"without the marks it is {found!r}, not {wanted!r}"[:400]
+
+    def long(packets):
+        lines = [it for at in range(packets) for it in (f"submit 1 1 {FILL}", "serve 1", f"run 1 {at}", f"finish 1 {at}", f"run 1 {at}", "load bob done")]
+        found = Page(drawn(program, text([*PRELUDE, *lines])))
+        told = [f"line {number} refused NotInFlight; line {number + 1} refused Denied" for number in range(len(PRELUDE) + 5, len(PRELUDE) + 6 * packets, 6)]
+        return None if [it for _, it in found.marks] == told and found.width <= SCREEN else f"{len(found.marks)} marks of {len(told)}, as {found.marks[:2]}"
+
+    scripts = [random_script(seed) for seed in range(60)] + [random_script(seed, ("rotate", "reload 1")) for seed in range(60)]
+    ranges_of = ((1, 10**6), (5, 10**6), (1, 12), (6, 9))
+    note = lambda: f", {counts['lines']} refused lines under {counts['marks']} marks"
+    trials.every("each refused line has its mark behind the entry that it came behind", marked, list(itertools.product(scripts, ranges_of)), note)
+    trials.every("but for its marks a page is that of the script without its refused lines", beside, scripts)
+    trials.every("of few and of many packets each refused line has its mark", long, SIZES)
 
 
 def refused(trials, program, room):
@@ -475,6 +573,7 @@ def main():
     trials = Trials("pictures")
     colours(trials, program)
     pages(trials, program)
+    marks(trials, program)
     ranges(trials, program)
     with tempfile.TemporaryDirectory(prefix="picture-") as room:
         refused(trials, program, room)

@@ -4,6 +4,7 @@ use crate::causes::Causes;
 use crate::explaining::PolicyFile;
 use crate::going_on::{RunPolicies, begin_behind_journal, go_on};
 use crate::journal_files::{AskedJournal, JournalFile, OtherFiles, open_journal};
+use crate::marks::Marker;
 use crate::perform::{STANDARD_INPUT, failed, read_file, unread};
 use crate::policies::{Blame, Further, name_blame, open_run};
 use crate::request::Reads;
@@ -11,7 +12,9 @@ use crate::session::GREETING;
 use crate::terminal::{Beside, TerminalReader};
 use crate::watchers::{Lines, Noter, Recorder, Teller, Telling};
 use assemble::{Book, BookError};
-use commands::{Opened, PolicyText, Span, Status, draw_audit, run_over, tell_run, tell_unwatched};
+use commands::{
+    Opened, PolicyText, Refused, Span, Status, draw_audit, run_over, tell_run, tell_unwatched,
+};
 use explain::Why;
 use journal_commands::{EntryWriter, JournalFault, digests_of, policy_digest};
 use json_replies::Json;
@@ -99,18 +102,20 @@ fn tell_outside(rt: &HostRuntime, world: &World, span: Span, explains: bool) {
     }
 }
 
-// Draws what a world's audit tells, into a file, if one is named.
+// Draws what a world's audit tells, and the lines that were refused, into a file, if one is named.
 fn draw_into(
     rt: &HostRuntime,
     world: &World,
+    refused: &[Refused],
     span: Span,
     output: Option<&str>,
 ) -> Result<(), ScriptFault> {
     let Some(name) = output else {
-        return draw_audit(rt.alloc(), world, span, &mut Noted::new(rt.stdout()));
+        let out = &mut Noted::new(rt.stdout());
+        return draw_audit(rt.alloc(), world, refused, span, out);
     };
     match File::create(rt, name) {
-        Ok(file) => draw_audit(rt.alloc(), world, span, &mut Noted::new(file)),
+        Ok(file) => draw_audit(rt.alloc(), world, refused, span, &mut Noted::new(file)),
         Err(error) => match error.kind() {
             io::ErrorKind::OutOfMemory => Err(ScriptFault::OutOfMemory),
             _ => Err(ScriptFault::Write),
@@ -118,22 +123,24 @@ fn draw_into(
     }
 }
 
-// Draws what a world's audit tells, if that is asked for and the run has come to its end.
+// Draws what a world's audit tells, and the lines that were refused, if the run has come to its end.
 fn draw_behind<F: Drop>(
     rt: &HostRuntime,
     world: &World,
+    refused: &[Refused],
     manner: Manner<'_>,
+    span: Span,
     ended: Result<(), RunFault<F>>,
 ) -> Result<(), RunFault<F>> {
-    match (ended, manner.drawn) {
-        (Ok(()), Some(span)) => {
+    match ended {
+        Ok(()) => {
             tell_outside(rt, world, span, manner.replies.are_told());
-            match draw_into(rt, world, span, manner.files.output) {
+            match draw_into(rt, world, refused, span, manner.files.output) {
                 Ok(()) => Ok(()),
                 Err(fault) => Err(RunFault::Script(fault)),
             }
         }
-        (ended, _) => ended,
+        ended => ended,
     }
 }
 
@@ -184,7 +191,6 @@ fn run_in<L: Style, R: io::Read>(
     let out = &mut Noted::new(rt.stdout());
     let script = &mut Noted::new(&mut *script);
     let ended = run_over(alloc, opened, style, &mut watcher, script, out);
-    let ended = draw_behind(rt, &opened.world, manner, ended);
     let why = stream_why(&ended, manner.files);
     let status = tell_run(alloc, ended, &mut Noted::new(&mut err));
     tell_stream(rt, why, manner.causes);
@@ -193,6 +199,32 @@ fn run_in<L: Style, R: io::Read>(
         Some(recorder) => recorder.end(alloc, &opened.world, &mut err, status),
         None => status,
     }
+}
+
+// Runs a script in a style that tells no replies over a world that was opened, and draws that.
+fn run_drawn<L: Style, R: io::Read>(
+    rt: &HostRuntime,
+    manner: Manner<'_>,
+    span: Span,
+    opened: &mut Opened,
+    style: &mut L,
+    script: &mut R,
+) -> Status {
+    let alloc = rt.alloc();
+    let mut beside = rt.stderr();
+    let further = manner.files.further;
+    let telling = telling_of(alloc, manner);
+    let teller = Teller::new(alloc, telling, further, &mut beside);
+    let mut watcher = Both::new(teller, Marker::new(alloc));
+    let out = &mut Noted::new(rt.stdout());
+    let script = &mut Noted::new(&mut *script);
+    let ended = run_over(alloc, opened, style, &mut watcher, script, out);
+    let refused = watcher.second.refused();
+    let ended = draw_behind(rt, &opened.world, refused, manner, span, ended);
+    let why = stream_why(&ended, manner.files);
+    let status = tell_run(alloc, ended, &mut Noted::new(rt.stderr()));
+    tell_stream(rt, why, manner.causes);
+    watcher.first.end(status)
 }
 
 // Whether nothing is told beside the replies of a run, and nothing ends it before its script does.
@@ -251,9 +283,9 @@ fn run_readable<R: io::Read>(
         Err(BookError::OutOfMemory) => return failed(rt, "no memory"),
         Err(BookError::Refused) => return Status::Refused,
     };
-    if manner.drawn.is_some() {
+    if let Some(span) = manner.drawn {
         let style = &mut Readable::new(alloc, &book, Silent);
-        run_in(rt, manner, opened, style, recorder, script)
+        run_drawn(rt, manner, span, opened, style, script)
     } else if manner.reads.is_json {
         let style = &mut Readable::new(alloc, &book, Json);
         run_in(rt, manner, opened, style, recorder, script)
@@ -274,9 +306,9 @@ fn run_as_asked<R: io::Read>(
 ) -> Status {
     if manner.reads.is_readable {
         run_readable(rt, text, manner, opened, recorder, script)
-    } else if manner.drawn.is_some() {
+    } else if let Some(span) = manner.drawn {
         let style = &mut Plain { voice: Silent };
-        run_in(rt, manner, opened, style, recorder, script)
+        run_drawn(rt, manner, span, opened, style, script)
     } else if manner.reads.is_json {
         let style = &mut Plain { voice: Json };
         run_plain(rt, manner, opened, style, recorder, script)

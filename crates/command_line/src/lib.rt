@@ -19,6 +19,7 @@ mod help;
 mod journal_files;
 mod listing;
 mod making;
+mod marks;
 mod meanings;
 mod naming;
 mod perform;

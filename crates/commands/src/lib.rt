@@ -13,11 +13,11 @@ mod run;
 mod status;
 
 pub use check::{Setup, check_policy, count_rows, judge};
-pub use draw::draw_audit;
+pub use draw::{draw_audit, refused_line};
 pub use failure::{Failure, Stop, Stops, name_failure, tell_end, tell_run, tell_unwatched};
 pub use further::{Further, FurtherFault, PolicyText, read_further};
 pub use kernel_judging::{KernelCause, KernelError, KernelFault, check_kernels};
 pub use laws::law_missing_entries_are_told;
-pub use picture::Span;
+pub use picture::{Refused, Span};
 pub use run::{Opened, Unopened, open_policies, run_over, run_policies, run_policy, run_strictly};
 pub use status::Status;

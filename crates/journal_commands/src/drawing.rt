@@ -1,6 +1,6 @@
 //! The command that draws a journal.
 
-ghost use Rattle.std.specs.Prelude.{◌≡◌, ◌<◌, ◌^◌, IfOk, length, string_bytes};
+ghost use Rattle.std.specs.Prelude.{◌≡◌, ◌<◌, ◌^◌, IfOk, [], length, string_bytes};
 ghost use Rattle.picture.specs.Pages.{text_of_page};
 
 use crate::fault::Fault;
@@ -19,7 +19,7 @@ const MOST_OF_PAGE: u32 = u32::MAX;
 // The most steps of a journal that is drawn or told (own).
 const MOST_STEPS: u64 = 1 << 62;
 
-// The page of entries after a beginning, of which these are asked for.
+// The page of entries after a beginning, of which these are asked for; no line was refused beside them.
 fn page_of(
     alloc: Global,
     start: &Origin,
@@ -27,10 +27,10 @@ fn page_of(
     span: Span,
 ) -> Result<String, AllocError>
     requires { length entries.now < 2 ^ 32 }
-    ensures { IfOk result (λ page. string_bytes page ≡ text_of_page start.now entries.now span) }
+    ensures { IfOk result (λ page. string_bytes page ≡ text_of_page start.now entries.now [] span) }
 {
     let mut page = String::new(alloc);
-    write_page(alloc, &mut page, start, entries, span)?;
+    write_page(alloc, &mut page, start, entries, &[], span)?;
     Ok(page)
 }
 

@@ -12,10 +12,12 @@ use Rattle.picture.specs.declared.element.Element.{Element}
 use Rattle.picture.specs.declared.element.Frame.{Frame}
 use Rattle.picture.specs.declared.element.Lane.{Lane}
 use Rattle.picture.specs.declared.element.Spot.{Spot}
+use Rattle.picture.specs.declared.refusals.Refused.{Refused}
 use Rattle.picture.specs.declared.seats.Seat.{Seat}
 use Rattle.picture.specs.Arrows.{last_zero, zeros_after}
 use Rattle.picture.specs.Lanes.{deepened, lanes_after, lanes_in, lanes_of, place_of}
 use Rattle.picture.specs.Reading.{close_of, closes, ending_of, end_of, spot_of}
+use Rattle.picture.specs.Refusals.{later_place, place_behind, text_at, text_of_end, text_of_refusals}
 use Rattle.picture.specs.Shapes.{height_at, height_of_lanes, text_of_band, text_of_bands, text_of_piece, text_of_pieces}
 use Rattle.picture.specs.Seats.{releases, seats_after, seats_of, with_seat}
 use Rattle.picture.specs.Pages.{text_of_entry, text_of_entries}
@@ -198,3 +200,22 @@ pub drawn_all : (frame : Frame) (policy : Declared) (seats : List Seat) (zeros :
     → length entries ≤ i → out ++ text_of_entries frame policy seats zeros i (drop i entries) ≡ whole → out ≡ whole
 unfolding text_of_entries
 drawn_all frame policy seats zeros i entries {out} le e = sym (append-nil out) ∙ (rw (drop_all i entries le) at e)
+
+-- ---- the refused lines
+
+-- a line is written, and those that are left still make the whole
+pub refusals_step : (frame : Frame) (count : ℕ) (last : Option ℕ) (i : ℕ) (lines : List Refused) (line : Refused) (old : List ℕ)
+    {new whole : List ℕ} {last' : Option ℕ} → i < length lines
+    → new ≡ old ++ text_at frame last (place_behind frame count (get_or lines i line)) (get_or lines i line)
+    → last' ≡ later_place last (place_behind frame count (get_or lines i line))
+    → old ++ text_of_refusals frame count last (drop i lines) ≡ whole
+    → new ++ text_of_refusals frame count last' (drop (i + 1) lines) ≡ whole
+unfolding text_of_refusals
+refusals_step frame count last i lines line old lt made passed before =
+    rw (made, passed) (append_assoc old _ _ ∙ (rw (at_place lines i line lt) at before))
+
+-- none left
+pub refusals_all : (frame : Frame) (count : ℕ) (last : Option ℕ) (i : ℕ) (lines : List Refused) (old : List ℕ) {new whole : List ℕ}
+    → length lines ≤ i → new ≡ old ++ text_of_end frame last → old ++ text_of_refusals frame count last (drop i lines) ≡ whole → new ≡ whole
+unfolding text_of_refusals
+refusals_all frame count last i lines old le made before = made ∙ (rw (drop_all i lines le) at before)

@@ -6,4 +6,5 @@ pub mod Arrows
 pub mod Frames
 pub mod Words
 pub mod Shapes
+pub mod Refusals
 pub mod Pages

@@ -1,5 +1,6 @@
--- The page: its head, and behind it in two layers what an audit begins from, and each of its entries, in order, each once (own).
-use Rattle.std.specs.Prelude.{ℕ, ◌+◌, ◌-◌, Bool, List, [], ◌∷◌, ◌++◌, flat_map, codes, decimal, length, if◌then◌else◌}
+-- The page: its head, and behind it in two layers what an audit begins from, and each of its entries, in order, each once; then the lines that
+-- were refused (own).
+use Rattle.std.specs.Prelude.{ℕ, ◌+◌, ◌-◌, Bool, List, [], ◌∷◌, ◌++◌, flat_map, codes, decimal, length, None, if◌then◌else◌}
 use Rattle.aql_packet.specs.declared.ids.QueueId.{QueueId}
 use Rattle.aql_packet.specs.declared.ids.PacketId.{PacketId}
 use Rattle.core_model.specs.declared.outcome.Satisfied.{Satisfied}
@@ -19,9 +20,11 @@ use Rattle.picture.specs.declared.element.Frame.{Frame}
 use Rattle.picture.specs.declared.element.Element.{Element}
 use Rattle.picture.specs.declared.seats.Seat.{Seat}
 use Rattle.picture.specs.declared.page.TheConstants.{BEGIN, END, SHRINKING, STYLE, WIDTH}
+use Rattle.picture.specs.declared.refusals.Refused.{Refused}
 use Rattle.picture.specs.Arrows.{arrow_from, zeros_after}
 use Rattle.picture.specs.Frames.{asked_of, front_of, frame_of, lesser}
 use Rattle.picture.specs.Reading.{bar_from_start, element_of, greater, lane_from_start, spot_of, stop_before}
+use Rattle.picture.specs.Refusals.{text_of_refusals}
 use Rattle.picture.specs.Seats.{seats_after, seats_of}
 use Rattle.picture.specs.Shapes.{band_of, foot_of, is_shown, left_of_column, shift_of, text_of_all_bands, text_of_arrow, text_of_element, text_of_number, text_of_shown}
 
@@ -123,12 +126,13 @@ unfoldable pub text_of_head : Frame → ℕ → List ℕ
 text_of_head frame count =
     BEGIN.now ++ text_of_measures (width_of_page frame count) (height_of_page frame count) ++ text_of_legend frame count
 
--- the page of these entries
-unfoldable pub text_of_framed : Frame → Origin → List Entry → List ℕ
-text_of_framed frame origin entries =
-    text_of_head frame (length entries) ++ text_of_layer frame origin entries ++ text_of_layer (front_of frame) origin entries ++ codes "</svg>\n"
+-- the page of these entries, and of the lines that were refused beside them
+unfoldable pub text_of_framed : Frame → Origin → List Entry → List Refused → List ℕ
+text_of_framed frame origin entries refused =
+    text_of_head frame (length entries) ++ text_of_layer frame origin entries ++ text_of_layer (front_of frame) origin entries
+    ++ text_of_refusals (front_of frame) (length entries) None refused ++ codes "</svg>\n"
 
--- the page of an audit, by what it begins from and its entries, of which these are asked for
-abbrev pub text_of_page : Origin → List Entry → Span → List ℕ
-text_of_page origin entries span =
-    text_of_framed (frame_of origin (asked_of origin.before span entries) span) origin (asked_of origin.before span entries)
+-- the page of an audit, by what it begins from and its entries, of which these are asked for, and by the lines that were refused beside them
+abbrev pub text_of_page : Origin → List Entry → List Refused → Span → List ℕ
+text_of_page origin entries refused span =
+    text_of_framed (frame_of origin (asked_of origin.before span entries) span) origin (asked_of origin.before span entries) refused

@@ -13,6 +13,7 @@ use crate::element::{Element, Frame, Sign, Span, Spot};
 use crate::frame::{asked_of, frame_of, front_of};
 use crate::places::{band_of, foot_of, left_of_column, shift_of};
 use crate::reading::{bar_from_start, element_of, lane_from_start, spot_of, stop_before};
+use crate::refusals::{Refused, write_refusals};
 use crate::seats::{Seat, pass_seats, seats_of};
 use crate::shapes::{
     is_shown, write_all_bands, write_arrow, write_element, write_number, write_shown,
@@ -409,7 +410,7 @@ fn write_head(out: &mut String, frame: &Frame, count: u32) -> Result<(), AllocEr
     write_legend(out, frame, count)
 }
 
-// Writes the page of these entries.
+// Writes the page of these entries, and of the lines that were refused beside them.
 #[tactic(auto, unfolding(crate::specs::Pages::text_of_framed))]
 fn write_framed(
     alloc: Global,
@@ -417,30 +418,35 @@ fn write_framed(
     frame: Frame,
     origin: &Origin,
     entries: &[Entry],
+    refused: &[Refused],
 ) -> Result<(), AllocError>
     requires { length entries.now < 2 ^ 32 }
-    ensures { OnOk result (string_bytes out.new ≡ string_bytes out.old ++ text_of_framed frame origin.now entries.now) }
+    ensures { OnOk result (string_bytes out.new ≡ string_bytes out.old ++ text_of_framed frame origin.now entries.now refused.now) }
 {
     write_head(out, &frame, entries.len() as u32)?;
     write_layer(alloc, out, &frame, origin, entries)?;
-    write_layer(alloc, out, &front_of(frame), origin, entries)?;
+    let front = front_of(frame);
+    write_layer(alloc, out, &front, origin, entries)?;
+    write_refusals(out, &front, entries.len() as u32, refused)?;
     out.push_str("</svg>\n")
 }
 
-/// Writes the page of an audit, by what it begins from and its entries, of which these are asked for. It is what
-/// `text_of_page` says, whatever the audit is: of 20,000 entries at the most each is drawn in turn, once, behind the
-/// queues and packets in flight from the start on, and what is said of it is escaped.
+/// Writes the page of an audit, by what it begins from and its entries, of which these are asked for, and by the lines that
+/// were refused beside them. It is what `text_of_page` says, whatever the audit is: of 20,000 entries at the most each is
+/// drawn in turn, once, behind the queues and packets in flight from the start on, each refused line behind its entry, and
+/// what is said of it is escaped.
 pub fn write_page(
     alloc: Global,
     out: &mut String,
     origin: &Origin,
     entries: &[Entry],
+    refused: &[Refused],
     span: Span,
 ) -> Result<(), AllocError>
     requires { length entries.now < 2 ^ 32 }
-    ensures { OnOk result (string_bytes out.new ≡ string_bytes out.old ++ text_of_page origin.now entries.now span) }
+    ensures { OnOk result (string_bytes out.new ≡ string_bytes out.old ++ text_of_page origin.now entries.now refused.now span) }
 {
     let asked = asked_of(origin.before, span, entries);
     let frame = frame_of(alloc, origin, asked, span)?;
-    write_framed(alloc, out, frame, origin, asked)
+    write_framed(alloc, out, frame, origin, asked, refused)
 }

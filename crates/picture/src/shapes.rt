@@ -135,8 +135,8 @@ fn line_of_words(frame: &Frame, element: &Element) -> u128
     }
 }
 
-// Writes a rectangle.
-fn write_rectangle(
+/// Writes a rectangle.
+pub(crate) fn write_rectangle(
     out: &mut String,
     x: u64,
     y: u128,
