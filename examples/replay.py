@@ -74,7 +74,6 @@ class Words:
 
     list = lambda self, read: [read() for _ in range(self.number())]
 
-    # parts of entries
     bytes = lambda self: self.bytes_of(self.number())
     small = lambda self: self.number(32)
     signed = lambda self: -(value + 1 >> 1) if (value := self.number()) & 1 else value >> 1
@@ -122,12 +121,10 @@ def steps(data):
     words = Words(data)
     words.owed(b"journal\x02")
     yield "head", (words.bytes_of(32), words.number()), 0, words.at
-    digest, number, filled, is_over = hashlib.sha512(data[: words.at]).digest(), 0, 0, False
+    digest, number, is_over = hashlib.sha512(data[: words.at]).digest(), 0, False
     while not is_over:
-        beginning = packed(number + 1)
-        words.owed(beginning)
-        told = hashlib.sha512(digest + beginning)
-        filled = 0
+        words.owed(packed(number + 1))
+        told, filled = hashlib.sha512(digest + packed(number + 1)), 0
         while filled < FULL and not data.startswith(b"\0", words.at):
             begin = words.at
             entry = words.parts(EVENTS), words.parts(OUTCOMES), words.list(lambda: words.parts(EFFECTS))
@@ -147,8 +144,7 @@ class State:
     """What the entries so far lead to."""
 
     def __init__(self, policy):
-        self.regions = [it["length"] for it in policy.get("region", [])]
-        self.memory = [bytearray(length) for length in self.regions]
+        self.memory = [bytearray(it["length"]) for it in policy.get("region", [])]
         self.signals = [it.get("initial", 0) for it in policy.get("signal", [])]
         self.rights, self.queues, self.opened, self.flying = {}, {}, 0, {}
 
@@ -197,8 +193,7 @@ class State:
     def take(self, event, outcome, effects):
         """Takes an entry; false for a close that isn't one."""
         due = [it for it in self.flying if it[0] == event[1]] if event[0] == "close" else None
-        released = [it[1:] for it in effects if it[0] == "release"]
-        if due is not None and (self.queues.pop(event[1], None) is None or released != due):
+        if due is not None and (self.queues.pop(event[1], None) is None or due != [it[1:] for it in effects if it[0] == "release"]):
             return False
         self.event(*event)
         self.outcome(event[1:3], *outcome)

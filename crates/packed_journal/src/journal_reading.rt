@@ -254,7 +254,8 @@ impl JournalReader {
     {
         let JournalReader { chain } = self;
         let mut chain = chain;
-        if chain.filled >= 65536 {
+        let is_full = chain.filled >= 65536;
+        if is_full {
             out.reserve(85)?;
             put_between(out, &mut chain);
         }

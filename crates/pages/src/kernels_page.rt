@@ -65,8 +65,8 @@ read alice buf 8
 ```
 ```console
 $ brokerd run mine.toml -f mine.script --readable --explain 2>&1 >/dev/null | sed -n 2,4p
-line 6: alice has no LAUNCH on kernel inc, which the packet dispatches
-line 6: the policy allows it; this line before it mends it:
+mine.script:6:1: alice has no LAUNCH on kernel inc, which the packet dispatches
+mine.script:6:1: the policy allows it; this line before it mends it:
 grant alice kernel inc LAUNCH
 $ (echo grant alice kernel inc LAUNCH; cat mine.script) | brokerd run mine.toml --readable | tail -n 1
 bytes 0100000001000000

@@ -77,15 +77,18 @@ Options stand at the end, in any order; of one that stands twice the last counts
 - A first word that is a number is the queue's: a client whose name is a number can't be named here. Nor can a signal of the name `signal` or `barrier` be one of `all-of` and `any-of`.
 
 ## What isn't a form
-A line of no form ends the run with status 1, after what the lines before it came to. The word is named, and what is wanted in its place. An unknown first word is told with the nearest that a line begins with:
-```
-line 3: buff: wanted is an address: a region as buf or buf+16, or a number
-line 5: end of line: wanted is `at` and where the arguments lie, as at args
-line 7: serv: wanted is a word that lines begin with, as serve
+A line of no form ends the run with status 1, after what the lines before it came to. The word is named with its column, and what is wanted in its place; an unknown first word with the nearest that a line begins with:
+```console
+$ echo 'args alice args inc q=1' | brokerd run --readable crates/brokerd/data/sample.toml
+line 1: bad request
+-:1:21: q=1: wanted is the name of an argument, as `brokerd kernel FILE` lists them
+$ echo 'serv 1' | brokerd assemble crates/brokerd/data/sample.toml
+line 1: serv: wanted is a word that lines begin with, as serve
+-:1:1: serv: wanted is a word that lines begin with, as serve
 ```
 A line of over 16,384 bytes is one too. The policy and its kernels are read and checked first; their faults are told as `brokerd check` tells them. Status 3 is as for `run`.
 
-`run --readable` tells it after its own `line 3: bad request`. All that it tells has the number of the line as it was typed. In a row, the second command counts the lines that it reads: a `dispatch` with arguments becomes two.
+All has the number of the line as it was typed. In a row, the second command counts the lines that it reads: a `dispatch` with arguments becomes two.
 
 ## Draining queues
 Further lines:

@@ -163,7 +163,7 @@ Some replies tell that nothing came of a line, or not yet:
 | B1 | a signal below 0 that a barrier packet depends on | a negative value means an error: see to what was to signal it, store another value, and open another queue |
 
 ### The run ends
-The status is 0 where all lines were done or answered, and 2 where the command line isn't understood. Else one of these lines stands on standard error, with its status; there is no other:
+The status is 0 where all lines were done or answered, and 2 where the command line isn't understood. Else one of these lines stands on standard error, with its status, and [its cause](explaining.md) behind it:
 
 | Line | Status | What to do |
 |---|---|---|
@@ -184,25 +184,26 @@ $ brokerd picture crates/brokerd/data/sample.toml < examples/two_queues.script |
 ```
 The page says on top which entries it has and what its colours mean, and under the pointer each mark tells its entry.
 
-- **Bands.** A page is as wide as a screen at the most. What has no room goes on in a band below, as text does, and each band has the numbers of its entries and the names of its lanes. After a `rotate` numbers go on, and the queues and packets in flight with which the rest of the audit begins have their lanes and bars from the left edge on.
-- **Lanes.** The first is the administrator's and the clients': grants, revocations, writes and changes of signals. Below it each queue has one, from its opening to its close, as high as its packets need; a queue that was closed before the first entry that is drawn has none. A line across all lanes is a reload.
-- **Packets.** A bar is a packet from its launch to its release, in the first row of its lane that is free, with its id and its kernel or function where there is room, else with its id. Its colour tells how it ended, \"stopped\" also of a closed queue, \"failed\" of a barrier packet whose signal fell below 0. Ticks in its lower part are its groups, the dark end its completion. Behind a denial, a fault or a failure stands its rule.
+- **Bands.** A page is as wide as a screen at the most. What has no room goes on in a band below, as text does, and each band numbers its entries and names its lanes. After a `rotate` numbers go on. Queues and packets in flight before the first entry drawn begin at the left edge.
+- **Lanes.** The first is the administrator's and the clients': grants, revocations, writes and changes of signals. Below it each queue has one, from its opening to its close, as high as its packets need; one closed before the first entry drawn has none. A line across all lanes is a reload.
+- **Packets.** A bar is a packet from its launch to its release, in its lane's first free row, with its id, and where there is room its kernel or function. Its colour tells how it ended, \"stopped\" also of a closed queue, \"failed\" of a barrier packet whose signal fell below 0. Ticks in its lower part are its groups, the dark end its completion. Behind a denial, a fault or a failure stands its rule.
 - **Signals.** A pink tick is a poll of a barrier packet that saw a signal at 0, and an arrow leads there from what set it to 0, or, where that is in another band, from the left.
+- **Refused lines.** A cross in the first lane, behind the entry that they came behind, is one or more of them: under the pointer are their numbers and refusals.
 
-`--from N` and `--to N` draw the entries from one number to another; what is in flight before the first has its bar from the left edge on. At most the last 20,000 entries are drawn, those of some 6,000 packets. `--journal FILE` draws [a journal](audit.md#a-journal) in place of a script's run.
+`--from N` and `--to N` draw the entries from one number to another. At most the last 20,000 entries are drawn, those of some 6,000 packets. `--journal FILE` draws [a journal](audit.md#a-journal) in place of a script's run.
 
-A page is that of a whole script or there is none. If a line has no form, or reading, writing or memory fails, nothing is drawn (but a beginning, where the page's writer fails). Standard error and the status are then those of `run`. So put a `#` before the bad line, or end the script before it. Refusals, denials and faults of packets end nothing.
+A page is that of a whole script. If a line has no form, or reading, writing or memory fails, nothing is drawn (but a beginning, where the page's writer fails), and standard error and the status are those of `run`: put a `#` before the bad line. Refusals, denials and faults end nothing.
 
 ## Options of a run, and other commands
 
 `brokerd help run` lists what `run` takes:
 
 - `--strict` ends with status 1 after the first reply that tells that a line was refused or denied, or that a kernel or a poll faulted;
-- `--explain` tells on standard error after each such reply [why](explaining.md), and the line that mends it;
+- `--explain` tells on standard error after each such reply [why](explaining.md), and the line that mends it; `--quiet` leaves causes of faults out;
 - `--readable` takes [packets in words, and `drain`](assemble.md), which finishes what can be finished;
 - `--json` writes each reply as an object of JSON ([its members](json.md#replies));
 - `--audit N` has room for N entries, 1 to 1,048,576; without it for 65,536;
-- `--journal FILE` writes [a journal](audit.md#a-journal) as it goes;
+- `--journal FILE` writes [a journal](audit.md#a-journal) before each reply, with `--force`, `--continue` or `--sync`;
 - `-f FILE` takes the script from a file.
 
 All of these go together. Of other commands some contradict each other, and a command line with both has status 2: `picture --journal FILE` and `--audit N`, `-f FILE` or `--readable` (nothing is run), `decode --slots FILE` and digits (the slots stand in place of the digits).
