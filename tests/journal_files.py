@@ -15,7 +15,7 @@ import threading
 import time
 
 import packed
-from trial import DEADLINE, FILL, PRELUDE, SAMPLE, Ended, Trials, program_given, run, text
+from trial import DEADLINE, FILL, PRELUDE, SAMPLE, Ended, Trials, library_of, program_given, run, text
 
 import replay  # (tests/packed.py makes examples/ known)
 
@@ -154,6 +154,34 @@ def conversations(trials, program, room):
         return None if replay.derived([read(SAMPLE)], read(name))[0] else "the journal isn't whole"
 
     trials.every("at each reply its entries are in the file", trial, [(words, [*PRELUDE, *packets(0, count)]) for words in ([], ["--sync"], ["--audit", "6"], ["--strict"]) for count in (1, 7)])
+
+
+def troubles(trials, program, room):
+    """Writes that fail, are short or are interrupted: what was told is in the file, and the run can be gone on with."""
+    library = library_of("trouble.c", room)
+    lines = [*PRELUDE, *packets(0, 3)]
+    counted = [line.split()[0] in ("grant", "queue", "serve", "run", "finish") for line in lines]
+    whole = f"{room}/well"
+    words = [program, "run", SAMPLE, "--audit", "6", "--journal"]
+    run([*words, whole], text(lines))
+
+    def trial(it):
+        number, trouble = it
+        file = f"{room}/trouble-{number}-{'-'.join(trouble.values())}"
+        env = {**os.environ, "LD_PRELOAD": library, "TROUBLE_WRITE": str(number), **trouble}
+        ended = run([*words, file], text(lines), env)
+        is_well = trouble.get("TROUBLE_ERROR") == "4" or "TROUBLE_BYTES" in trouble
+        if is_well and (ended.status or read(file) != read(whole)):
+            return f"{ended}"
+        told, there = sum(counted[: ended.out.count(b"\n")]), entries_told(read(file))[0]
+        if there < told:
+            return f"{told} entries are told, and {there} are there: {ended}"
+        behind = run([program, "run", SAMPLE, "--continue", "--journal", file], b"list bob\n")
+        return None if behind.status == 0 and run([program, "replay", SAMPLE], read(file)).status == 0 else f"{behind}"
+
+    kinds = [{"TROUBLE_ERROR": "28"}, {"TROUBLE_ERROR": "28", "TROUBLE_ON": "1"}, {"TROUBLE_ERROR": "4"}]
+    some = [(number, trouble) for number in range(1, 40, 2) for trouble in kinds]
+    trials.every("a write that fails or is interrupted leaves what was told in the file", trial, [*some, *((0, {"TROUBLE_BYTES": count}) for count in ("1", "3", "7"))])
 
 
 def continued(program, name, lines, words=()):
@@ -316,6 +344,7 @@ def main():
     with tempfile.TemporaryDirectory() as room:
         files(trials, program, room)
         conversations(trials, program, room)
+        troubles(trials, program, room)
         goes_on(trials, program, room)
         kills(trials, program, room)
     trials.end()

@@ -330,7 +330,7 @@ def explains_beside(trials, program, room):
     def rotated(places):
         """Where the audit is rotated in between, lines keep their numbers."""
         words = [program, "run", SAMPLE, "--explain"]
-        both = run([*words, "--audit", places, "--journal", f"{room}/rotated-{places}"], few)
+        both = run([*words, "--audit", places, "--journal", f"{room}/numbers-{places}"], few)
         return None if both == run(words, few) else f"{both}"
 
     trials.every("and numbers its lines through rotations", rotated, ["8", "20", "65536"])

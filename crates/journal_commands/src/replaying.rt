@@ -17,6 +17,10 @@ const COUNTED: u64 = 10_000;
 // What takes a count off a terminal's line (own).
 const CLEARED: &str = "                          \r";
 
+// What is told of a digest that stands nowhere.
+const NOWHERE: &str =
+    "--has: no block of the journal has this digest, and no entry ends one that has it\n";
+
 /// What is asked of a replay: whether the state is told that the journal leads to; whether it is told now and then how many entries
 /// were read; at which block a digest stands, if one is asked for; and what the policies are called.
 #[derive(Clone, Copy)]
@@ -257,6 +261,27 @@ impl Told {
     }
 }
 
+// What is told on standard output of a journal that was replayed.
+fn verdict_told(
+    alloc: Global,
+    policies: &mut JournalPolicies,
+    terms: ReplayTerms<'_>,
+    ended: Ended,
+    number: u64,
+) -> Result<String, Fault> {
+    let mut text = String::new(alloc);
+    if ended.is_cut {
+        writeln!(text, "cut after entry {number}")?;
+    } else {
+        writeln!(text, "legal {number} entries")?;
+    }
+    write_found(&mut text, ended.found)?;
+    if terms.tells_state {
+        state_text(alloc, &mut policies.replay, &mut text)?;
+    }
+    Ok(text)
+}
+
 // What is told of a journal that was replayed.
 fn told_of(
     alloc: Global,
@@ -270,27 +295,15 @@ fn told_of(
     let vouched = if ended.is_cut { Some(vouched) } else { None };
     write_aside(&mut aside, policies, terms.names, vouched)?;
     if terms.has.is_some() && matches!(ended.found, Found::Nowhere) {
-        aside.push_str(
-            "--has: no block of the journal has this digest, and no entry ends one that has it\n",
-        )?;
+        aside.push_str(NOWHERE)?;
         return Ok(Told {
             text: String::new(alloc),
             aside,
             status: Status::Refused,
         });
     }
-    let mut text = String::new(alloc);
-    if ended.is_cut {
-        writeln!(text, "cut after entry {number}")?;
-    } else {
-        writeln!(text, "legal {number} entries")?;
-    }
-    write_found(&mut text, ended.found)?;
-    if terms.tells_state {
-        state_text(alloc, &mut policies.replay, &mut text)?;
-    }
     Ok(Told {
-        text,
+        text: verdict_told(alloc, policies, terms, ended, number)?,
         aside,
         status: if ended.is_cut {
             Status::Cut
