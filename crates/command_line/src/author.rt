@@ -112,7 +112,7 @@ pub fn kernel(rt: &HostRuntime, file: &str, form: Form, causes: Causes) -> Statu
 // What is told behind what is said of a line of no form: the cause with its place, if causes in the script's file are told and
 // there is memory for it.
 fn behind_line(alloc: Global, line: &Unassembled, named: Option<&str>) -> String {
-    let Unassembled { number, .. } = line;
+    let number = line.number;
     let cause = line.cause.as_str();
     match named {
         Some(file) => match format!(in alloc; "\n{file}:{number}:{cause}\n") {
