@@ -276,7 +276,7 @@ def goes_on(trials, program, room):
 
 def kills(trials, program, room):
     """Killed anywhere, a run's journal has all that was told, and it is gone on with."""
-    lines = [*PRELUDE, *packets(0, 5000)]
+    lines = [*PRELUDE, *packets(0, 2000)]
     entries = [line.split()[0] in ("grant", "queue", "serve", "run", "finish") for line in lines]
 
     def trial(seed):
@@ -286,7 +286,7 @@ def kills(trials, program, room):
         told = []
         reader = threading.Thread(target=lambda: told.append(ran.stdout.read()))
         reader.start()
-        killer = threading.Timer(chance.random() * 0.6, ran.kill)
+        killer = threading.Timer(chance.random() * 0.4, ran.kill)
         killer.start()
         try:
             for line in lines:
