@@ -76,6 +76,13 @@ pub struct OtherFiles<'a> {
 // The names of what standard input is.
 const INPUT_NAMES: [&str; 3] = ["/dev/stdin", "/dev/fd/0", "/proc/self/fd/0"];
 
+// What is told of standard input, of a file that is there already, and of `-`.
+const INPUT: &str = ": it is standard input: a journal wants a file of its own";
+
+const THERE: &str = " is there already: --force begins it anew, --continue goes on with it";
+
+const OUTPUT: &str = ": standard output has the replies: a journal wants a file of its own";
+
 // Whether a file is the one of a name.
 fn is_named(rt: &HostRuntime, file: &Metadata, name: &str) -> bool {
     match fs::metadata(rt, name) {
@@ -113,28 +120,23 @@ fn why_not(
     others: OtherFiles<'_>,
 ) -> Option<&'static str> {
     if is_policy(rt, file, others) {
-        Some("it is a policy's file: a journal wants one of its own")
+        Some(": it is a policy's file: a journal wants one of its own")
     } else if is_script(rt, file, others) {
-        Some("it is the script's file: a journal wants one of its own")
+        Some(": it is the script's file: a journal wants one of its own")
     } else if !file.file_type().is_char_device() && is_named(rt, file, INPUT_NAMES[0]) {
-        Some("it is standard input: a journal wants a file of its own")
+        Some(INPUT)
     } else if !file.is_file() && asked.there == WhereThere::GoOn {
-        Some("it is no regular file, behind which a run can't go on")
+        Some(": it is no regular file, behind which a run can't go on")
     } else if file.is_file() && 0 < file.len() && asked.there == WhereThere::Refuse {
-        Some("it is there already")
+        Some(THERE)
     } else {
         None
     }
 }
 
-// Tells why a journal isn't written into a file.
+// Tells why a journal isn't written into a file, behind its name.
 fn misused(rt: &HostRuntime, name: &str, why: &str) -> Status {
-    let told = if why == "it is there already" {
-        eprintln!(rt; "{name} is there already: --force begins it anew, --continue goes on with it")
-    } else {
-        eprintln!(rt; "{name}: {why}")
-    };
-    match told {
+    match eprintln!(rt; "{name}{why}") {
         Ok(()) => Status::Misused,
         Err(_) => Status::Failed,
     }
@@ -199,25 +201,17 @@ pub fn open_journal(
 ) -> Result<JournalFile, Status> {
     let name = asked.name;
     if name == STANDARD_INPUT {
-        return Err(misused(
-            rt,
-            name,
-            "standard output has the replies: a journal wants a file of its own",
-        ));
+        return Err(misused(rt, name, OUTPUT));
     }
     if is_input(name) {
-        return Err(misused(
-            rt,
-            name,
-            "it is standard input: a journal wants a file of its own",
-        ));
+        return Err(misused(rt, name, INPUT));
     }
     match fs::metadata(rt, name) {
         Ok(there) => open_known(rt, asked, &there, others, causes),
         Err(error) if error.kind() == io::ErrorKind::NotFound => match open_new(rt, asked) {
             Ok(file) => Ok(file),
             Err(error) if error.kind() == io::ErrorKind::AlreadyExists => {
-                Err(misused(rt, name, "it is there already"))
+                Err(misused(rt, name, THERE))
             }
             Err(error) => Err(unmade_file(rt, name, causes, &error)),
         },
