@@ -191,8 +191,10 @@ pub fn redo_journal<R: io::Read>(
 ) -> Result<bool, Fault> {
     for _ in 0..MOST_ENTRIES {
         match journal.next()? {
-            Next::Entry(entry, digest) => {
-                take(alloc, world, laters, journal.number(), &entry, digest)?
+            Next::Entry => {
+                if let Some((entry, digest)) = journal.told() {
+                    take(alloc, world, laters, journal.number(), entry, *digest)?;
+                }
             }
             Next::Block => {}
             Next::End => return Ok(false),

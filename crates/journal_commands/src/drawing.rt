@@ -50,9 +50,12 @@ pub fn read_entries<R: io::Read>(
     let mut entries = Vec::new(alloc);
     for _ in 0..MOST_STEPS {
         match journal.next()? {
-            Next::Entry(entry, _) => {
-                if journal.number() <= last {
-                    keep(&mut entries, entry)?;
+            Next::Entry => {
+                let told = journal.take_told();
+                if let Some((entry, _)) = told {
+                    if journal.number() <= last {
+                        keep(&mut entries, entry)?;
+                    }
                 }
             }
             Next::Block => {}

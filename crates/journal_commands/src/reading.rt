@@ -2,8 +2,9 @@
 
 use crate::fault::Fault;
 use crate::stream::Stream;
-use core_model::Entry;
-use packed_journal::{Halt, Head, Headless, JournalReader, JournalWriter, Step, read_number};
+use packed_journal::{
+    Halt, Head, Headless, JournalReader, JournalWriter, StepKind, ToldEntry, read_number,
+};
 use std::alloc::{AllocError, Global};
 use std::io;
 
@@ -14,10 +15,10 @@ pub const MOST_ENTRIES: u64 = 1 << 62;
 const DIGEST: usize = 64;
 
 /// What stands next in a journal.
-#[derive(Drop)]
+#[derive(Clone, Copy, PartialEq, Eq)]
 pub enum Next {
-    /// An entry, and of a reload the digest of the policy's text that it was asked with.
-    Entry(Entry, Option<[u8; 32]>),
+    /// An entry, which is told in place.
+    Entry,
     /// The end of a full block, whose digest vouches for all entries so far.
     Block,
     /// The journal's end, whose digest vouches for all entries.
@@ -40,6 +41,8 @@ pub struct JournalEntries<'a, R> {
     // Where the last step ends, but for the journal's end; and the digest of the block that ended last.
     place: u64,
     digest: [u8; 64],
+    // The entry that was read last.
+    told: Option<ToldEntry>,
 }
 
 /// What a journal begins with: a head, behind which it is read, or nothing, where it is cut there.
@@ -103,6 +106,7 @@ impl<'a, R: io::Read> JournalEntries<'a, R> {
                     vouched: 0,
                     place,
                     digest: [0; DIGEST],
+                    told: None,
                 }));
             }
             if !stream.fill()? {
@@ -120,6 +124,16 @@ impl<'a, R: io::Read> JournalEntries<'a, R> {
     /// The number of the entry that was read last.
     pub fn number(&self) -> u64 {
         self.number
+    }
+
+    /// The entry that was read last, and of a reload the digest of the policy's text that it was asked with.
+    pub fn told(&self) -> Option<&ToldEntry> {
+        self.told.as_ref()
+    }
+
+    /// Hands that out.
+    pub fn take_told(&mut self) -> Option<ToldEntry> {
+        self.told.take()
     }
 
     /// How many blocks' ends were read.
@@ -177,24 +191,25 @@ impl<'a, R: io::Read> JournalEntries<'a, R> {
     // The next step, if what was read has it as a whole.
     #[inline(always)]
     fn step(&mut self) -> Result<Option<Next>, Fault> {
-        let (step, left) = match self.reader.next(self.alloc, self.stream.left())? {
+        let bytes = self.stream.left();
+        let (step, left) = match self.reader.next_in(self.alloc, bytes, &mut self.told)? {
             Ok((step, rest)) => (step, rest.len()),
             Err(Halt::Cut) => return Ok(None),
             Err(halt) => return Err(self.fault_of(halt)),
         };
         match step {
-            Step::Entry(entry, policy) => {
+            StepKind::Entry => {
                 self.stream.go_on(left);
                 self.note_place(left);
                 self.number = self.number.saturating_add(1);
-                Ok(Some(Next::Entry(entry, policy)))
+                Ok(Some(Next::Entry))
             }
-            Step::Block => {
+            StepKind::Block => {
                 self.note_end(left);
                 self.note_place(left);
                 Ok(Some(Next::Block))
             }
-            Step::End => {
+            StepKind::End => {
                 self.note_end(left);
                 Ok(Some(Next::End))
             }

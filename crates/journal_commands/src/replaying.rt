@@ -101,10 +101,10 @@ fn take(
     policies: &mut JournalPolicies,
     number: u64,
     entry: &Entry,
-    digest: Option<[u8; 32]>,
+    digest: Option<&[u8; 32]>,
 ) -> Result<(), Fault> {
     if let Some(digest) = digest {
-        knows_reload(alloc, policies, number, entry, &digest)?;
+        knows_reload(alloc, policies, number, entry, digest)?;
     }
     match policies.replay.take(alloc, entry) {
         Ok(()) => Ok(()),
@@ -175,9 +175,11 @@ fn replay_entries<R: io::Read, E: io::Write>(
     let mut found = found_here(journal, has, false, Found::Nowhere)?;
     for _ in 0..MOST_ENTRIES {
         match journal.next()? {
-            Next::Entry(entry, digest) => {
+            Next::Entry => {
                 let number = journal.number();
-                take(alloc, policies, number, &entry, digest)?;
+                if let Some((entry, digest)) = journal.told() {
+                    take(alloc, policies, number, entry, digest.as_ref())?;
+                }
                 if has.is_some() {
                     found = found_here(journal, has, false, found)?;
                 }

@@ -12,7 +12,7 @@ use crate::chains::{Chain, add, copied, put_between, put_end, put_first};
 use crate::heads::{Head, begins_with, read_head, rest_behind};
 use crate::journal_writing::JournalWriter;
 use crate::outcomes::read_entry;
-use crate::stepping::{Halt, Headless, Step};
+use crate::stepping::{Halt, Headless, Step, StepKind, ToldEntry};
 use crate::unread::Unread;
 use core_model::Entry;
 use sha2::{Digest, Sha512};
@@ -206,6 +206,62 @@ fn first_behind<'a>(
     }
 }
 
+// The kind of a step that is no entry.
+fn kind_of(read: Result<(Step, &[u8]), Halt>) -> Result<(StepKind, &[u8]), Halt> {
+    match read {
+        Ok((Step::Entry(_, _), rest)) => Ok((StepKind::Entry, rest)),
+        Ok((Step::Block, rest)) => Ok((StepKind::Block, rest)),
+        Ok((Step::End, rest)) => Ok((StepKind::End, rest)),
+        Err(why) => Err(why),
+    }
+}
+
+// The next step, where an entry must stand, which goes to a slot.
+#[inline(always)]
+fn next_entry_in<'a>(
+    alloc: Global,
+    chain: &mut Chain,
+    bytes: &'a [u8],
+    slot: &mut Option<ToldEntry>,
+) -> Result<Result<(StepKind, &'a [u8]), Halt>, AllocError>
+    requires few { chain.old.filled < 65536 }
+    requires number { chain.old.number + 2 < 2 ^ 64 }
+    ensures number { chain.new.number + 1 < 2 ^ 64 }
+{
+    match read_entry(alloc, bytes) {
+        Ok(Ok((told, rest))) => {
+            add(chain, front(bytes, rest.len()));
+            *slot = Some(told);
+            Ok(Ok((StepKind::Entry, rest)))
+        }
+        Ok(Err(Unread::Ended)) => Ok(Err(Halt::Cut)),
+        Ok(Err(Unread::Wrong(left))) => Ok(Err(Halt::Entry(left))),
+        Err(want) => Err(want),
+    }
+}
+
+// The next step, of which an entry goes to a slot.
+#[inline(always)]
+fn next_step_in<'a>(
+    alloc: Global,
+    chain: &mut Chain,
+    bytes: &'a [u8],
+    slot: &mut Option<ToldEntry>,
+) -> Result<Result<(StepKind, &'a [u8]), Halt>, AllocError>
+    requires { chain.old.number + 1 < 2 ^ 64 }
+    ensures number { chain.new.number + 1 < 2 ^ 64 }
+{
+    if chain.filled >= 65536 {
+        Ok(kind_of(next_block(alloc, chain, bytes)?))
+    } else if begins_with(0, bytes) {
+        Ok(kind_of(next_end(alloc, chain, bytes)?))
+    } else if chain.number >= u64::MAX - 1 {
+        Ok(Err(Halt::Entry(bytes.len() as u64)))
+    } else {
+        next_entry_in(alloc, chain, bytes, slot)
+    }
+}
+
 impl JournalReader {
     /// Reads what a journal begins with, at the front of some bytes: its head, and the number of the first entry. It hands over the
     /// bytes behind. Refused for want of memory alone, which is taken for the journal's own bytes and never by a length in them.
@@ -234,6 +290,17 @@ impl JournalReader {
         ensures stands { (place : Place) → Stands self.old.chain place → Stands self.new.chain (behind_read place result) }
     {
         next_step(alloc, &mut self.chain, bytes)
+    }
+
+    /// Reads the next step as `next` does, but of an entry, which goes to a slot.
+    #[inline(always)]
+    pub fn next_in<'a>(
+        &mut self,
+        alloc: Global,
+        bytes: &'a [u8],
+        slot: &mut Option<ToldEntry>,
+    ) -> Result<Result<(StepKind, &'a [u8]), Halt>, AllocError> {
+        next_step_in(alloc, &mut self.chain, bytes, slot)
     }
 
     /// Writes the end that the journal has, if it ends behind what was read. Where memory is refused nothing changes.

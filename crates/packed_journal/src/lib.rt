@@ -39,7 +39,7 @@ pub use numbers::{write_number, write_signed, write_tag};
 pub use outcomes::read_entry;
 pub use packets::{read_packet, write_packet};
 pub use parts::{write_bytes, write_digest, write_flags};
-pub use stepping::{Halt, Headless, Step};
+pub use stepping::{Halt, Headless, Step, StepKind, ToldEntry};
 pub use unread::{
     Unread, read_bytes, read_digest, read_flags, read_number, read_signed, read_small, read_tag,
     read_tiny,

@@ -28,6 +28,20 @@ pub enum Step {
     End,
 }
 
+/// What kind of step was read, of which an entry is handed out in place.
+#[derive(Clone, Copy, Debug, PartialEq, Eq)]
+pub enum StepKind {
+    /// An entry.
+    Entry,
+    /// The end of a block, whose digest vouches for all entries so far, and the beginning of the next.
+    Block,
+    /// The end of the last block, whose digest vouches for all entries.
+    End,
+}
+
+/// An entry as it is read, and of a reload the digest of the policy's text that it was asked with.
+pub type ToldEntry = (Entry, Option<[u8; 32]>);
+
 /// Why no further step of a journal is read.
 #[derive(Clone, Copy, Debug, PartialEq, Eq)]
 pub enum Halt {
