@@ -1,13 +1,13 @@
 mod Steps
 mod Tells
-mod NumberLaws
+pub mod NumberLaws
 mod PartLaws
 mod Written
-mod Undone
-mod Times
-mod Forms
-mod PacketForms
-mod PartForms
+pub mod Undone
+pub mod Times
+pub mod Forms
+pub mod PacketForms
+pub mod PartForms
 mod EntryForms
 mod Blocks
 mod JournalForms
@@ -18,4 +18,4 @@ mod PartFronts
 mod PacketFronts
 mod EntryFronts
 mod JournalFronts
-mod Ranges
+pub mod Ranges

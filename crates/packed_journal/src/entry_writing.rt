@@ -226,8 +226,8 @@ fn write_event(out: &mut Vec<u8>, event: &Event, policy: &[u8; 32]) -> Result<()
     }
 }
 
-// Writes a tag, and an error.
-fn write_error(out: &mut Vec<u8>, tag: u8, error: QueueError) -> Result<(), AllocError>
+/// Writes a tag, and an error. Where memory is refused nothing changes.
+pub fn write_error(out: &mut Vec<u8>, tag: u8, error: QueueError) -> Result<(), AllocError>
     ensures { out.new.items ≡ appended result out.old.items (tag ∷ bytes_of (words_of_error error)) }
 {
     out.reserve(64)?;

@@ -22,7 +22,7 @@ mod tests;
 mod unread;
 mod writing;
 
-pub use entry_writing::{Unwritten, write_entry};
+pub use entry_writing::{Unwritten, write_entry, write_error};
 pub use fitting::entry_is_read_back;
 pub use heads::{Head, read_head};
 pub use journal_laws::{
@@ -35,12 +35,14 @@ pub use laws::{
     law_read_entries_are_written, law_read_words_are_written, law_written_entries_are_read,
     law_written_words_are_read,
 };
-pub use numbers::{write_number, write_signed, write_tag};
+pub use numbers::{put_number, write_number, write_signed, write_tag};
 pub use outcomes::read_entry;
 pub use packets::{read_packet, write_packet};
-pub use parts::{write_bytes, write_digest, write_flags};
+pub use parts::{undone, write_bytes, write_digest, write_flags};
+pub use reading::{read_error, read_object};
 pub use stepping::{Halt, Headless, Step};
 pub use unread::{
     Unread, read_bytes, read_digest, read_flags, read_number, read_signed, read_small, read_tag,
-    read_tiny,
+    read_tiny, wrong,
 };
+pub use writing::put_object;

@@ -23,8 +23,8 @@ fn put_within(out: &mut Vec<u8>, more: u8, number: u64)
     put_within(out, more - 1, number / 128);
 }
 
-// Puts a number, for whose ten bytes at most there is room.
-pub(crate) fn put_number(out: &mut Vec<u8>, number: u64)
+/// Puts a number, for whose ten bytes at most there is room.
+pub fn put_number(out: &mut Vec<u8>, number: u64)
     requires { vec_len out.old + 10 ≤ vec_capacity out.old }
     ensures items { out.new.items ≡ out.old.items ++ packed_number number }
     ensures len { vec_len out.new ≤ vec_len out.old + 10 }

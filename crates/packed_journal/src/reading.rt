@@ -80,8 +80,8 @@ fn read_kernel(bytes: &[u8]) -> Result<(Object, &[u8]), Unread>
     Ok((Object::Kernel(KernelObject(number)), rest))
 }
 
-// Reads an object.
-fn read_object(bytes: &[u8]) -> Result<(Object, &[u8]), Unread>
+/// Reads an object.
+pub fn read_object(bytes: &[u8]) -> Result<(Object, &[u8]), Unread>
     ensures { reads result ≡ read_object bytes.now }
 {
     let (tag, rest) = read_tag(bytes)?;
@@ -434,7 +434,7 @@ fn read_place(bytes: &[u8]) -> Result<(Option<FaultPlace>, &[u8]), Unread>
 }
 
 /// Reads an error: whose it is, the rule, and where.
-pub(crate) fn read_error(bytes: &[u8]) -> Result<(QueueError, &[u8]), Unread>
+pub fn read_error(bytes: &[u8]) -> Result<(QueueError, &[u8]), Unread>
     ensures { reads result ≡ read_error bytes.now }
 {
     let ((queue, packet), rest) = read_packet_named(bytes)?;

@@ -18,7 +18,7 @@ pub enum Unread {
 }
 
 /// No word that may stand there begins with the first of these bytes.
-pub(crate) fn wrong(bytes: &[u8]) -> Unread
+pub fn wrong(bytes: &[u8]) -> Unread
     ensures { result ≡ wrong bytes.now }
 {
     Unread::Wrong(bytes.len() as u64)

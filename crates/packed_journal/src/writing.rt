@@ -47,8 +47,8 @@ pub(crate) fn put_packet_named(out: &mut Vec<u8>, queue: QueueId, packet: Packet
     put_number(out, packet.0);
 }
 
-// Puts an object.
-fn put_object(out: &mut Vec<u8>, object: Object)
+/// Puts an object, for whose eleven bytes at most there is room.
+pub fn put_object(out: &mut Vec<u8>, object: Object)
     requires { vec_len out.old + 11 ≤ vec_capacity out.old }
     ensures items { out.new.items ≡ out.old.items ++ bytes_of (words_of_object object) }
     ensures len { vec_len out.new ≤ vec_len out.old + 11 }

@@ -1,0 +1,5 @@
+mod Sure
+mod Marks
+mod StateForms
+mod Added
+mod Spelled

@@ -1,0 +1,8 @@
+-- The list is what was read so far, and what is left.
+use Rattle.std.proofs.Common.{◌≡◌, ◌-◌, length}
+use Rattle.packed_journal.proofs.Times.{onto}
+use Rattle.packed_state.specs.StateReadings.{read_items, read_marks, rights_items}
+use Rattle.packed_state.proofs.reading.read_rights.Given as goal
+
+abbrev pub invariant-loop-place : goal.invariant-loop-place
+invariant-loop-place l = read_items rights_items l.bytes ≡ onto l.items (read_marks rights_items (length l.bytes - l._place) l.least l.left)

@@ -1,0 +1,11 @@
+use Rattle.std.proofs.Common.{[], ◌∷◌, ◌++◌, rules}
+use Rattle.packed_journal.specs.Words.{Bytes, Flags, Number}
+use Rattle.packed_state.specs.States.{words_of_held, words_of_items}
+use Rattle.packed_state.proofs.Added.{added}
+use Rattle.packed_state.proofs.writing.write_flying_state.Goals as goal
+
+pub returns : goal.returns
+returns c =
+    added c.write_flying_rest-made.result c.undone.result c.args.out.now.items c.write_progress.new.out.items c.write_flying_rest-made.new.out.items c.undone.new.out.items
+    (Number 32 c.args.packet.now.progress.groups_run ∷ Flags c.args.packet.now.progress.satisfied.0 ∷ []) (Number 32 c.args.packet.now.client.0 ∷ Bytes c.args.packet.now.arguments ∷ words_of_items words_of_held c.args.packet.now.rights)
+    c.len-before.result (search rules) (search rules) (search rules) c.undone.ensures.items c.undone.ensures.made

@@ -1,0 +1,9 @@
+-- The items so far are written.
+use Rattle.std.proofs.Common.{◌≡◌, ◌++◌, take}
+use Rattle.std.specs.Prelude.{flat_map}
+use Rattle.packed_journal.specs.Readings.{bytes_of}
+use Rattle.packed_state.specs.States.{words_of_item, words_of_flying}
+use Rattle.packed_state.proofs.writing.write_packets.Given as goal
+
+abbrev pub invariant-loop-packet : goal.invariant-loop-packet
+invariant-loop-packet l = l.out.items ≡ l.fn.out.items ++ bytes_of (flat_map (words_of_item words_of_flying) (take l.packet-index l.packets))

@@ -1,0 +1,10 @@
+use Rattle.std.proofs.Common.{[], ◌∷◌, ◌++◌, rules}
+use Rattle.packed_journal.specs.Words.{Number, Signed, Tag}
+use Rattle.packed_state.proofs.Added.{added}
+use Rattle.packed_state.proofs.writing.write_signal.Goals as goal
+
+pub returns : goal.returns
+returns c =
+    added c.add_signed-made.result c.undone.result c.args.out.now.items c.write_run_place.new.out.items c.add_signed-made.new.out.items c.undone.new.out.items
+    (Tag 1 ∷ Number 64 c.args.signal.now.0.0 ∷ []) (Signed c.args.signal.now.1 ∷ [])
+    c.len-before.result (search rules) (search rules) (search rules) c.undone.ensures.items c.undone.ensures.made
