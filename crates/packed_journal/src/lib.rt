@@ -38,7 +38,7 @@ pub use laws::{
 pub use numbers::{put_number, write_number, write_signed, write_tag};
 pub use outcomes::read_entry;
 pub use packets::{read_packet, write_packet};
-pub use parts::{undone, write_bytes, write_digest, write_flags};
+pub use parts::{write_bytes, write_digest, write_flags};
 pub use reading::{read_error, read_object};
 pub use stepping::{Halt, Headless, Step};
 pub use unread::{

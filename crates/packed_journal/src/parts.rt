@@ -7,7 +7,7 @@ use crate::numbers::{byte_at, write_number, write_tag};
 use std::alloc::AllocError;
 
 /// Takes what was added back, where memory was refused for what stands behind it.
-pub fn undone(
+pub(crate) fn undone(
     out: &mut Vec<u8>,
     before: usize,
     made: Result<(), AllocError>,

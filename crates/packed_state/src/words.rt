@@ -1,6 +1,6 @@
 //! Words as they are written, each alone.
 
-ghost use Rattle.std.specs.Prelude.{◌≡◌, [], ◌∷◌};
+ghost use Rattle.std.specs.Prelude.{◌≡◌, [], ◌∷◌, if◌then◌else◌, is_ok, take};
 ghost use Rattle.packed_journal.specs.Words.{Bytes, Digest, Flags, Number, Packet, Signed, Tag, appended};
 ghost use Rattle.packed_journal.specs.Readings.{bytes_of};
 
@@ -8,6 +8,24 @@ use packed_journal::{
     write_bytes, write_digest, write_flags, write_number, write_packet, write_signed, write_tag,
 };
 use std::alloc::AllocError;
+
+/// Takes what was added back, where memory was refused for what stands behind it.
+pub(crate) fn undone(
+    out: &mut Vec<u8>,
+    before: usize,
+    made: Result<(), AllocError>,
+) -> Result<(), AllocError>
+    ensures items { out.new.items ≡ (if is_ok result then out.old.items else take before out.old.items) }
+    ensures made { result ≡ made }
+{
+    match made {
+        Ok(()) => Ok(()),
+        Err(why) => {
+            out.truncate(before);
+            Err(why)
+        }
+    }
+}
 
 /// Adds a tag. Where memory is refused nothing changes.
 pub(crate) fn add_tag(out: &mut Vec<u8>, tag: u8) -> Result<(), AllocError>

@@ -7,11 +7,13 @@ ghost use Rattle.packed_journal.specs.Parts.{words_of_error, words_of_rights_on}
 ghost use Rattle.packed_state.specs.States.{form_of_state, words_of_flying, words_of_held, words_of_item, words_of_items, words_of_queue, words_of_run, words_of_signal, words_of_stop};
 
 use crate::state::{Flying, Run, State};
-use crate::words::{add_bytes, add_digest, add_flags, add_number, add_packet, add_signed, add_tag};
+use crate::words::{
+    add_bytes, add_digest, add_flags, add_number, add_packet, add_signed, add_tag, undone,
+};
 use aql_packet::{ClientId, SignalHandle};
 use bitflags::Flags;
 use core_model::{Progress, QueueOrigin};
-use packed_journal::{put_number, put_object, undone, write_error};
+use packed_journal::{put_number, put_object, write_error};
 use policy::{Object, Rights};
 use queue_error::QueueError;
 use std::alloc::AllocError;
