@@ -1,6 +1,7 @@
 //! What the lists of a state are made of, as it is read: each item behind its mark, in order.
 
-ghost use Rattle.std.specs.Prelude.{◌≡◌, ◌<◌, ◌^◌, Some};
+ghost use Rattle.std.specs.Prelude.{◌≡◌, ◌<◌, ◌^◌, ◌==◌, not, Some};
+ghost use Rattle.std.specs.List.{list_all};
 ghost use Rattle.packed_journal.specs.Readings.{made, reads};
 ghost use Rattle.packed_journal.specs.Parts.{number_of_kind, read_rights};
 ghost use Rattle.packed_state.specs.StateReadings.{error_items, held_items, is_packet, is_run, rank_of, read_held, read_if, read_next, read_signal_value, read_spelled, read_stop, rights_items, signal_items};
@@ -222,9 +223,16 @@ pub(crate) fn read_spelled(bytes: &[u8]) -> Result<([u8; 64], &[u8]), Unread>
     }
 }
 
+// Whether none of some bytes is zero.
+fn are_not_zero(bytes: &[u8]) -> bool
+    ensures { result ≡ list_all (λ byte. not (byte == 0)) bytes.now }
+{
+    bytes.iter().all(|byte| *byte != 0)
+}
+
 /// Whether there are bytes, none of which is zero.
 pub(crate) fn is_run(bytes: &[u8]) -> bool
     ensures { result ≡ is_run bytes.now }
 {
-    !bytes.is_empty() && bytes.iter().all(|byte| *byte != 0)
+    !bytes.is_empty() && are_not_zero(bytes)
 }

@@ -8,17 +8,17 @@ use Rattle.packed_state.proofs.reading.read_packets.Goals as goal
 pub returns-in-Err : goal.returns-in-Err
 returns-in-Err c =
     marks_stop flying_items (read_items flying_items c.args.bytes.now) c.loop-place.items (length c.args.bytes.now - c.loop-place._place) 0 c.loop-place.left.now c.in-Err.why
-    c.loop-place.invariant (omega arith) (sym c.in_ok-next_flying.ensures ∙ ap reads c.in-Err.is)
+    c.loop-place.invariant (omega arith) (sym c.in_ok-read.ensures ∙ ap reads c.in-Err.is)
 
 pub returns-in_default : goal.returns-in_default
 returns-in_default c =
     marks_end flying_items (read_items flying_items c.args.bytes.now) c.loop-place.items (length c.args.bytes.now - c.loop-place._place) 0 c.loop-place.left.now c.in-Ok.read.1.now
-    c.loop-place.invariant (omega arith) (sym c.in_ok-next_flying.ensures ∙ ap reads c.in-Ok.is ∙ ap (λ found. Ok (found, c.in-Ok.read.1.now)) c.in_default.is)
+    c.loop-place.invariant (omega arith) (sym c.in_ok-read.ensures ∙ ap reads c.in-Ok.is ∙ ap (λ found. Ok (found, c.in-Ok.read.1.now)) c.in_default.is)
 
 pub loop-place-preserved : goal.loop-place-preserved
 loop-place-preserved c =
     marks_more flying_items (read_items flying_items c.args.bytes.now) c.loop-place.items c.push.new.self (length c.args.bytes.now - c.loop-place._place) (length c.args.bytes.now - (c.loop-place._place + 1)) 0 0 c.loop-place.left.now c.in-Ok.read.1.now c.in-Some.item
-    c.loop-place.invariant (omega arith) (sym c.in_ok-next_flying.ensures ∙ ap reads c.in-Ok.is ∙ ap (λ found. Ok (found, c.in-Ok.read.1.now)) c.in-Some.is) c.in_ok-push.ensures.items refl
+    c.loop-place.invariant (omega arith) (sym c.in_ok-read.ensures ∙ ap reads c.in-Ok.is ∙ ap (λ found. Ok (found, c.in-Ok.read.1.now)) c.in-Some.is) c.in_ok-push.ensures.items refl
 
 pub returns : goal.returns
 returns c =

@@ -17,8 +17,8 @@ returns-in_default c =
 
 pub loop-place-preserved : goal.loop-place-preserved
 loop-place-preserved c =
-    marks_more rights_items (read_items rights_items c.args.bytes.now) c.loop-place.items c.push.new.self (length c.args.bytes.now - c.loop-place._place) (length c.args.bytes.now - (c.loop-place._place + 1)) c.loop-place.least c.behind_right.result c.loop-place.left.now c.in-Ok.read.1.now c.in-Some.item
-    c.loop-place.invariant (omega arith) (sym c.next_right.ensures ∙ ap reads c.in-Ok.is ∙ ap (λ found. Ok (found, c.in-Ok.read.1.now)) c.in-Some.is) c.in_ok-push.ensures.items c.behind_right.ensures
+    marks_more rights_items (read_items rights_items c.args.bytes.now) c.loop-place.items c.push.new.self (length c.args.bytes.now - c.loop-place._place) (length c.args.bytes.now - (c.loop-place._place + 1)) c.loop-place.least c.behind_right-least.result c.loop-place.left.now c.in-Ok.read.1.now c.in-Some.item
+    c.loop-place.invariant (omega arith) (sym c.next_right.ensures ∙ ap reads c.in-Ok.is ∙ ap (λ found. Ok (found, c.in-Ok.read.1.now)) c.in-Some.is) c.in_ok-push.ensures.items c.behind_right-least.ensures
 
 pub returns : goal.returns
 returns c =
