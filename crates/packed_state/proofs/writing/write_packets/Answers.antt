@@ -1,6 +1,8 @@
-use Rattle.std.proofs.Common.{[], ◌∷◌, rules}
+use Rattle.std.proofs.Common.{[], ◌∷◌, ◌++◌, ap, ◌∙◌, rules}
+use Rattle.std.proofs.lemmas.List.{take_all}
 use Rattle.std.specs.Prelude.{flat_map}
 use Rattle.packed_journal.specs.Words.{Tag}
+use Rattle.packed_journal.specs.Readings.{bytes_of}
 use Rattle.packed_state.specs.States.{words_of_item, words_of_flying}
 use Rattle.packed_state.proofs.Added.{added}
 use Rattle.packed_state.proofs.writing.write_packets.Goals as goal
@@ -8,4 +10,6 @@ use Rattle.packed_state.proofs.writing.write_packets.Goals as goal
 pub returns : goal.returns
 returns c =
     added c.add_tag-made.result c.undone.result c.args.out.now.items c.loop-packet.out.items c.add_tag-made.new.out.items c.undone.new.out.items
-    (flat_map (words_of_item words_of_flying) c.args.packets.now) (Tag 0 ∷ []) c.len-before.result (search rules) (search rules) (search rules) c.undone.ensures.items c.undone.ensures.made
+    (flat_map (words_of_item words_of_flying) c.args.packets.now) (Tag 0 ∷ []) c.len-before.result (search rules)
+    (c.loop-packet.invariant ∙ ap (λ some. c.args.out.now.items ++ bytes_of (flat_map (words_of_item words_of_flying) some)) (take_all c.loop-packet.packet-index c.args.packets.now c.loop-packet-test.false))
+    (search rules) c.undone.ensures.items c.undone.ensures.made
