@@ -12,6 +12,7 @@ ghost use Rattle.packed_journal.specs.Parts.{words_of_address, words_of_error, w
 ghost use Rattle.packed_journal.specs.Entries.{are_six, event_has_form, form_of_entry, has_form, kept_policy, name_six, read_entry, words_of_call, words_of_effect, words_of_entry, words_of_event, words_of_outcome};
 ghost use Rattle.core_model.specs.declared.event.Event.TheVariants as events;
 
+use crate::entry_writing::has_form;
 use aql_packet::{ClientId, PacketId, QueueId};
 use core_model::{Call, Effect, Entry, Event, Outcome, Polled, Taken, Worked};
 use policy::{Grantee, Object, PolicyRows, Rights, RightsRow, Target};
@@ -410,4 +411,13 @@ pub fn entry_is_read_back(entry: &Entry, policy: &[u8; 32])
     ensures { (rest : List ℕ) → read_entry (form_of_entry entry.now policy.now ++ rest) ≡ Ok ((entry.now, kept_policy entry.now.event policy.now), rest) }
 {
     entry_fits(entry, policy);
+}
+
+/// What is told of an entry fits, whatever entry it is, if it names the six rights alone. It does nothing.
+pub fn entry_fits_its_form(entry: &Entry, policy: &[u8; 32])
+    ensures { has_form entry.now ≡ true → fit (words_of_entry entry.now policy.now) ≡ true }
+{
+    if has_form(entry) {
+        entry_fits(entry, policy);
+    }
 }

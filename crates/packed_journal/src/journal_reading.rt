@@ -216,6 +216,13 @@ impl JournalReader {
         }
     }
 
+    /// The number of the last entry that was read, 0 before the first.
+    pub fn number(&self) -> u64
+        ensures { result ≡ self.now.chain.number }
+    {
+        self.chain.number
+    }
+
     /// Reads the next step, at the front of some bytes, which stand behind those that were read. Where there is none, nothing
     /// changes. Refused for want of memory alone, which is taken for the journal's own bytes and never by a length in them.
     pub fn next<'a>(

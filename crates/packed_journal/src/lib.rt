@@ -23,7 +23,7 @@ mod unread;
 mod writing;
 
 pub use entry_writing::{Unwritten, write_entry};
-pub use fitting::entry_is_read_back;
+pub use fitting::{entry_fits_its_form, entry_is_read_back};
 pub use heads::{Head, read_head};
 pub use journal_laws::{
     law_blocks_end_where_they_are_full, law_cut_journals_are_read_as_cut,

@@ -1,5 +1,5 @@
 -- What a replay comes to: each entry is held against what its event is owed.
-use Rattle.std.specs.Prelude.{ℕ, ◌+◌, ◌≡◌, ◌<◌, ◌⊎◌, All, Bool, List, [], ◌∷◌, ◌++◌, length, map, nat_le, None, Some, Result, Ok, Err}
+use Rattle.std.specs.Prelude.{ℕ, ◌+◌, ◌≡◌, ◌<◌, ◌⊎◌, All, Bool, List, [], ◌∷◌, ◌++◌, length, map, nat_le, None, Some, slice_get, Result, Ok, Err}
 use Rattle.std.specs.List.{Contains}
 use Rattle.policy.specs.Declaring.{DeclaresAs}
 use Rattle.policy.specs.Policy.{Declared}
@@ -51,6 +51,10 @@ TellsTheSame one other = (one.outcome ≡ other.outcome) × (one.effects ≡ oth
 pub record HasRows (declared : Declared) (rows : PolicyRows) (policy : Declared) : Type 0 where
   pub declares : DeclaresAs declared policy
   pub rows_are : rows ≡ policy.rows
+
+-- the further policy at a place has the rows (own)
+abbrev pub HasRowsAt : Replayed → PolicyRows → ℕ → Type 0
+HasRowsAt replay rows place = (policy : Declared) × (slice_get replay.further place ≡ Some policy) × HasRows replay.history.origin.policy rows policy
 
 -- none of some policies has the rows (own)
 abbrev pub NoneHasRows : Declared → PolicyRows → List Declared → Type 0

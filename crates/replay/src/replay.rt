@@ -1,6 +1,6 @@
 //! A replay: the core that makes the calls of a history anew.
 
-ghost use Rattle.std.specs.Prelude.{◌≡◌, IfErr, OnOk, [], true, Result, slice_get};
+ghost use Rattle.std.specs.Prelude.{◌≡◌, ◌↔◌, IfErr, OnOk, [], true, Result, slice_get};
 ghost use Rattle.policy.specs.Results.{map_ok};
 ghost use Rattle.core_model.specs.History.{beginning};
 ghost use Rattle.core_model.specs.Legal.{as_reply};
@@ -8,10 +8,10 @@ ghost use Rattle.core_model.specs.declared.event.Event.TheVariants as event;
 ghost use Rattle.core_model.specs.declared.event.CoreRequest.TheVariants as request;
 ghost use Rattle.core_model.specs.declared.outcome.Outcome.{Outcome};
 ghost use Rattle.core_model.specs.declared.refusal.Refusal.{Refusal};
-ghost use Rattle.replay.specs.Replays.{GoesOn, Opens, Takes, has_place, state};
+ghost use Rattle.replay.specs.Replays.{GoesOn, HasRowsAt, Opens, Takes, has_place, state};
 ghost use Rattle.replay.specs.inner.Asking.{AsksOrNot, HasMade, IsCall, IsHeld, IsJudged, LacksPlace, told_in};
 
-use crate::rows::policy_with;
+use crate::rows::{has_rows, policy_with};
 use crate::sameness::tells_the_same;
 use crate::stop::{Due, Stop};
 use access_core::{AccessCore, Kernel, OpenFault};
@@ -65,6 +65,17 @@ impl Replay {
         ensures { result.now.history ≡ self.now.history }
     {
         &self.core
+    }
+
+    /// Whether the further policy at a place has the rows, and declares what the one declares that the replay was opened
+    /// over.
+    pub fn has_rows(&self, place: usize, rows: &PolicyRows) -> bool
+        ensures { result ≡ true ↔ HasRowsAt self.now rows.now place }
+    {
+        match self.further.as_slice().get(place) {
+            Some(policy) => has_rows(self.core.policy(), rows, policy),
+            None => false,
+        }
     }
 
     /// Makes the call of an entry, and holds what came against the entry: outcome and changes. Refused where memory isn't

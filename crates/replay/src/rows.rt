@@ -13,8 +13,8 @@ fn is_same_rows(one: &PolicyRows, other: &PolicyRows) -> bool
     *one == *other
 }
 
-// Whether a policy has the rows, and declares what the one declares that a core was opened with.
-fn has_rows(declared: &Policy, rows: &PolicyRows, policy: &Policy) -> bool
+/// Whether a policy has the rows, and declares what the one declares that a core was opened with.
+pub fn has_rows(declared: &Policy, rows: &PolicyRows, policy: &Policy) -> bool
     ensures { result ≡ true ↔ HasRows declared.now rows.now policy.now }
 {
     declared.declares_as(policy) & is_same_rows(rows, policy.rows())

@@ -1,0 +1,5 @@
+pub mod Histories
+pub mod Passages
+pub mod Journeys
+pub mod inner
+pub mod Verdicts
