@@ -4,12 +4,20 @@ use Rattle.std.specs.Bool.{⊤}
 use Rattle.std.specs.Prelude.{◌^◌, nat_lt, ◌==◌, Option, Some, None, Ok, Err, if◌then◌else◌}
 use Rattle.std.specs.Option.{unwrap_or}
 use Rattle.std.specs.List.{list_all}
+use Rattle.aql_packet.specs.declared.ids.ClientId.{ClientId}
+use Rattle.policy.specs.declared.object.Object.{Object}
+use Rattle.policy.specs.declared.row.Grantee.{Grantee}
+use Rattle.policy.specs.declared.row.Target.{Target}
 use Rattle.policy.specs.declared.rights.Rights.{Rights}
 use Rattle.policy.specs.declared.row.RightsRow.{RightsRow}
 use Rattle.policy.specs.declared.rows.PolicyRows.{PolicyRows}
+use Rattle.core_model.specs.declared.call.Call.TheVariants as call
+use Rattle.core_model.specs.declared.event.Event.TheVariants as event
+use Rattle.core_model.specs.declared.outcome.Outcome.{Outcome}
+use Rattle.core_model.specs.declared.entry.Effect.{Effect}
 use Rattle.core_model.specs.declared.entry.Entry.{Entry}
 use Rattle.packed_journal.specs.Words.{Reading, and_then, number_at, number_in, where_some, within}
-use Rattle.packed_journal.specs.Readings.{Read, and_read, both, made, read_list, read_number, read_tag, times, unless_read, unread_number}
+use Rattle.packed_journal.specs.Readings.{Read, and_read, both, made, read_digest, read_list, read_number, read_tag, times, unless_read, unread_number}
 use Rattle.packed_journal.specs.Parts.{read_client, read_grantee, read_object, read_rights, read_rights_on, read_row, read_rows, read_target}
 use Rattle.packed_journal.specs.Entries.{Happened, are_six, event_has_form, has_form, kept_policy, name_six, read_change, read_close, read_effect, read_entry, read_event, read_finish, read_grant, read_open, read_outcome, read_plain, read_poll, read_reload, read_revoke, read_run, read_stop, read_take, read_write}
 use Rattle.packed_journal.proofs.Times.{times_none, times_step}
@@ -69,16 +77,31 @@ six_number bytes = by_number (number_in 10 bytes)
 six_rights : (bytes : List ℕ) → Of Six (read_rights bytes)
 six_rights bytes = of_made (λ n. nat_lt n 64 ≡ true) Six (λ n. record { 0 = n }) (λ n t. t) (read_number 6 bytes) (six_number bytes)
 
-six_on : (bytes : List ℕ) → Of (λ on. Six on.1.1) (read_rights_on bytes)
-six_on bytes = of_second (λ p. Six p.1) read_client (both read_object read_rights) (of_second Six read_object read_rights six_rights) bytes
+abbrev SixObject : Object × Rights → Type 0
+SixObject on = Six on.1
+
+abbrev SixOn : ClientId × (Object × Rights) → Type 0
+SixOn on = Six on.1.1
+
+six_on : (bytes : List ℕ) → Of SixOn (read_rights_on bytes)
+six_on bytes = of_second SixObject read_client (both read_object read_rights) (of_second Six read_object read_rights six_rights) bytes
 
 abbrev SixRow : RightsRow → Type 0
 SixRow row = are_six row.rights ≡ true
 
+abbrev SixTarget : Target × Rights → Type 0
+SixTarget on = Six on.1
+
+abbrev SixParts : Grantee × (Target × Rights) → Type 0
+SixParts on = Six on.1.1
+
+abbrev as_row : Grantee × (Target × Rights) → RightsRow
+as_row r = record { subject = r.0; target = r.1.0; rights = r.1.1 }
+
 six_row : (bytes : List ℕ) → Of SixRow (read_row bytes)
 six_row bytes =
-    of_made (λ r. Six r.1.1) SixRow (λ r. record { subject = r.0; target = r.1.0; rights = r.1.1 }) (λ r t. t) (both read_grantee (both read_target read_rights) bytes)
-    (of_second (λ p. Six p.1) read_grantee (both read_target read_rights) (of_second Six read_target read_rights six_rights) bytes)
+    of_made SixParts SixRow as_row (λ r t. t) (both read_grantee (both read_target read_rights) bytes)
+    (of_second SixTarget read_grantee (both read_target read_rights) (of_second Six read_target read_rights six_rights) bytes)
 
 abbrev SixRows : List RightsRow → Type 0
 SixRows rows = name_six rows ≡ true
@@ -97,12 +120,24 @@ six_list bytes = of_then (λ (n : ℕ). ⊤) SixRows (λ n rest. times read_row 
 abbrev SixPolicy : PolicyRows → Type 0
 SixPolicy rows = (name_six rows.allows ≡ true) × (name_six rows.denies ≡ true)
 
+abbrev SixLists : List RightsRow × List RightsRow → Type 0
+SixLists r = (name_six r.0 ≡ true) × (name_six r.1 ≡ true)
+
+abbrev as_rows : List RightsRow × List RightsRow → PolicyRows
+as_rows r = record { allows = r.0; denies = r.1 }
+
 six_rows : (bytes : List ℕ) → Of SixPolicy (read_rows bytes)
 six_rows bytes =
-    of_made (λ r. (name_six r.0 ≡ true) × (name_six r.1 ≡ true)) SixPolicy (λ r. record { allows = r.0; denies = r.1 }) (λ r t. t) (both (read_list read_row) (read_list read_row) bytes)
-    (of_both SixRows SixRows (λ r. (name_six r.0 ≡ true) × (name_six r.1 ≡ true)) (read_list read_row) (read_list read_row) (λ x y p q. (p, q)) six_list six_list bytes)
+    of_made SixLists SixPolicy as_rows (λ r t. t) (both (read_list read_row) (read_list read_row) bytes)
+    (of_both SixRows SixRows SixLists (read_list read_row) (read_list read_row) (λ x y p q. (p, q)) six_list six_list bytes)
+
+abbrev SixReload : List ℕ × PolicyRows → Type 0
+SixReload r = SixPolicy r.1
 
 -- ---- events
+
+abbrev as_entry : Happened × (Outcome × List Effect) → Entry × Option (List ℕ)
+as_entry r = (record { event = r.0.0; outcome = r.1.0; effects = r.1.1 }, r.0.1)
 
 module _ (other : List ℕ) where
   -- it has a form, and a digest stands with a reload alone
@@ -113,13 +148,14 @@ module _ (other : List ℕ) where
   plain {A = A} make so read = of_made (λ (x : A). ⊤) Formed make (λ x t. so x) read (of_all read)
 
   reload_formed : (bytes : List ℕ) → Of Formed (read_reload bytes)
-  reload_formed bytes = of_made (λ r. SixPolicy r.1) Formed _ (λ r t. (rw (t.0, t.1) refl, refl)) _ (of_second SixPolicy _ read_rows six_rows bytes)
+  reload_formed bytes =
+      of_made SixReload Formed (λ r. (event.Reload r.1, Some r.0)) (λ r t. (rw (t.0, t.1) refl, refl)) (both read_digest read_rows bytes) (of_second SixPolicy read_digest read_rows six_rows bytes)
 
   grant_formed : (bytes : List ℕ) → Of Formed (read_grant bytes)
-  grant_formed bytes = of_made (λ on. Six on.1.1) Formed _ (λ on t. (t, refl)) (read_rights_on bytes) (six_on bytes)
+  grant_formed bytes = of_made SixOn Formed (λ r. (event.Call (call.Grant r.0 r.1.0 r.1.1), None)) (λ on t. (t, refl)) (read_rights_on bytes) (six_on bytes)
 
   revoke_formed : (bytes : List ℕ) → Of Formed (read_revoke bytes)
-  revoke_formed bytes = of_made (λ on. Six on.1.1) Formed _ (λ on t. (t, refl)) (read_rights_on bytes) (six_on bytes)
+  revoke_formed bytes = of_made SixOn Formed (λ r. (event.Call (call.Revoke r.0 r.1.0 r.1.1), None)) (λ on t. (t, refl)) (read_rights_on bytes) (six_on bytes)
 
   plain_formed : (bytes : List ℕ) (tag : ℕ) (rest : List ℕ) → Of Formed (read_plain bytes tag rest)
   plain_formed bytes tag rest =
@@ -143,10 +179,13 @@ module _ (other : List ℕ) where
   abbrev FormedEntry : Entry × Option (List ℕ) → Type 0
   FormedEntry read = (has_form read.0 ≡ true) × (read.1 ≡ kept_policy read.0.event (unwrap_or read.1 other))
 
+  abbrev FormedParts : Happened × (Outcome × List Effect) → Type 0
+  FormedParts r = Formed r.0
+
   entry_formed_so : (bytes : List ℕ) → Of FormedEntry (read_entry bytes)
   entry_formed_so bytes =
-      of_made (λ r. Formed r.0) FormedEntry _ (λ r t. t) _
-      (of_both Formed (λ p. ⊤) (λ r. Formed r.0) read_event (both read_outcome (read_list read_effect)) (λ x y p q. p) event_formed (λ more. of_all (both read_outcome (read_list read_effect) more)) bytes)
+      of_made FormedParts FormedEntry as_entry (λ r t. t) (both read_event (both read_outcome (read_list read_effect)) bytes)
+      (of_both Formed (λ (p : Outcome × List Effect). ⊤) FormedParts read_event (both read_outcome (read_list read_effect)) (λ x y p q. p) event_formed (λ more. of_all (both read_outcome (read_list read_effect) more)) bytes)
 
   pub entry_formed : (bytes : List ℕ) (entry : Entry) (policy : Option (List ℕ)) (rest : List ℕ) → read_entry bytes ≡ Ok ((entry, policy), rest) → FormedEntry (entry, policy)
   entry_formed bytes entry policy rest e = subst (Of FormedEntry) e (entry_formed_so bytes)

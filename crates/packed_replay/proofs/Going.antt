@@ -32,11 +32,13 @@ use Rattle.packed_replay.specs.declared.journal_replay.JournalReplay.{JournalRep
 use Rattle.packed_replay.specs.declared.steps.Onward.{Onward}
 use Rattle.packed_replay.specs.declared.steps.Onward.TheVariants as onward
 use Rattle.packed_replay.specs.declared.steps.Hold.TheVariants as hold
+use Rattle.packed_replay.specs.declared.steps.Unbegun.{Unbegun}
+use Rattle.packed_replay.specs.declared.steps.Unbegun.TheVariants as unbegun
 use Rattle.packed_replay.specs.Histories.{IsJournal, IsLegalJournal, IsNamed, Telling, Terms, entries_in}
 use Rattle.packed_replay.specs.Passages.{AreVouched, IsFront, IsReadSo}
-use Rattle.packed_replay.specs.Journeys.{GoesOn, HasReplayed, IsHalted, IsOpened, IsRefused, Refuses}
+use Rattle.packed_replay.specs.Journeys.{Begins, GoesOn, HasReplayed, IsHalted, IsOpened, IsRefused, Refuses}
 use Rattle.packed_replay.specs.inner.Naming.{IsNamedHere}
-use Rattle.packed_replay.specs.inner.Taking.{TakesNamed, TakesStep, vouched_behind}
+use Rattle.packed_replay.specs.inner.Taking.{Heads, TakesNamed, TakesStep, vouched_behind}
 use Rattle.packed_replay.proofs.Formed.{entry_formed}
 use Rattle.packed_replay.proofs.NamedRows.{named_so, not_named}
 use Rattle.packed_replay.proofs.Passing.{is_ended, read_block_more, read_entry_more, read_opening, stands_there, vouched_all, vouched_more}
@@ -230,3 +232,9 @@ module _ (terms : Terms) (told : List Telling) (done bytes : List ℕ) (old : Jo
       (one entry policy t.0 rest e, rest, is_refused entry policy t.0 rest e, refuses entry policy t.0 rest e (stop.NotOwed due) new t.2)
   stopped step.Block why rest reader new e t = absurd t
   stopped step.End why rest reader new e t = absurd t
+
+-- why none is begun
+pub not_begun : (terms : Terms) (digest bytes : List ℕ) (digests : List (List ℕ)) (replay : Replayed) (why : Unbegun) → IsOpened terms digest digests replay → Heads digest bytes (Err why) → Begins terms bytes (Err why)
+not_begun terms digest bytes digests replay unbegun.OutOfMemory opened t = tt
+not_begun terms digest bytes digests replay (unbegun.Headless why) opened t = t
+not_begun terms digest bytes digests replay (unbegun.OtherPolicy head) opened t = (t.0, t.1, λ is. t.2 (is ∙ opened.digest_is))

@@ -109,17 +109,32 @@ module _ (terms : Terms) (told : List Telling) (done bytes : List ℕ) (old : Jo
 -- ---- all steps
 
 -- what was read before any of the steps is what was read before them all
-abbrev pub IsOnTheWay : List ℕ → JournalReplay → JournalReplay → List ℕ → Type 0
-IsOnTheWay bytes first now rest =
-    (terms : Terms) (told : List Telling) (done : List ℕ) → HasReplayed terms told done first → (more : List Telling) × (front : List ℕ) × (front ++ rest ≡ done ++ bytes) × HasReplayed terms more front now
+abbrev pub IsOnTheWay : ℕ → List ℕ → JournalReplay → JournalReplay → List ℕ → Type 0
+IsOnTheWay total bytes first now rest =
+    (terms : Terms) (told : List Telling) (done : List ℕ) → HasReplayed terms told done first → total ≡ length (done ++ bytes) →
+    (more : List Telling) × (front : List ℕ) × (front ++ rest ≡ done ++ bytes) × HasReplayed terms more front now
 
-pub on_the_way : (bytes rest behind : List ℕ) (first old new : JournalReplay) → IsOnTheWay bytes first old rest →
-    ((terms : Terms) (told : List Telling) (done : List ℕ) → HasReplayed terms told done old → (more : List Telling) × (form : List ℕ) × (rest ≡ form ++ behind) × HasReplayed terms more (done ++ form) new) →
-    IsOnTheWay bytes first new behind
-on_the_way bytes rest behind first old new way goes terms told done h =
-    let before = way terms told done h in
-    let next = goes terms before.0 before.1 before.3 in
-    (next.0, before.1 ++ next.1, append_assoc before.1 next.1 behind ∙ ap (λ all. before.1 ++ all) (sym next.2) ∙ before.2, next.3)
+abbrev pub Steps : ℕ → List ℕ → JournalReplay → Result (Bor (List ℕ)) (Result Verdict Unjudged) → JournalReplay → Type 0
+Steps total bytes old result new = (terms : Terms) (told : List Telling) (done : List ℕ) → HasReplayed terms told done old → total ≡ length (done ++ bytes) → GoesOrSays terms done bytes result new
+
+pub on_the_way : (total : ℕ) (bytes rest : List ℕ) (rest_behind : Bor (List ℕ)) (first old new : JournalReplay) → IsOnTheWay total bytes first old rest → Steps total rest old (Ok rest_behind) new →
+    IsOnTheWay total bytes first new rest_behind.now
+on_the_way total bytes rest rest_behind first old new way goes terms told done h t =
+    let before = way terms told done h t in
+    let next = goes terms before.0 before.1 before.3 (t ∙ ap length (sym before.2)) in
+    (next.0, before.1 ++ next.1, append_assoc before.1 next.1 rest_behind.now ∙ ap (λ all. before.1 ++ all) (sym next.2) ∙ before.2, next.4)
+
+pub less_left : (total : ℕ) (bytes rest : List ℕ) (rest_behind : Bor (List ℕ)) (first old new : JournalReplay) → IsOnTheWay total bytes first old rest → Steps total rest old (Ok rest_behind) new →
+    ((terms : Terms) × (told : List Telling) × (done : List ℕ) × HasReplayed terms told done first × (total ≡ length (done ++ bytes))) → length rest_behind.now < length rest
+less_left total bytes rest rest_behind first old new way goes r =
+    let before = way r.0 r.1 r.2 r.3 r.4 in
+    (goes r.0 before.0 before.1 before.3 (r.4 ∙ ap length (sym before.2))).3
+
+pub said_at_last : (total : ℕ) (bytes rest : List ℕ) (first old new : JournalReplay) (said : Result Verdict Unjudged) → IsOnTheWay total bytes first old rest → Steps total rest old (Err said) new →
+    (terms : Terms) (told : List Telling) (done : List ℕ) → HasReplayed terms told done first → total ≡ length (done ++ bytes) → (kernels : List Kernel) → Judges terms kernels (done ++ bytes) said
+said_at_last total bytes rest first old new said way goes terms told done h t kernels =
+    let before = way terms told done h t in
+    subst (λ all. Judges terms kernels all said) before.2 (goes terms before.0 before.1 before.3 (t ∙ ap length (sym before.2)) kernels)
 
 -- ---- a legal journal has no other verdict
 

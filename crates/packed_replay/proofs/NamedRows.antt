@@ -7,12 +7,16 @@ use Rattle.std.proofs.lemmas.Option.{same_Some, slice_get-get_or, slice_get_with
 use Rattle.std.proofs.lemmas.List.Elements.{Contains-get_or}
 use Rattle.policy.specs.Policy.{Declared}
 use Rattle.policy.specs.declared.rows.PolicyRows.{PolicyRows}
+use Rattle.std.specs.Prelude.{Result, Ok, Err}
 use Rattle.core_model.specs.declared.entry.Entry.{Entry}
+use Rattle.replay.specs.declared.stop.Stop.{Stop}
+use Rattle.replay.specs.declared.stop.Stop.TheVariants as stop
 use Rattle.core_model.specs.declared.event.Event.{Event}
 use Rattle.core_model.specs.declared.event.Event.TheVariants as event
-use Rattle.replay.specs.Replays.{HasRows, HasRowsAt, IsUnknown, Replayed}
+use Rattle.replay.specs.Replays.{HasRows, HasRowsAt, IsUnknown, Replayed, Takes}
 use Rattle.packed_replay.specs.Histories.{IsNamed, Terms}
 use Rattle.packed_replay.specs.inner.Naming.{IsNamedHere, NamesRows}
+use Rattle.packed_replay.specs.inner.Taking.{TakesNamed}
 
 module _ (replay : Replayed) (digests : List (List ℕ)) (digest : List ℕ) (rows : PolicyRows) where
   -- at none of the first so many places
@@ -72,3 +76,12 @@ unknown_unnamed replay digests digest (event.Reload rows) none n =
 unknown_unnamed replay digests digest (event.Open client agent size) none n = none
 unknown_unnamed replay digests digest (event.Take queue packet bytes) none n = none
 unknown_unnamed replay digests digest (event.Call made) none n = none
+
+-- what taking a named entry comes to
+pub take_named : (old : Replayed) (digests : List (List ℕ)) (entry : Entry) (digest : List ℕ) (result : Result (Unit {0}) Stop) (new : Replayed) → IsNamedHere old digests digest entry.event →
+    Takes old entry result new → TakesNamed old digests entry digest result new
+take_named old digests entry digest (Ok done) new n t = (n, t)
+take_named old digests entry digest (Err stop.OutOfMemory) new n t = t
+take_named old digests entry digest (Err stop.NoRoom) new n t = t
+take_named old digests entry digest (Err stop.UnknownRows) new n t = unknown_unnamed old digests digest entry.event t.0
+take_named old digests entry digest (Err (stop.NotOwed due)) new n t = t

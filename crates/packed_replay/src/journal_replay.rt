@@ -1,6 +1,7 @@
 //! A journal that is read and replayed at once.
 
 ghost use Rattle.std.specs.Prelude.{◌≡◌, List, ℕ, true};
+ghost use Rattle.packed_journal.specs.Words.{Digest, Number, fits};
 ghost use Rattle.packed_journal.specs.Readings.{fit};
 ghost use Rattle.packed_journal.specs.Journals.{words_of_head};
 ghost use Rattle.packed_replay.specs.Histories.{Telling, Terms};
@@ -27,10 +28,23 @@ pub struct JournalReplay {
     vouched: u64,
 }
 
-// Each word of a head tells what it can tell.
-fn head_fits(_head: &Head)
-    ensures { fit (words_of_head _head.now) ≡ true }
+// A digest's 32 bytes.
+fn digest_fits(_digest: &[u8; 32])
+    ensures { fits (Digest _digest.now) ≡ true }
 {}
+
+// A number of 64 bits.
+fn number_fits(_number: u64)
+    ensures { fits (Number 64 _number) ≡ true }
+{}
+
+// Each word of a head tells what it can tell.
+fn head_fits(head: &Head)
+    ensures { fit (words_of_head head.now) ≡ true }
+{
+    digest_fits(&head.policy);
+    number_fits(head.room);
+}
 
 // The reader behind the head of a policy's journal.
 fn read_head<'a>(

@@ -11,7 +11,7 @@ use replay::Replay;
 fn names_rows(replay: &Replay, digests: &[[u8; 32]], digest: &[u8; 32], rows: &PolicyRows) -> bool
     ensures { result ≡ true ↔ NamesRows replay.now digests.now digest.now rows.now }
 {
-    for (place, named) in digests.iter().enumerate() {
+    'places: for (place, named) in digests.iter().enumerate() {
         if *named == *digest && replay.has_rows(place, rows) {
             return true;
         }
