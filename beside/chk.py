@@ -69,6 +69,10 @@ os.makedirs("/work/h/locks",exist_ok=True)
 def free():
     return int([l for l in open("/proc/meminfo") if l.startswith("MemAvailable")][0].split()[1])/2**20
 lock=None
+heavy=None
+if crate in ("command_line","explain","journal_commands","hobbydresser_c","bench","threads_load"):
+    print("waiting for the one place of large crates",flush=True)
+    heavy=open("/work/h/locks/heavy","w"); fcntl.flock(heavy,fcntl.LOCK_EX)
 print("waiting for a place",flush=True)
 while lock is None:
     try: places=int(open("/work/h/places").read())
@@ -77,14 +81,33 @@ while lock is None:
         f=open(f"/work/h/locks/{i}","w")
         try:
             fcntl.flock(f,fcntl.LOCK_EX|fcntl.LOCK_NB)
-            if free()>(2.5 if crate in ("words","packed_journal","session","boxed","sequences","signals","regions","ring_core") else 6): lock=f; break
+            if free()>(2.5 if crate in ("words","packed_journal","session","boxed","sequences","signals","regions","ring_core") else float(os.environ.get("CHK_FREE","5"))): lock=f; break
             f.close()
         except BlockingIOError: f.close()
     else: time.sleep(1)
 t=time.time()
 print("begin",time.strftime("%H:%M:%S"),"proved below:"," ".join(d for d in below if proved(d)),flush=True)
 env=dict(os.environ)
-r=subprocess.run(["nice","-n","15","rattle","check",*words],cwd=folder,env=env)
+import threading, signal
+MOST=float(os.environ.get("CHK_MOST","4.5"))
+def rss(group):
+    worst=0
+    for p in glob.glob("/proc/[0-9]*/stat"):
+        try:
+            f=open(p).read().rsplit(")",1)[1].split()
+            if int(f[2])==group: worst=max(worst,int(f[21])*4096/2**30)
+        except (OSError,ValueError,IndexError): pass
+    return worst
+def watch(child):
+    while child.poll() is None:
+        w=rss(child.pid)
+        if w>MOST or (free()<1.2 and w>1.5):
+            print(f"chk: ENDED by hand: it took {w:.1f} GB (at most {MOST}). Name fewer functions with --only, and check over stubs, not over sources.",flush=True)
+            os.killpg(child.pid,signal.SIGKILL); return
+        time.sleep(2)
+child=subprocess.Popen(["nice","-n",os.environ.get("CHK_NICE","12"),"rattle","check",*words],cwd=folder,env=env,start_new_session=True)
+threading.Thread(target=watch,args=(child,),daemon=True).start()
+child.wait(); r=child
 u=os.times()
 print(f"chk: status {r.returncode} {time.time()-t:.0f} s clock, {u.children_user+u.children_system:.0f} s processor",flush=True)
 sys.exit(r.returncode)
